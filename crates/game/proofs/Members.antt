@@ -1,0 +1,171 @@
+-- What it is to be in a list, by the computed test `has`: each law by going down the list. Assumes nothing.
+use Prim.Native.Nat.{ℕ, _+_, _-_, _<_, _≤_, suc, zero}
+use native.Mathlib.Omega.{arith}
+use native.Mathlib.Decide.{ℕ-discrete}
+use mathlib.Core.Path.{_∙_, _≡_, ap, refl}
+use mathlib.Core.Logic.{_⊎_, inl, inr, ⊎-elim}
+use mathlib.Core.Bool.{Bool, _&&_, _||_, false, not, true}
+use mathlib.Core.List.{List, [], _++_, _∷_, map}
+use lib.Dec.{T, T-not, eqb, eqb-refl, eqb→eq}
+use lib.ListN.{getD, length}
+use Rattle.game.specs.Lists.{all-of, concat-map, fold, from, has, keep, range, some-of}
+use Rattle.game.proofs.Truth.{and-both, and-left, and-right, or-cases, or-left, or-right}
+
+-- ---- the first and the rest
+
+pub has-head : (x y : ℕ) (xs : List ℕ) → x ≡ y → T (has x (y ∷ xs))
+has-head x y xs e = or-left (eqb x y) (has x xs) (rw e (eqb-refl y))
+
+pub has-tail : (x y : ℕ) (xs : List ℕ) → T (has x xs) → T (has x (y ∷ xs))
+has-tail x y xs t = or-right (eqb x y) (has x xs) t
+
+pub has-cases {ℓ} : {P : Type ℓ} (x y : ℕ) (xs : List ℕ) → (x ≡ y → P) → (T (has x xs) → P) → T (has x (y ∷ xs)) → P
+has-cases x y xs f h t = ⊎-elim (λ e. f (eqb→eq x y e)) h (or-cases (eqb x y) (has x xs) t)
+
+-- what holds of each of a list holds of the first
+pub first-of : {P : ℕ → Type 0} (x : ℕ) (xs : List ℕ) → ((y : ℕ) → T (has y (x ∷ xs)) → P y) → P x
+first-of x xs h = h x (has-head x x xs refl)
+
+-- and of the rest
+pub rest-of : {P : ℕ → Type 0} (x : ℕ) (xs : List ℕ) → ((y : ℕ) → T (has y (x ∷ xs)) → P y) → (y : ℕ) → T (has y xs) → P y
+rest-of x xs h y t = h y (has-tail y x xs t)
+
+-- ---- two lists, one after the other
+
+pub has-append-left : (x : ℕ) (xs ys : List ℕ) → T (has x xs) → T (has x (xs ++ ys))
+has-append-left x [] ys t = absurd t
+has-append-left x (z ∷ xs) ys t =
+    has-cases x z xs (has-head x z (xs ++ ys)) (λ r. has-tail x z (xs ++ ys) (has-append-left x xs ys r)) t
+
+pub has-append-right : (x : ℕ) (xs ys : List ℕ) → T (has x ys) → T (has x (xs ++ ys))
+has-append-right x [] ys t = t
+has-append-right x (z ∷ xs) ys t = has-tail x z (xs ++ ys) (has-append-right x xs ys t)
+
+pub has-append-cases : (x : ℕ) (xs ys : List ℕ) → T (has x (xs ++ ys)) → T (has x xs) ⊎ T (has x ys)
+has-append-cases x [] ys t = inr t
+has-append-cases x (z ∷ xs) ys t =
+    has-cases x z (xs ++ ys) (λ e. inl (has-head x z xs e))
+    (λ r. ⊎-elim (λ u. inl (has-tail x z xs u)) (λ u. inr u) (has-append-cases x xs ys r)) t
+
+-- ---- images
+
+pub has-map : (f : ℕ → ℕ) (x : ℕ) (xs : List ℕ) → T (has x xs) → T (has (f x) (map f xs))
+has-map f x [] t = absurd t
+has-map f x (z ∷ xs) t =
+    has-cases x z xs (λ e. has-head (f x) (f z) (map f xs) (ap f e)) (λ r. has-tail (f x) (f z) (map f xs) (has-map f x xs r)) t
+
+pub map-has : (f : ℕ → ℕ) (y : ℕ) (xs : List ℕ) → T (has y (map f xs)) → (x : ℕ) × T (has x xs) × (y ≡ f x)
+map-has f y [] t = absurd t
+map-has f y (z ∷ xs) t =
+    has-cases y (f z) (map f xs) (λ e. (z, has-head z z xs refl, e))
+    (λ r. let h = map-has f y xs r in (h .0, has-tail (h .0) z xs (h .1), h .2)) t
+
+pub has-concat-map : (f : ℕ → List ℕ) (x y : ℕ) (xs : List ℕ) → T (has x xs) → T (has y (f x)) → T (has y (concat-map f xs))
+has-concat-map f x y [] t u = absurd t
+has-concat-map f x y (z ∷ xs) t u =
+    has-cases x z xs (λ e. has-append-left y (f z) (concat-map f xs) (rw e at u))
+    (λ r. has-append-right y (f z) (concat-map f xs) (has-concat-map f x y xs r u)) t
+
+pub concat-map-has : (f : ℕ → List ℕ) (y : ℕ) (xs : List ℕ) → T (has y (concat-map f xs)) → (x : ℕ) × T (has x xs) × T (has y (f x))
+concat-map-has f y [] t = absurd t
+concat-map-has f y (z ∷ xs) t =
+    ⊎-elim (λ e. (z, has-head z z xs refl, e))
+    (λ r. let h = concat-map-has f y xs r in (h .0, has-tail (h .0) z xs (h .1), h .2))
+    (has-append-cases y (f z) (concat-map f xs) t)
+
+-- ---- runs of numbers
+
+pub has-from : (n a x : ℕ) → T (has x (from a n)) → (a ≤ x) × (x < a + n)
+has-from zero a x t = absurd t
+has-from (suc n) a x t =
+    has-cases x a (from (suc a) n) (λ e. omega arith) (λ r. let h = has-from n (suc a) x r in omega arith) t
+
+from-has : (n a x : ℕ) → a ≤ x → x < a + n → T (has x (from a n))
+from-has zero a x h k = absurd (omega arith)
+from-has (suc n) a x h k =
+    elim (ℕ-discrete x a) [
+      yes e ↦ has-head x a (from (suc a) n) e
+    | no f ↦ has-tail x a (from (suc a) n) (from-has n (suc a) x (omega arith) (omega arith)) ]
+
+pub has-range : (a b x : ℕ) → T (has x (range a b)) → (a ≤ x) × (x < b)
+has-range a b x t = let h = has-from (b - a) a x t in omega arith
+
+pub range-has : (a b x : ℕ) → a ≤ x → x < b → T (has x (range a b))
+range-has a b x h k = from-has (b - a) a x h (omega arith)
+
+pub length-from : (n a : ℕ) → length (from a n) ≡ n
+length-from zero a = refl
+length-from (suc n) a = ap suc (length-from n (suc a))
+
+-- ---- those that pass a test
+
+has-if : (b : Bool) (x : ℕ) (ys zs : List ℕ) → (T b → T (has x ys)) → (T (not b) → T (has x zs)) → T (has x (elim b [ true ↦ ys | false ↦ zs ]))
+has-if true x ys zs f h = f tt
+has-if false x ys zs f h = h tt
+
+if-has : (b : Bool) (x : ℕ) (ys zs : List ℕ) → T (has x (elim b [ true ↦ ys | false ↦ zs ])) → (T b × T (has x ys)) ⊎ T (has x zs)
+if-has true x ys zs t = inl (tt, t)
+if-has false x ys zs t = inr t
+
+pub has-keep : (f : ℕ → Bool) (x : ℕ) (xs : List ℕ) → T (has x xs) → T (f x) → T (has x (keep f xs))
+has-keep f x [] t u = absurd t
+has-keep f x (y ∷ xs) t u =
+    has-if (f y) x (y ∷ keep f xs) (keep f xs)
+    (λ v. has-cases x y xs (has-head x y (keep f xs)) (λ r. has-tail x y (keep f xs) (has-keep f x xs r u)) t)
+    (λ v. has-cases x y xs (λ e. absurd (T-not (f y) v (rw e at u))) (λ r. has-keep f x xs r u) t)
+
+pub keep-has : (f : ℕ → Bool) (x : ℕ) (xs : List ℕ) → T (has x (keep f xs)) → T (has x xs) × T (f x)
+keep-has f x [] t = absurd t
+keep-has f x (y ∷ xs) t =
+    let below : T (has x (keep f xs)) → T (has x (y ∷ xs)) × T (f x) =
+          λ r. let h = keep-has f x xs r in (has-tail x y xs (h .0), h .1) in
+    ⊎-elim (λ p. has-cases x y (keep f xs) (λ e. (has-head x y xs e, rw e (p .0))) below (p .1)) below
+    (if-has (f y) x (y ∷ keep f xs) (keep f xs) t)
+
+pub some-yes : (f : ℕ → Bool) (x : ℕ) (xs : List ℕ) → T (has x xs) → T (f x) → T (some-of f xs)
+some-yes f x [] t u = absurd t
+some-yes f x (y ∷ xs) t u =
+    has-cases x y xs (λ e. or-left (f y) (some-of f xs) (rw e at u)) (λ r. or-right (f y) (some-of f xs) (some-yes f x xs r u)) t
+
+pub yes-some : (f : ℕ → Bool) (xs : List ℕ) → T (some-of f xs) → (x : ℕ) × T (has x xs) × T (f x)
+yes-some f [] t = absurd t
+yes-some f (y ∷ xs) t =
+    ⊎-elim (λ e. (y, has-head y y xs refl, e))
+    (λ r. let h = yes-some f xs r in (h .0, has-tail (h .0) y xs (h .1), h .2))
+    (or-cases (f y) (some-of f xs) t)
+
+pub some-ext : (f h : ℕ → Bool) (xs : List ℕ) → ((x : ℕ) → f x ≡ h x) → some-of f xs ≡ some-of h xs
+some-ext f h [] e = refl
+some-ext f h (x ∷ xs) e = ap (λ (b : Bool). b || some-of f xs) (e x) ∙ ap (λ (b : Bool). h x || b) (some-ext f h xs e)
+
+pub all-has : (f : ℕ → Bool) (x : ℕ) (xs : List ℕ) → T (has x xs) → T (all-of f xs) → T (f x)
+all-has f x [] t u = absurd t
+all-has f x (y ∷ xs) t u =
+    has-cases x y xs (λ e. rw e (and-left (f y) (all-of f xs) u)) (λ r. all-has f x xs r (and-right (f y) (all-of f xs) u)) t
+
+pub all-give : (f : ℕ → Bool) (xs : List ℕ) → ((x : ℕ) → T (has x xs) → T (f x)) → T (all-of f xs)
+all-give f [] h = tt
+all-give f (x ∷ xs) h = and-both (f x) (all-of f xs) (first-of x xs h) (all-give f xs (rest-of x xs h))
+
+pub all-ext : (f h : ℕ → Bool) (xs : List ℕ) → ((x : ℕ) → T (has x xs) → f x ≡ h x) → all-of f xs ≡ all-of h xs
+all-ext f h [] e = refl
+all-ext f h (x ∷ xs) e =
+    ap (λ (b : Bool). b && all-of f xs) (first-of x xs e) ∙ ap (λ (b : Bool). h x && b) (all-ext f h xs (rest-of x xs e))
+
+-- ---- places
+
+pub getD-has : (xs : List ℕ) (k : ℕ) → k < length xs → T (has (getD xs k 0) xs)
+getD-has [] k h = absurd (omega arith)
+getD-has (x ∷ xs) zero h = has-head x x xs refl
+getD-has (x ∷ xs) (suc k) h = has-tail (getD xs k 0) x xs (getD-has xs k (omega arith))
+
+pub has-length : (x : ℕ) (xs : List ℕ) → T (has x xs) → 1 ≤ length xs
+has-length x [] t = absurd t
+has-length x (y ∷ xs) t = omega arith
+
+-- ---- folds
+
+pub fold-inv : {S : Type 0} (P : S → Type 0) (f : S → ℕ → S) (xs : List ℕ) → ((s : S) (x : ℕ) → T (has x xs) → P s → P (f s x)) → (s : S) → P s → P (fold f s xs)
+fold-inv P f [] h s p = p
+fold-inv P f (x ∷ xs) h s p =
+    fold-inv P f xs (λ t y u. h t y (has-tail y x xs u)) (f s x) (h s x (has-head x x xs refl) p)

@@ -1,0 +1,66 @@
+-- Lists in an order, each before all that follow it; such a list has no repeats. Assumes nothing.
+use Prim.Native.Nat.{ℕ, _-_, _<_, suc, zero}
+use native.Mathlib.Omega.{arith}
+use mathlib.Core.Path.{refl, subst, sym}
+use mathlib.Core.Logic.{⊎-elim}
+use mathlib.Core.Bool.{Bool, false, true}
+use mathlib.Core.List.{List, [], _++_, _∷_, map}
+use lib.Dec.{T}
+use Rattle.game.specs.Lists.{concat-map, from, has, keep, range}
+use Rattle.game.proofs.Counts.{Once}
+use Rattle.game.proofs.Members.{concat-map-has, first-of, has-append-cases, has-from, has-head, has-tail, keep-has, map-has, rest-of}
+
+-- each is before all that follow it
+abbrev pub Ordered : (ℕ → ℕ → Type 0) → List ℕ → Type 0
+Ordered R [] = Unit {0}
+Ordered R (x ∷ xs) = ((y : ℕ) → T (has y xs) → R x y) × Ordered R xs
+
+pub ordered-once : (R : ℕ → ℕ → Type 0) (xs : List ℕ) → ((x : ℕ) → R x x → ⊥) → Ordered R xs → Once xs
+ordered-once R [] n o = tt
+ordered-once R (x ∷ xs) n o = ((λ t. n x (o .0 x t)), ordered-once R xs n (o .1))
+
+ordered-from : (n a : ℕ) → Ordered _<_ (from a n)
+ordered-from zero a = tt
+ordered-from (suc n) a = ((λ y t. has-from n (suc a) y t .0), ordered-from n (suc a))
+
+pub ordered-range : (a b : ℕ) → Ordered _<_ (range a b)
+ordered-range a b = ordered-from (b - a) a
+
+pub once-range : (a b : ℕ) → Once (range a b)
+once-range a b = ordered-once _<_ (range a b) (λ x h. omega arith) (ordered-range a b)
+
+pub ordered-keep : (R : ℕ → ℕ → Type 0) (f : ℕ → Bool) (xs : List ℕ) → Ordered R xs → Ordered R (keep f xs)
+ordered-keep R f [] o = tt
+ordered-keep R f (x ∷ xs) o = go (f x) (ordered-keep R f xs (o .1))
+  where
+    go : (b : Bool) → Ordered R (keep f xs) → Ordered R (elim b [ true ↦ x ∷ keep f xs | false ↦ keep f xs ])
+    go true k = ((λ y t. o .0 y (keep-has f y xs t .0)), k)
+    go false k = k
+
+pub once-keep : (f : ℕ → Bool) (xs : List ℕ) → Once xs → Once (keep f xs)
+once-keep f [] o = tt
+once-keep f (x ∷ xs) o = go (f x) (once-keep f xs (o .1))
+  where
+    go : (b : Bool) → Once (keep f xs) → Once (elim b [ true ↦ x ∷ keep f xs | false ↦ keep f xs ])
+    go true k = ((λ t. o .0 (keep-has f x xs t .0)), k)
+    go false k = k
+
+pub ordered-map : (R S : ℕ → ℕ → Type 0) (f : ℕ → ℕ) (xs : List ℕ) → ((x y : ℕ) → R x y → S (f x) (f y)) → Ordered R xs → Ordered S (map f xs)
+ordered-map R S f [] h o = tt
+ordered-map R S f (x ∷ xs) h o =
+    ((λ y t. let w = map-has f y xs t in subst (S (f x)) (sym (w .2)) (h x (w .0) (o .0 (w .0) (w .1)))), ordered-map R S f xs h (o .1))
+
+ordered-append : (R : ℕ → ℕ → Type 0) (xs ys : List ℕ) → Ordered R xs → Ordered R ys → ((x y : ℕ) → T (has x xs) → T (has y ys) → R x y) → Ordered R (xs ++ ys)
+ordered-append R [] ys o p d = p
+ordered-append R (x ∷ xs) ys o p d =
+    ((λ y t. ⊎-elim (λ u. o .0 y u) (λ u. d x y (has-head x x xs refl) u) (has-append-cases y xs ys t)),
+      ordered-append R xs ys (o .1) p (λ z y t u. d z y (has-tail z x xs t) u))
+
+pub ordered-concat-map : (R S : ℕ → ℕ → Type 0) (f : ℕ → List ℕ) (xs : List ℕ) → Ordered R xs → ((x : ℕ) → T (has x xs) → Ordered S (f x))
+    → ((x y z w : ℕ) → T (has x xs) → T (has y xs) → R x y → T (has z (f x)) → T (has w (f y)) → S z w) → Ordered S (concat-map f xs)
+ordered-concat-map R S f [] o h d = tt
+ordered-concat-map R S f (x ∷ xs) o h d =
+    ordered-append S (f x) (concat-map f xs) (first-of x xs h)
+    (ordered-concat-map R S f xs (o .1) (rest-of x xs h) (λ y q z w t u. d y q z w (has-tail y x xs t) (has-tail q x xs u)))
+    (λ z w t u. let k = concat-map-has f w xs u in
+      d x (k .0) z w (has-head x x xs refl) (has-tail (k .0) x xs (k .1)) (o .0 (k .0) (k .1)) t (k .2))

@@ -1,0 +1,178 @@
+-- The whole promise of each public call: its answer, and each lent run at exit, for all inputs. Assumes nothing.
+use Prim.Native.Nat.{ℕ, _*_}
+use mathlib.Core.Bool.{Bool, true, false, not, _||_}
+use mathlib.Core.List.{List, [], _∷_, _++_}
+use mathlib.Core.Option.{Option, none, some}
+use lib.IntN.{ℤ}
+use lib.ListN.{length, take}
+use lib.Dec.{eqb, ltb}
+use Rattle.game.specs.Grid.{Grid, size}
+use Rattle.game.specs.Openings.{threeBV}
+use Rattle.game.specs.Position.{untouched, closedSafe}
+use Rattle.game.specs.Moves.{Move, after, Replayed, whole, stopped, replayFrom}
+use Rattle.game.specs.Rounds.{Step, movesOf, greedySteps, openingsFirstSteps, Round, randomRound, Searched, randomSearch}
+use Rattle.game.specs.Area.{areaOf, listOf, clearedArea, clearedList}
+
+-- ---- answers and refusals
+
+-- the refusals by name
+pub data Refusal : Type 0 where
+  shape board work trace rounds draws move frame size-over : Refusal
+
+-- the refusals by number
+abbrev pub numberOf : Refusal → ℕ
+numberOf shape = 1
+numberOf board = 2
+numberOf work = 3
+numberOf trace = 4
+numberOf rounds = 5
+numberOf draws = 6
+numberOf move = 7
+numberOf frame = 8
+numberOf size-over = 9
+
+-- an answer: 0 and its values, or the refusal's number, to which MOVE adds a place
+pub record Answer : Type 0 where
+  pub number : ℕ
+  pub values : List ℕ
+
+-- success with values
+abbrev pub gives : List ℕ → Answer
+gives vs = record { number = 0; values = vs }
+
+-- a refusal answers its number alone
+abbrev pub refuses : Refusal → Answer
+refuses f = record { number = numberOf f; values = [] }
+
+-- what a call without a list comes to: the answer, and the work area at exit
+pub record Outcome : Type 0 where
+  pub answer : Answer
+  pub work : List ℤ
+
+-- what a call with a list comes to: the answer, and the work area and the list at exit
+pub record ListOutcome : Type 0 where
+  pub answer : Answer
+  pub work : List ℤ
+  pub list : List ℕ
+
+-- ---- the checks
+
+-- a refusal, and whether it is to be given
+pub record Check : Type 0 where
+  pub given : Bool
+  pub refusal : Refusal
+
+-- the first refusal that is to be given
+abbrev pub firstGiven : List Check → Option Refusal
+firstGiven [] = none
+firstGiven (c ∷ cs) = elim (c .given) [ true ↦ some (c .refusal) | false ↦ firstGiven cs ]
+
+-- 0, or over 255
+abbrev pub sideOut : ℕ → Bool
+sideOut n = eqb n 0 || ltb 255 n
+
+-- SHAPE: rows or columns 0, or over 255
+abbrev pub shapeCheck : Grid → Check
+shapeCheck g = record { given = sideOut (g .rows) || sideOut (g .columns); refusal = shape }
+
+-- BOARD: the run of values isn't rows x columns long
+abbrev pub boardCheck : Grid → Check
+boardCheck g = record { given = not (eqb (length (g .values)) (size g)); refusal = board }
+
+-- WORK: the work area is below 5 x cells
+abbrev pub workCheck : Grid → List ℤ → Check
+workCheck g ws = record { given = ltb (length ws) (5 * size g); refusal = work }
+
+-- TRACE: the list is below cells long
+abbrev pub listCheck : Grid → List ℕ → Check
+listCheck g ms = record { given = ltb (length ms) (size g); refusal = trace }
+
+-- TRACE in replay: the move count is above the list's length
+abbrev pub countCheck : ℕ → List ℕ → Check
+countCheck n ms = record { given = ltb (length ms) n; refusal = trace }
+
+-- ROUNDS: 0 rounds
+abbrev pub roundsCheck : ℕ → Check
+roundsCheck n = record { given = eqb n 0; refusal = rounds }
+
+-- the checks of every call, in their order
+abbrev pub gridChecks : Grid → List ℤ → List Check
+gridChecks g ws = shapeCheck g ∷ boardCheck g ∷ workCheck g ws ∷ []
+
+-- ---- the calls
+
+-- the 3BV count leaves the position before any move
+unfoldable pub threeBVCall : Grid → List ℤ → Outcome
+threeBVCall g ws =
+    elim (firstGiven (gridChecks g ws)) [
+      | some f ↦ record { answer = refuses f; work = ws }
+      | none ↦ record { answer = gives (threeBV g ∷ []); work = areaOf g (untouched g) ws }
+    ]
+
+-- a round by its moves: the clicks, the position at its end, the moves written
+abbrev pub roundCall : Grid → List Step → List ℤ → List ℕ → ListOutcome
+roundCall g ts ws ms =
+    elim (firstGiven (gridChecks g ws ++ listCheck g ms ∷ [])) [
+      | some f ↦ record { answer = refuses f; work = ws; list = ms }
+      | none ↦ let played = movesOf ts in
+          record {
+            answer = gives (length played ∷ []);
+            work = areaOf g (after g (untouched g) played) ws;
+            list = listOf played ms;
+          }
+    ]
+
+-- greedy
+unfoldable pub greedyCall : Grid → List ℤ → List ℕ → ListOutcome
+greedyCall g ws ms = roundCall g (greedySteps g) ws ms
+
+-- openings-first
+unfoldable pub openingsFirstCall : Grid → List ℤ → List ℕ → ListOutcome
+openingsFirstCall g ws ms = roundCall g (openingsFirstSteps g) ws ms
+
+-- what a random round comes to: clicks and bytes used, or DRAWS, which fills work area and list with 0
+abbrev pub drawnRound : Grid → Option Round → List ℤ → List ℕ → ListOutcome
+drawnRound g none ws ms = record { answer = refuses draws; work = clearedArea g ws; list = clearedList g ms }
+drawnRound g (some r) ws ms =
+    let played = movesOf (r .steps) in
+    record {
+      answer = gives (length played ∷ r .next ∷ []);
+      work = areaOf g (after g (untouched g) played) ws;
+      list = listOf played ms;
+    }
+
+-- a single random round
+unfoldable pub randomRoundCall : Grid → List ℤ → List ℕ → List ℕ → ListOutcome
+randomRoundCall g ws ms bytes =
+    elim (firstGiven (gridChecks g ws ++ listCheck g ms ∷ [])) [
+      | some f ↦ record { answer = refuses f; work = ws; list = ms }
+      | none ↦ drawnRound g (randomRound g bytes 0) ws ms
+    ]
+
+-- what a random search comes to: the least clicks and bytes used, with the last round left; or DRAWS
+abbrev pub drawnSearch : Grid → Option Searched → List ℤ → Outcome
+drawnSearch g none ws = record { answer = refuses draws; work = clearedArea g ws }
+drawnSearch g (some r) ws =
+    record { answer = gives (r .least ∷ r .next ∷ []); work = areaOf g (after g (untouched g) (r .moves)) ws }
+
+-- random search over so many rounds
+unfoldable pub randomSearchCall : Grid → List ℤ → List ℕ → ℕ → Outcome
+randomSearchCall g ws bytes n =
+    elim (firstGiven (gridChecks g ws ++ roundsCheck n ∷ [])) [
+      | some f ↦ record { answer = refuses f; work = ws }
+      | none ↦ drawnSearch g (randomSearch g bytes n) ws
+    ]
+
+-- what a replay of n moves comes to: moves made and safe cells still closed, or MOVE with the bad move's place
+abbrev pub replayed : Grid → ℕ → Replayed → List ℤ → Outcome
+replayed g n (whole s) ws = record { answer = gives (n ∷ closedSafe g s ∷ []); work = areaOf g s ws }
+replayed g n (stopped k s) ws =
+    record { answer = record { number = numberOf move; values = k ∷ [] }; work = areaOf g s ws }
+
+-- replay of the first n moves of a list, which stays as it is
+unfoldable pub replayCall : Grid → List ℤ → List ℕ → ℕ → Outcome
+replayCall g ws ms n =
+    elim (firstGiven (gridChecks g ws ++ countCheck n ms ∷ [])) [
+      | some f ↦ record { answer = refuses f; work = ws }
+      | none ↦ replayed g n (replayFrom g 0 (untouched g) (take n ms)) ws
+    ]

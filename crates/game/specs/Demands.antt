@@ -1,0 +1,52 @@
+-- Demand 3 as definitions: what holds of a round's steps. Assumes nothing.
+use Prim.Native.Nat.{ℕ, _≤_, _<_}
+use mathlib.Core.Path.{_≡_}
+use mathlib.Core.List.{List, [], _∷_, _++_}
+use mathlib.Core.Option.{none, some}
+use lib.IntN.{ℤ, pos, _+ℤ_}
+use lib.ListN.{length}
+use lib.Dec.{T}
+use Rattle.game.specs.Grid.{Grid, size, safe}
+use Rattle.game.specs.Openings.{threeBV}
+use Rattle.game.specs.Position.{Position, untouched, opened, closedUnits, premium}
+use Rattle.game.specs.Moves.{Move, legal, play, after}
+use Rattle.game.specs.Rounds.{Step, movesOf, afterStep}
+
+-- the premium of the cell that a step chose, just before it; a single L has none
+abbrev pub worth : Grid → Position → Step → ℤ
+worth g s t = elim (t .chosen) [ none ↦ pos 0 | some i ↦ premium g s i ]
+
+-- the premiums of the cells that steps chose, one step after the other
+abbrev pub earned : Grid → Position → List Step → ℤ
+earned g s [] = pos 0
+earned g s (t ∷ ts) = worth g s t +ℤ earned g (afterStep g s t) ts
+
+-- the position after steps that begin with the untouched one
+abbrev pub standing : Grid → List Step → Position
+standing g ts = after g (untouched g) (movesOf ts)
+
+-- clicks paid + closed units + premiums of the chosen cells, once these steps are done
+abbrev pub balance : Grid → List Step → ℤ
+balance g ts = pos (length (movesOf ts)) +ℤ pos (closedUnits g (standing g ts)) +ℤ earned g (untouched g) ts
+
+-- each move is legal where it stands
+abbrev pub AllLegal : Grid → Position → List Move → Type 0
+AllLegal g s [] = Unit {0}
+AllLegal g s (m ∷ ms) = T (legal g s m) × AllLegal g (play g s m) ms
+
+-- Demand 3 of a whole round, by its steps
+pub record Sound (g : Grid) (ts : List Step) : Type 0 where
+  -- after each step: clicks paid + closed units + premiums of the chosen cells = 3BV
+  pub ledger : (done left : List Step) → ts ≡ done ++ left → balance g done ≡ pos (threeBV g)
+  -- each step takes a unit
+  pub takes : (done left : List Step) (t : Step) → ts ≡ done ++ t ∷ left
+      → closedUnits g (afterStep g (standing g done) t) < closedUnits g (standing g done)
+  -- the listed moves are legal where they stand
+  pub legal-moves : AllLegal g (untouched g) (movesOf ts)
+  -- they open exactly the safe cells
+  pub opens : (i : ℕ) → i < size g → opened (standing g ts) i ≡ safe g i
+  -- no unit is left closed
+  pub finished : closedUnits g (standing g ts) ≡ 0
+  -- a round costs at most 3BV, and 3BV is at most the cells
+  pub at-most-units : length (movesOf ts) ≤ threeBV g
+  pub units-at-most : threeBV g ≤ size g

@@ -1,0 +1,62 @@
+-- A position: states, closed units, the premium. Assumes nothing.
+use Prim.Native.Nat.{ℕ, _+_}
+use mathlib.Core.Bool.{Bool, not, _&&_}
+use mathlib.Core.List.{List}
+use lib.IntN.{ℤ, pos, _-ℤ_}
+use lib.ListN.{getD, replicate}
+use lib.Dec.{eqb}
+use Rattle.game.specs.Lists.{bit, count, all-of}
+use Rattle.game.specs.Grid.{Grid, size, cells, mine, safe, square}
+use Rattle.game.specs.Openings.{openings, holds, unlabelled}
+
+-- each cell's state by its index: 0 closed, 1 opened, 2 flagged
+abbrev pub Position : Type 0
+Position = List ℕ
+
+-- the position before any move
+abbrev pub untouched : Grid → Position
+untouched g = replicate (size g) 0
+
+-- the cell is closed and not flagged
+abbrev pub closed : Position → ℕ → Bool
+closed s i = eqb (getD s i 0) 0
+
+-- the cell is opened
+abbrev pub opened : Position → ℕ → Bool
+opened s i = eqb (getD s i 0) 1
+
+-- the cell is flagged
+abbrev pub flagged : Position → ℕ → Bool
+flagged s i = eqb (getD s i 0) 2
+
+-- an opening is closed while its 0-cells are closed
+abbrev pub openingClosed : Position → List ℕ → Bool
+openingClosed s o = all-of (closed s) o
+
+-- a unit that is an unlabelled cell, still closed
+abbrev pub cellUnit : Grid → Position → ℕ → Bool
+cellUnit g s i = unlabelled g i && closed s i
+
+-- the closed units, counted from the mines and the opened cells
+unfoldable pub closedUnits : Grid → Position → ℕ
+closedUnits g s = count (openingClosed s) (openings g) + count (cellUnit g s) (cells g)
+
+-- the safe cells still closed
+unfoldable pub closedSafe : Grid → Position → ℕ
+closedSafe g s = count (λ i. safe g i && closed s i) (cells g)
+
+-- a mine without flag
+abbrev pub unflagged : Grid → Position → ℕ → Bool
+unflagged g s i = mine g i && not (flagged s i)
+
+-- the closed units at a cell: the openings among its labels, and the unlabelled cells in its square
+unfoldable pub gain : Grid → Position → ℕ → ℕ
+gain g s i = count (λ o. holds g i o && openingClosed s o) (openings g) + count (cellUnit g s) (square g i)
+
+-- what a chord there takes: unflagged mines in its square, 1, and 1 more if the cell is closed
+unfoldable pub cost : Grid → Position → ℕ → ℕ
+cost g s i = count (unflagged g s) (square g i) + 1 + bit (closed s i)
+
+-- the premium of a safe cell
+unfoldable pub premium : Grid → Position → ℕ → ℤ
+premium g s i = pos (gain g s i) -ℤ pos (cost g s i)

@@ -1,0 +1,1 @@
+// Document 01 as definitions and the theorems about them: specs/ and proofs/ are what this crate is for.
