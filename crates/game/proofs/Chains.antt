@@ -60,21 +60,22 @@ column-gap g a b za zb ec er =
 apart : (p x y : ℕ) → p ≤ x + 1 → x ≤ p + 1 → p ≤ y + 1 → y ≤ p + 1 → (x + 2 ≡ y) ⊎ ((y + 2 ≡ x) ⊎ ((x ≤ y + 1) × (y ≤ x + 1)))
 apart p x y a b c d =
     elim (ℕ-discrete (x + 2) y) [
-      yes e ↦ inl e
-    | no f ↦ elim (ℕ-discrete (y + 2) x) [ yes e ↦ inr (inl e) | no k ↦ inr (inr (omega arith)) ] ]
+      | yes e ↦ inl e
+      | no f ↦ elim (ℕ-discrete (y + 2) x) [ yes e ↦ inr (inl e) | no k ↦ inr (inr (omega arith)) ]
+    ]
 
 pub same-row : (g : Grid) (i a b : ℕ) → Zero g a → Zero g b → Close g i a → Close g i b → rowOf g a ≡ rowOf g b → Joined g a b
 same-row g i a b za zb ca cb er =
     ⊎-elim (λ e. row-gap g a b za zb er e)
     (λ r. ⊎-elim (λ e. joined-sym g b a (row-gap g b a zb za (sym er) e))
-      (λ c. joined-close g a b za zb (omega arith)) r)
+    (λ c. joined-close g a b za zb (omega arith)) r)
     (apart (columnOf g i) (columnOf g a) (columnOf g b) (ca .west) (ca .east) (cb .west) (cb .east))
 
 pub same-column : (g : Grid) (i a b : ℕ) → Zero g a → Zero g b → Close g i a → Close g i b → columnOf g a ≡ columnOf g b → Joined g a b
 same-column g i a b za zb ca cb ec =
     ⊎-elim (λ e. column-gap g a b za zb ec e)
     (λ r. ⊎-elim (λ e. joined-sym g b a (column-gap g b a zb za (sym ec) e))
-      (λ c. joined-close g a b za zb (omega arith)) r)
+    (λ c. joined-close g a b za zb (omega arith)) r)
     (apart (rowOf g i) (rowOf g a) (rowOf g b) (ca .north) (ca .south) (cb .north) (cb .south))
 
 -- one in i's row and one in i's column
@@ -98,13 +99,15 @@ third : (p x y z : ℕ) → p ≤ x + 1 → x ≤ p + 1 → p ≤ y + 1 → y �
     → (x ≡ p) ⊎ ((y ≡ p) ⊎ (z ≡ p))
 third p x y z a b c d e f u v w =
     elim (ℕ-discrete x p) [
-      yes q ↦ inl q
-    | no k ↦ elim (ℕ-discrete y p) [
-        yes q ↦ inr (inl q)
-      | no l ↦ inr (inr (⊎-elim
-          (λ s. ⊎-elim (λ t. absurd (u (same-side p x y s t))) (λ t. only p x y z e f s t v w) (side p y c d l))
-          (λ s. ⊎-elim (λ t. only p y x z e f t s w v) (λ t. absurd (u (s ∙ sym t))) (side p y c d l))
-          (side p x a b k))) ] ]
+      | yes q ↦ inl q
+      | no k ↦ elim (ℕ-discrete y p) [
+        | yes q ↦ inr (inl q)
+        | no l ↦ inr (inr (⊎-elim
+            (λ s. ⊎-elim (λ t. absurd (u (same-side p x y s t))) (λ t. only p x y z e f s t v w) (side p y c d l))
+            (λ s. ⊎-elim (λ t. only p y x z e f t s w v) (λ t. absurd (u (s ∙ sym t))) (side p y c d l))
+            (side p x a b k)))
+      ]
+    ]
 
 -- i itself, in its own row and column
 centre : (g : Grid) (i a b : ℕ) → Zero g a → Zero g b → Close g i b → rowOf g a ≡ rowOf g i → columnOf g a ≡ columnOf g i → Joined g a b
@@ -117,19 +120,20 @@ pub three : (g : Grid) (i a b c : ℕ) → Zero g a → Zero g b → Zero g c �
 three g i a b c za zb zc ca cb cc nab nac nbc =
     ⊎-elim
     (λ ra. ⊎-elim (λ ka. nab (centre g i a b za zb cb ra ka))
-      (λ r. ⊎-elim (λ kb. nab (cross g i a b za zb ca cb ra kb)) (λ kc. nac (cross g i a c za zc ca cc ra kc)) r) columns)
+    (λ r. ⊎-elim (λ kb. nab (cross g i a b za zb ca cb ra kb)) (λ kc. nac (cross g i a c za zc ca cc ra kc)) r) columns)
     (λ r. ⊎-elim
-      (λ rb. ⊎-elim (λ ka. nab (joined-sym g b a (cross g i b a zb za cb ca rb ka)))
-        (λ r. ⊎-elim (λ kb. nbc (centre g i b c zb zc cc rb kb)) (λ kc. nbc (cross g i b c zb zc cb cc rb kc)) r) columns)
-      (λ rc. ⊎-elim (λ ka. nac (joined-sym g c a (cross g i c a zc za cc ca rc ka)))
-        (λ r. ⊎-elim (λ kb. nbc (joined-sym g c b (cross g i c b zc zb cc cb rc kb))) (λ kc. nac (joined-sym g c a (centre g i c a zc za ca rc kc))) r) columns)
-      r)
+    (λ rb. ⊎-elim (λ ka. nab (joined-sym g b a (cross g i b a zb za cb ca rb ka)))
+    (λ r. ⊎-elim (λ kb. nbc (centre g i b c zb zc cc rb kb)) (λ kc. nbc (cross g i b c zb zc cb cc rb kc)) r) columns)
+    (λ rc. ⊎-elim (λ ka. nac (joined-sym g c a (cross g i c a zc za cc ca rc ka)))
+    (λ r. ⊎-elim (λ kb. nbc (joined-sym g c b (cross g i c b zc zb cc cb rc kb))) (λ kc. nac (joined-sym g c a (centre g i c a zc za ca rc kc))) r) columns)
+    r)
     rows
   where
     rows : (rowOf g a ≡ rowOf g i) ⊎ ((rowOf g b ≡ rowOf g i) ⊎ (rowOf g c ≡ rowOf g i))
     rows =
         third (rowOf g i) (rowOf g a) (rowOf g b) (rowOf g c) (ca .north) (ca .south) (cb .north) (cb .south) (cc .north) (cc .south)
         (λ e. nab (same-row g i a b za zb ca cb e)) (λ e. nac (same-row g i a c za zc ca cc e)) (λ e. nbc (same-row g i b c zb zc cb cc e))
+
     columns : (columnOf g a ≡ columnOf g i) ⊎ ((columnOf g b ≡ columnOf g i) ⊎ (columnOf g c ≡ columnOf g i))
     columns =
         third (columnOf g i) (columnOf g a) (columnOf g b) (columnOf g c) (ca .west) (ca .east) (cb .west) (cb .east) (cc .west) (cc .east)

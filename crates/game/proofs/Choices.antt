@@ -7,12 +7,12 @@ use mathlib.Core.Bool.{Bool, _&&_, _||_, cond, false, not, true}
 use mathlib.Core.List.{List, [], _∷_, map}
 use lib.Dec.{T, leb, leb→le, le→leb, ltb, nleb→lt, nltb→le}
 use lib.IntN.{_-ℤ_, negsuc, pos, ℤ}
-use lib.Signed.{leZ, nonNeg, ≤ℤ-refl}
+use lib.Signed.{leZ, ≤ℤ-refl}
 use Rattle.game.specs.Grid.{Grid, cells, safe, size, zeroCell}
 use Rattle.game.specs.Lists.{has, some-of}
 use Rattle.game.specs.Openings.{holds, openings, unlabelled}
 use Rattle.game.specs.Position.{Position, closed, closedSafe, cost, gain, opened, premium}
-use Rattle.game.specs.Rounds.{choice, chords, clicks, closedUnitCell, highest, looked, same, topCells, unitCells, width}
+use Rattle.game.specs.Rounds.{choice, chords, clicks, closedUnitCell, highest, leastChosen, looked, same, topCells, unitCells, width}
 use Rattle.game.proofs.Counts.{count-find}
 use Rattle.game.proofs.Labels.{labelled→zero}
 use Rattle.game.proofs.Members.{first-of, has-cases, has-keep, has-length, keep-has, rest-of}
@@ -44,21 +44,12 @@ le-trans (negsuc a) (pos b) (negsuc c) t u = absurd u
 le-trans (negsuc a) (negsuc b) (pos c) t u = tt
 le-trans (negsuc a) (negsuc b) (negsuc c) t u = le→leb c a (omega (arith, leb→le b a t, leb→le c b u))
 
-nonNeg-up : (a b : ℤ) → T (nonNeg a) → T (leZ a b) → T (nonNeg b)
-nonNeg-up (pos a) (pos b) t u = tt
-nonNeg-up (pos a) (negsuc b) t u = u
-nonNeg-up (negsuc a) b t u = absurd t
-
-nonNeg-above : (a : ℤ) → T (nonNeg a) → T (leZ (negsuc 0) a)
-nonNeg-above (pos a) t = tt
-nonNeg-above (negsuc a) t = absurd t
-
--- a difference that is 0 or more
-pub nonNeg-sub : (a b : ℕ) → T (nonNeg (pos a -ℤ pos b)) → b ≤ a
-nonNeg-sub a zero t = omega arith
-nonNeg-sub a (suc b) t = nltb→le a (suc b) (go (ltb a (suc b)) t)
+-- a difference of 0 or more
+difference-pays : (a b : ℕ) → T (leZ leastChosen (pos a -ℤ pos b)) → b ≤ a
+difference-pays a zero t = omega arith
+difference-pays a (suc b) t = nltb→le a (suc b) (go (ltb a (suc b)) t)
   where
-    go : (c : Bool) → T (nonNeg (cond c (negsuc (suc b - suc a)) (pos (a - suc b)))) → T (not c)
+    go : (c : Bool) → T (leZ leastChosen (cond c (negsuc (suc b - suc a)) (pos (a - suc b)))) → T (not c)
     go true u = u
     go false u = tt
 
@@ -86,18 +77,18 @@ highest-least f (y ∷ xs) z b h = go (leZ (f y) (highest (map f xs))) (highest-
 
 pub record Top (openedOnly : Bool) (g : Grid) (s : Position) (x : ℕ) : Type 0 where
   pub is-looked : T (has x (looked openedOnly g s))
-  pub reaches-0 : T (nonNeg (premium g s x))
+  pub reaches : T (leZ leastChosen (premium g s x))
   pub none-higher : (y : ℕ) → T (has y (looked openedOnly g s)) → T (leZ (premium g s y) (premium g s x))
 
 pub top→ : (openedOnly : Bool) (g : Grid) (s : Position) (x : ℕ) → T (has x (topCells openedOnly g s)) → Top openedOnly g s x
 unfolding topCells
 top→ openedOnly g s x t =
-    let a = keep-has (λ i. nonNeg m && same (premium g s i) m) x (looked openedOnly g s) t in
-    let u = and-right (leZ (premium g s x) m) (leZ m (premium g s x)) (and-right (nonNeg m) (same (premium g s x) m) (a .1)) in
+    let a = keep-has (λ i. leZ leastChosen m && same (premium g s i) m) x (looked openedOnly g s) t in
+    let u = and-right (leZ (premium g s x) m) (leZ m (premium g s x)) (and-right (leZ leastChosen m) (same (premium g s x) m) (a .1)) in
     record {
       is-looked = a .0;
-      reaches-0 = nonNeg-up m (premium g s x) (and-left (nonNeg m) (same (premium g s x) m) (a .1)) u;
-      none-higher = λ y v. le-trans (premium g s y) m (premium g s x) (highest-bound (premium g s) (looked openedOnly g s) y v) u
+      reaches = le-trans leastChosen m (premium g s x) (and-left (leZ leastChosen m) (same (premium g s x) m) (a .1)) u;
+      none-higher = λ y v. le-trans (premium g s y) m (premium g s x) (highest-bound (premium g s) (looked openedOnly g s) y v) u;
     }
   where
     m : ℤ
@@ -107,10 +98,10 @@ pub →top : (openedOnly : Bool) (g : Grid) (s : Position) (x : ℕ) → Top ope
 unfolding topCells
 →top openedOnly g s x p =
     let up = highest-bound (premium g s) (looked openedOnly g s) x (p .is-looked) in
-    let down = highest-least (premium g s) (looked openedOnly g s) (premium g s x) (nonNeg-above (premium g s x) (p .reaches-0)) (p .none-higher) in
-    has-keep (λ i. nonNeg m && same (premium g s i) m) x (looked openedOnly g s) (p .is-looked)
-    (and-both (nonNeg m) (same (premium g s x) m) (nonNeg-up (premium g s x) m (p .reaches-0) up)
-      (and-both (leZ (premium g s x) m) (leZ m (premium g s x)) up down))
+    let down = highest-least (premium g s) (looked openedOnly g s) (premium g s x) (le-trans (negsuc 0) leastChosen (premium g s x) tt (p .reaches)) (p .none-higher) in
+    has-keep (λ i. leZ leastChosen m && same (premium g s i) m) x (looked openedOnly g s) (p .is-looked)
+    (and-both (leZ leastChosen m) (same (premium g s x) m) (le-trans leastChosen (premium g s x) m (p .reaches) up)
+    (and-both (leZ (premium g s x) m) (leZ m (premium g s x)) up down))
   where
     m : ℤ
     m = highest (map (premium g s) (looked openedOnly g s))
@@ -121,9 +112,9 @@ looked→ openedOnly g s x t =
     (cells→ g x (b .0), and-left (safe g x) (opened s x || not openedOnly) (b .1))
 
 -- a cell of premium 0 or more gains what it costs
-pub premium-pays : (g : Grid) (s : Position) (x : ℕ) → T (nonNeg (premium g s x)) → cost g s x ≤ gain g s x
+pub premium-pays : (g : Grid) (s : Position) (x : ℕ) → T (leZ leastChosen (premium g s x)) → cost g s x ≤ gain g s x
 unfolding premium
-premium-pays g s x t = nonNeg-sub (gain g s x) (cost g s x) t
+premium-pays g s x t = difference-pays (gain g s x) (cost g s x) t
 
 -- ---- while a safe cell is closed, a cell of number 0 or without label is
 
@@ -138,7 +129,7 @@ unfolding unitCells
 →unit g s i u =
     has-keep (closedUnitCell g s) i (cells g) (→cells g i (u .inside))
     (and-both (safe g i && closed s i) (zeroCell g i || unlabelled g i) (and-both (safe g i) (closed s i) (u .is-safe) (u .is-closed))
-      (⊎-elim (λ z. or-left (zeroCell g i) (unlabelled g i) z) (λ l. or-right (zeroCell g i) (unlabelled g i) l) (u .which)))
+    (⊎-elim (λ z. or-left (zeroCell g i) (unlabelled g i) z) (λ l. or-right (zeroCell g i) (unlabelled g i) l) (u .which)))
 
 pub unit→ : (g : Grid) (s : Position) (i : ℕ) → T (has i (unitCells g s)) → UnitCell g s i
 unfolding unitCells
@@ -149,7 +140,7 @@ unit→ g s i t =
       inside = cells→ g i (a .0);
       is-safe = and-left (safe g i) (closed s i) b;
       is-closed = and-right (safe g i) (closed s i) b;
-      which = or-cases (zeroCell g i) (unlabelled g i) (and-right (safe g i && closed s i) (zeroCell g i || unlabelled g i) (a .1))
+      which = or-cases (zeroCell g i) (unlabelled g i) (and-right (safe g i && closed s i) (zeroCell g i || unlabelled g i) (a .1));
     }
 
 -- a closed safe cell is a unit itself or stands by a closed 0-cell
@@ -159,29 +150,37 @@ unit-some g s f h = go (unlabelled g j) refl
   where
     w : (x : ℕ) × T (has x (cells g)) × T (safe g x && closed s x)
     w = count-find (λ i. safe g i && closed s i) (cells g) h
+
     j : ℕ
     j = w .0
+
     hj : j < size g
     hj = cells→ g j (w .1)
+
     sj : T (safe g j)
     sj = and-left (safe g j) (closed s j) (w .2)
+
     cj : T (closed s j)
     cj = and-right (safe g j) (closed s j) (w .2)
+
     labelled : (a b : Bool) → T a → (a && not b) ≡ false → T b
     labelled true true t e = tt
     labelled true false t e = subst T e tt
     labelled false b t e = absurd t
+
     go : (b : Bool) → unlabelled g j ≡ b → (i : ℕ) × T (has i (unitCells g s))
     go true e = (j, →unit g s j (record { inside = hj; is-safe = sj; is-closed = cj; which = inr (rw e tt) }))
     go false e =
         let k = labelled→zero g j (labelled (safe g j) (some-of (holds g j) (openings g)) sj e) in
-        let z = k .2 in
-        (k .0, →unit g s (k .0) (record {
-          inside = z .inside;
-          is-safe = zero-safe g (k .0) z;
-          is-closed = f .around (k .0) j z hj (close-sym g j (k .0) (square→ g j (k .0) hj (k .1) .1)) cj;
-          which = inl (z .none)
-        }))
+        let z = k .2 in (
+          k .0,
+          →unit g s (k .0) (record {
+            inside = z .inside;
+            is-safe = zero-safe g (k .0) z;
+            is-closed = f .around (k .0) j z hj (close-sym g j (k .0) (square→ g j (k .0) hj (k .1) .1)) cj;
+            which = inl (z .none);
+          }),
+        )
 
 -- the exit without a move is never reached: there is always something to choose
 pub never-stuck : (openedOnly : Bool) (g : Grid) (s : Position) → Played g s → 1 ≤ closedSafe g s → 1 ≤ width (choice openedOnly g s)

@@ -107,16 +107,17 @@ pub count-point : (f : ℕ → Bool) (x : ℕ) (ys : List ℕ) → Once ys → T
 count-point f x [] o t = absurd t
 count-point f x (y ∷ ys) o t =
     elim (ℕ-discrete y x) [
-      yes e ↦
-        let z : count (λ j. eqb j x && f j) ys ≡ 0 = count-none (λ j. eqb j x && f j) ys
-              (λ j u v. o .0 (rw (e ∙ sym (eqb→eq j x (and-left (eqb j x) (f j) v))) u)) in
-        let q : bit (eqb y x && f y) ≡ bit (f x) =
-              ap (λ (b : Bool). bit (b && f y)) (eqb-yes y x e) ∙ ap (λ (k : ℕ). bit (f k)) e in
-        omega arith
-    | no n ↦
-        let q : bit (eqb y x && f y) ≡ 0 = ap (λ (b : Bool). bit (b && f y)) (eqb-no y x n) in
-        let r = has-cases x y ys (λ u. absurd (n (sym u))) (λ u. count-point f x ys (o .1) u) t in
-        omega arith ]
+      | yes e ↦
+          let z : count (λ j. eqb j x && f j) ys ≡ 0 = count-none (λ j. eqb j x && f j) ys
+          (λ j u v. o .0 (rw (e ∙ sym (eqb→eq j x (and-left (eqb j x) (f j) v))) u)) in
+          let q : bit (eqb y x && f y) ≡ bit (f x) =
+          ap (λ (b : Bool). bit (b && f y)) (eqb-yes y x e) ∙ ap (λ (k : ℕ). bit (f k)) e in
+          omega arith
+      | no n ↦
+          let q : bit (eqb y x && f y) ≡ 0 = ap (λ (b : Bool). bit (b && f y)) (eqb-no y x n) in
+          let r = has-cases x y ys (λ u. absurd (n (sym u))) (λ u. count-point f x ys (o .1) u) t in
+          omega arith
+    ]
 
 count-or : (a b f : ℕ → Bool) (ys : List ℕ) → ((y : ℕ) → T (a y) → T (b y) → ⊥) → count (λ j. (a j || b j) && f j) ys ≡ count (λ j. a j && f j) ys + count (λ j. b j && f j) ys
 count-or a b f [] n = omega arith
@@ -149,8 +150,10 @@ count-drop f h c xs o e z =
     one : (x : ℕ) → (f x && not (eqb x c)) ≡ h x
     one x =
         elim (ℕ-discrete x c) [
-          yes q ↦ ap (λ (b : Bool). f x && not b) (eqb-yes x c q) ∙ sym (and-false (f x)) ∙ sym (ap h q ∙ z)
-        | no n ↦ ap (λ (b : Bool). f x && not b) (eqb-no x c n) ∙ sym (and-true (f x)) ∙ e x n ]
+          | yes q ↦ ap (λ (b : Bool). f x && not b) (eqb-yes x c q) ∙ sym (and-false (f x)) ∙ sym (ap h q ∙ z)
+          | no n ↦ ap (λ (b : Bool). f x && not b) (eqb-no x c n) ∙ sym (and-true (f x)) ∙ e x n
+        ]
+
     point : (b : Bool) → has c xs ≡ b → count (λ x. eqb x c && f x) xs ≡ bit (b && f c)
     point true q = count-point f c xs o (rw q tt)
     point false q =

@@ -4,7 +4,7 @@ use Prim.Native.Nat.{ℕ, _+_, _<_, _≤_, suc}
 use native.Mathlib.Omega.{arith}
 use native.Mathlib.Nat.{add-zero}
 use mathlib.Core.Path.{_∙_, _≡_, ap, refl, subst, sym}
-use mathlib.Core.Logic.{⊎-elim}
+use mathlib.Core.Logic.{_⊎_, inl, inr, ⊎-elim}
 use mathlib.Core.Bool.{Bool, _&&_, _||_, false, not, true}
 use mathlib.Core.List.{List, [], _∷_}
 use lib.Dec.{T, eqb, eqb·suc-zero, not-T}
@@ -42,7 +42,7 @@ none-left g i a b k [] h za zb ca cb n z na nb = omega arith
 none-left g i a b k (o ∷ os) h za zb ca cb n z na nb =
     go (holds g i o) (λ t. t)
     (none-left g i a b (suc k) os h za zb ca cb n (λ c t. z c (in-later c o os t))
-      (λ c t. na c (in-later c o os t)) (λ c t. nb c (in-later c o os t)))
+    (λ c t. na c (in-later c o os t)) (λ c t. nb c (in-later c o os t)))
   where
     go : (d : Bool) → (T d → T (holds g i o)) → length (places g i (suc k) os) ≤ 0 → length {A = ℕ} (elim d [ true ↦ k ∷ places g i (suc k) os | false ↦ places g i (suc k) os ]) ≤ 0
     go true f r =
@@ -58,14 +58,14 @@ one-left g i a k [] h za ca z p na = omega arith
 one-left g i a k (o ∷ os) h za ca z p na =
     go (holds g i o) (λ t. t)
     (one-left g i a (suc k) os h za ca (λ c t. z c (in-later c o os t)) (p .1)
-      (λ c t. na c (in-later c o os t)))
+    (λ c t. na c (in-later c o os t)))
   where
     go : (d : Bool) → (T d → T (holds g i o)) → length (places g i (suc k) os) ≤ 1 → length {A = ℕ} (elim d [ true ↦ k ∷ places g i (suc k) os | false ↦ places g i (suc k) os ]) ≤ 1
     go true f r =
         let w = held g i o h (f tt) in
         let m = in-first (w .0) o os (w .1) in
         let q = none-left g i a (w .0) (suc k) os h za (z (w .0) m) ca (w .2) (na (w .0) m)
-                (λ c t. z c (in-later c o os t)) (λ c t. na c (in-later c o os t)) (λ c t. p .0 (w .0) c (w .1) t) in
+        (λ c t. z c (in-later c o os t)) (λ c t. na c (in-later c o os t)) (λ c t. p .0 (w .0) c (w .1) t) in
         omega (arith, q)
     go false f r = r
 
@@ -123,8 +123,8 @@ pub mine-none : (g : Grid) (i : ℕ) → i < size g → T (mine g i) → labels 
 unfolding labels
 mine-none g i h m =
     none-held g i 1 (openings g) (not-T (some-of (holds g i) (openings g)) (λ t.
-      let w = labelled→zero g i t in
-      zero→ g (w .0) i (w .2) h (close-sym g i (w .0) (square→ g i (w .0) h (w .1) .1)) m))
+    let w = labelled→zero g i t in
+    zero→ g (w .0) i (w .2) h (close-sym g i (w .0) (square→ g i (w .0) h (w .1) .1)) m))
 
 -- ---- a cell without label, by its first label
 
@@ -169,6 +169,16 @@ pub labels-ordered : (g : Grid) (i : ℕ) → Ordered _<_ (labels g i)
 unfolding labels
 labels-ordered g i = places-ordered g i 1 (openings g)
 
+-- the two labels are all there are
+pub labels-all : (g : Grid) (i k : ℕ) → i < size g → T (has k (labels g i)) → (k ≡ firstLabel g i) ⊎ (k ≡ secondLabel g i)
+labels-all g i k h t = go (labels g i) (at-most-two g i h) t
+  where
+    go : (ls : List ℕ) → length ls ≤ 2 → T (has k ls) → (k ≡ getD ls 0 0) ⊎ (k ≡ getD ls 1 0)
+    go [] l u = absurd u
+    go (a ∷ []) l u = has-cases k a [] (λ e. inl e) (λ v. absurd v) u
+    go (a ∷ b ∷ []) l u = has-cases k a (b ∷ []) (λ e. inl e) (λ v. has-cases k b [] (λ e. inr e) (λ w. absurd w) v) u
+    go (a ∷ b ∷ c ∷ ls) l u = absurd (omega arith)
+
 -- of two labels the first is the lower
 pub first-below-second : (g : Grid) (i : ℕ) → 1 ≤ secondLabel g i → firstLabel g i < secondLabel g i
 first-below-second g i h = go (labels g i) (labels-ordered g i) h
@@ -190,7 +200,7 @@ pub holds-zero : (g : Grid) (a : ℕ) (o : List ℕ) → Zero g a → Full g o �
 holds-zero g a o z f =
     iff (holds g a o) (has a o)
     (λ t. let w = held g a o (z .inside) t in
-      f .joined-in (w .0) a (w .1) (joined-close g (w .0) a (f .zero-cell (w .0) (w .1)) z (close-sym g a (w .0) (w .2))))
+    f .joined-in (w .0) a (w .1) (joined-close g (w .0) a (f .zero-cell (w .0) (w .1)) z (close-sym g a (w .0) (w .2))))
     (λ t. some-yes (λ j. has j o) a (square g a) (in-own-square g a (z .inside)) t)
 
 apart-none : (g : Grid) (a : ℕ) (os : List (List ℕ)) → Zero g a → Each (Full g) os → (In a os → ⊥) → T (not (some-of (holds g a) os))
@@ -252,6 +262,7 @@ seated g a (o ∷ os) e t = go (has a o) refl t (seated g a os (e .1))
   where
     at : Bool → ℕ
     at b = elim b [ true ↦ 0 | false ↦ suc (seat a os) ]
+
     go : (b : Bool) → has a o ≡ b → T (b || some-of (has a) os) → (In a os → Seated g a os) → Seated g a (o ∷ os)
     go true q u r =
         let s : seat a (o ∷ os) ≡ 0 = ap at q in

@@ -19,3 +19,5 @@ pub mod Runs
 pub mod Rounds
 pub mod Ranges
 pub mod Table
+pub mod Replays
+pub mod Areas

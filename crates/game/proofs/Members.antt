@@ -84,8 +84,9 @@ from-has : (n a x : ℕ) → a ≤ x → x < a + n → T (has x (from a n))
 from-has zero a x h k = absurd (omega arith)
 from-has (suc n) a x h k =
     elim (ℕ-discrete x a) [
-      yes e ↦ has-head x a (from (suc a) n) e
-    | no f ↦ has-tail x a (from (suc a) n) (from-has n (suc a) x (omega arith) (omega arith)) ]
+      | yes e ↦ has-head x a (from (suc a) n) e
+      | no f ↦ has-tail x a (from (suc a) n) (from-has n (suc a) x (omega arith) (omega arith))
+    ]
 
 pub has-range : (a b x : ℕ) → T (has x (range a b)) → (a ≤ x) × (x < b)
 has-range a b x t = let h = has-from (b - a) a x t in omega arith
@@ -118,7 +119,7 @@ pub keep-has : (f : ℕ → Bool) (x : ℕ) (xs : List ℕ) → T (has x (keep f
 keep-has f x [] t = absurd t
 keep-has f x (y ∷ xs) t =
     let below : T (has x (keep f xs)) → T (has x (y ∷ xs)) × T (f x) =
-          λ r. let h = keep-has f x xs r in (has-tail x y xs (h .0), h .1) in
+    λ r. let h = keep-has f x xs r in (has-tail x y xs (h .0), h .1) in
     ⊎-elim (λ p. has-cases x y (keep f xs) (λ e. (has-head x y xs e, rw e (p .0))) below (p .1)) below
     (if-has (f y) x (y ∷ keep f xs) (keep f xs) t)
 

@@ -66,9 +66,10 @@ lowests-snoc : (os : List (List ℕ)) (o : List ℕ) (i : ℕ) → lowest o ≡ 
 lowests-snoc [] o i e r b =
     (((λ y t. absurd t), tt), (λ h t. has-cases h (lowest o) [] (λ q. omega arith) (λ u. absurd u) t))
 lowests-snoc (p ∷ os) o i e r b =
-    let w = lowests-snoc os o i e (r .1) (rest-of (lowest p) (lowests os) b) in
-    (((λ y t. after-first y t), w .0),
-      (λ h t. has-cases h (lowest p) (lowests (os ++ (o ∷ []))) (λ q. let k = first-of (lowest p) (lowests os) b in omega arith) (λ u. w .1 h u) t))
+    let w = lowests-snoc os o i e (r .1) (rest-of (lowest p) (lowests os) b) in (
+      ((λ y t. after-first y t), w .0),
+      (λ h t. has-cases h (lowest p) (lowests (os ++ (o ∷ []))) (λ q. let k = first-of (lowest p) (lowests os) b in omega arith) (λ u. w .1 h u) t),
+    )
   where
     after-first : (y : ℕ) → T (has y (lowests (os ++ (o ∷ [])))) → lowest p < y
     after-first y t = go os t (r .0)
@@ -84,19 +85,23 @@ begun-lowest g i os z n r =
     let j = lowestOf-joined g i z in
     let h = lowestOf-least g i i (itself (z .inside) (z .none)) in
     elim (decLe i (lowestOf g i)) [
-      yes k ↦ omega arith
-    | no k ↦ absurd (n (r .good-so-far .whole (lowestOf g i) i (r .met (lowestOf g i) (omega arith) (joined-last g i (lowestOf g i) j)) (joined-sym g i (lowestOf g i) j))) ]
+      | yes k ↦ omega arith
+      | no k ↦ absurd (n (r .good-so-far .whole (lowestOf g i) i (r .met (lowestOf g i) (omega arith) (joined-last g i (lowestOf g i) j)) (joined-sym g i (lowestOf g i) j)))
+    ]
 
 rising-gather : (g : Grid) (os : List (List ℕ)) (i : ℕ) → i < size g → Rising g i os → Rising g (suc i) (gather g os i)
 rising-gather g os i h r = go (zeroCell g i && not (some-of (has i) os)) refl
   where
     new : Bool → List (List ℕ)
     new b = elim b [ true ↦ os ++ (joinedTo g i ∷ []) | false ↦ os ]
+
     met-now : (a : ℕ) → a < suc i → Zero g a → In a (gather g os i)
     met-now a k z =
         elim (ℕ-discrete a i) [
-          yes e ↦ subst (λ (x : ℕ). In x (gather g os i)) (sym e) (gather-new g os i (subst (Zero g) e z))
-        | no n ↦ gather-old g os i a (r .met a (omega arith) z) ]
+          | yes e ↦ subst (λ (x : ℕ). In x (gather g os i)) (sym e) (gather-new g os i (subst (Zero g) e z))
+          | no n ↦ gather-old g os i a (r .met a (omega arith) z)
+        ]
+
     go : (b : Bool) → (zeroCell g i && not (some-of (has i) os)) ≡ b → Rising g (suc i) (gather g os i)
     go true e =
         let t : T (zeroCell g i && not (some-of (has i) os)) = rw e tt in
@@ -108,7 +113,7 @@ rising-gather g os i h r = go (zeroCell g i && not (some-of (has i) os)) refl
           good-so-far = good-gather g os i h (r .good-so-far);
           met = met-now;
           rising = rw q (w .0);
-          below = rw q (w .1)
+          below = rw q (w .1);
         }
     go false e =
         let q : gather g os i ≡ os = ap new e in
@@ -116,7 +121,7 @@ rising-gather g os i h r = go (zeroCell g i && not (some-of (has i) os)) refl
           good-so-far = good-gather g os i h (r .good-so-far);
           met = met-now;
           rising = rw q (r .rising);
-          below = rw q (λ x t. let k = r .below x t in omega arith)
+          below = rw q (λ x t. let k = r .below x t in omega arith);
         }
 
 rising-from : (g : Grid) (n i : ℕ) (os : List (List ℕ)) → i + n ≤ size g → Rising g i os → Rising g (i + n) (fold (gather g) os (from i n))
@@ -153,7 +158,7 @@ pub label-order : (g : Grid) (a b : ℕ) → Zero g a → Zero g b → firstLabe
 label-order g a b za zb h =
     let sb = seated g b (openings g) (good g .full) (covered g b zb) in
     let k = ordered-at (lowests (openings g)) (seat a (openings g)) (seat b (openings g)) (all-rising g)
-            (omega (arith, first-seat g a za, first-seat g b zb)) (omega (arith, sb .inside, length-map (openings g) lowest)) in
+    (omega (arith, first-seat g a za, first-seat g b zb)) (omega (arith, sb .inside, length-map (openings g) lowest)) in
     omega (arith, lowest-at g a za, lowest-at g b zb)
 
 -- a 0-cell of the set at a place
@@ -172,7 +177,7 @@ sits g (o ∷ os) zero e p h =
       cell = a .0;
       is-zero = e .0 .zero-cell (a .0) (a .1);
       is-in = or-left (has (a .0) o) (some-of (has (a .0)) os) (a .1);
-      at = ap (λ (b : Bool). elim b as (λ x. ℕ) [ true ↦ 0 | false ↦ suc (seat (a .0) os) ]) (T→true (has (a .0) o) (a .1))
+      at = ap (λ (b : Bool). elim b as (λ x. ℕ) [ true ↦ 0 | false ↦ suc (seat (a .0) os) ]) (T→true (has (a .0) o) (a .1));
     }
 sits g (o ∷ os) (suc k) e p h =
     let w = sits g os k (e .1) (p .1) (omega arith) in
@@ -182,7 +187,7 @@ sits g (o ∷ os) (suc k) e p h =
       cell = c;
       is-zero = w .is-zero;
       is-in = or-right (has c o) (some-of (has c) os) (w .is-in);
-      at = ap (λ (b : Bool). elim b as (λ x. ℕ) [ true ↦ 0 | false ↦ suc (seat c os) ]) off ∙ ap suc (w .at)
+      at = ap (λ (b : Bool). elim b as (λ x. ℕ) [ true ↦ 0 | false ↦ suc (seat c os) ]) off ∙ ap suc (w .at);
     }
 
 -- every number from 1 to the count of openings is the label of a 0-cell

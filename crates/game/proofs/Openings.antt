@@ -34,7 +34,7 @@ unfolding grow
 →grow g js j k t hj z c =
     has-keep (λ k. zeroCell g k && some-of (λ j. has j (square g k)) js) k (cells g) (→cells g k (z .inside))
     (and-both (zeroCell g k) (some-of (λ j. has j (square g k)) js) (z .none)
-      (some-yes (λ j. has j (square g k)) j js t (→square g k j (z .inside) hj c)))
+    (some-yes (λ j. has j (square g k)) j js t (→square g k j (z .inside) hj c)))
 
 -- a set of 0-cells joined to z
 Chained : Grid → ℕ → List ℕ → Type 0
@@ -84,16 +84,19 @@ turns g z h (suc n) = go (turns g z h n)
   where
     js : List ℕ
     js = again (grow g) n (z ∷ [])
+
     c : Chained g z js
     c = chained g z h n
+
     go : Fixed g js ⊎ (n < members g js) → Fixed g (grow g js) ⊎ (suc n < members g (grow g js))
     go (inl f) = inl (fixed-grow g z js c f)
     go (inr l) =
         elim (decLe (members g (grow g js)) (members g js)) [
-          yes e ↦ inl (fixed-grow g z js c (λ k t.
-            count-same (λ k. has k js) (λ k. has k (grow g js)) (cells g) (grow-more g z js c) e k
-            (→cells g k (grow→ g js k t .2 .inside)) t))
-        | no f ↦ inr (omega arith) ]
+          | yes e ↦ inl (fixed-grow g z js c (λ k t.
+              count-same (λ k. has k js) (λ k. has k (grow g js)) (cells g) (grow-more g z js c) e k
+              (→cells g k (grow→ g js k t .2 .inside)) t))
+          | no f ↦ inr (omega arith)
+        ]
 
 fixed : (g : Grid) (z : ℕ) → Zero g z → Fixed g (joinedTo g z)
 unfolding joinedTo members
@@ -150,9 +153,10 @@ Apart g (o ∷ os) = ((a b : ℕ) → T (has a o) → In b os → Joined g a b �
 
 apart-snoc : (g : Grid) (os : List (List ℕ)) (o : List ℕ) → Apart g os → ((a b : ℕ) → In a os → T (has b o) → Joined g a b → ⊥) → Apart g (os ++ (o ∷ []))
 apart-snoc g [] o p h = ((λ a b s t j. t), tt)
-apart-snoc g (q ∷ os) o p h =
-    ((λ a b s t j. ⊎-elim (λ u. p .0 a b s u j) (λ u. h a b (or-left (has a q) (some-of (has a) os) s) u j) (in-snoc b os o t)),
-      apart-snoc g os o (p .1) (λ a b s t. h a b (or-right (has a q) (some-of (has a) os) s) t))
+apart-snoc g (q ∷ os) o p h = (
+  (λ a b s t j. ⊎-elim (λ u. p .0 a b s u j) (λ u. h a b (or-left (has a q) (some-of (has a) os) s) u j) (in-snoc b os o t)),
+  apart-snoc g os o (p .1) (λ a b s t. h a b (or-right (has a q) (some-of (has a) os) s) t),
+)
 
 -- a largest set of joined 0-cells, lowest first
 pub record Full (g : Grid) (o : List ℕ) : Type 0 where
@@ -182,7 +186,7 @@ full-joinedTo g i z =
       joined-in = λ a b t j. →joinedTo g i b (joined-trans g i a b (joinedTo→ g i a z t) j);
       linked = λ a b t u. joined-trans g a i b (joined-sym g i a (joinedTo→ g i a z t)) (joinedTo→ g i b z u);
       in-order = ordered-joinedTo g i;
-      begun = (i, →joinedTo g i i (itself (z .inside) (z .none)))
+      begun = (i, →joinedTo g i i (itself (z .inside) (z .none)));
     }
 
 -- what holds of the openings gathered so far
@@ -197,12 +201,12 @@ add-one-opening g os i z n h =
     record {
       full = each-snoc (Full g) os (joinedTo g i) (h .full) (full-joinedTo g i z);
       apart = apart-snoc g os (joinedTo g i) (h .apart)
-        (λ a b s t j. n (h .whole a i s (joined-trans g a b i j (joined-sym g i b (joinedTo→ g i b z t)))));
+          (λ a b s t j. n (h .whole a i s (joined-trans g a b i j (joined-sym g i b (joinedTo→ g i b z t)))));
       zeros = λ a t. ⊎-elim (λ u. h .zeros a u) (λ u. joined-last g i a (joinedTo→ g i a z u)) (in-snoc a os (joinedTo g i) t);
       whole = λ a b t j.
-        ⊎-elim (λ u. snoc-old b os (joinedTo g i) (h .whole a b u j))
-        (λ u. snoc-new b os (joinedTo g i) (→joinedTo g i b (joined-trans g i a b (joinedTo→ g i a z u) j)))
-        (in-snoc a os (joinedTo g i) t)
+          ⊎-elim (λ u. snoc-old b os (joinedTo g i) (h .whole a b u j))
+          (λ u. snoc-new b os (joinedTo g i) (→joinedTo g i b (joined-trans g i a b (joinedTo→ g i a z u) j)))
+          (in-snoc a os (joinedTo g i) t);
     }
 
 pub good-gather : (g : Grid) (os : List (List ℕ)) (i : ℕ) → i < size g → Good g os → Good g (gather g os i)

@@ -52,9 +52,10 @@ ordered-map R S f (x ∷ xs) h o =
 
 ordered-append : (R : ℕ → ℕ → Type 0) (xs ys : List ℕ) → Ordered R xs → Ordered R ys → ((x y : ℕ) → T (has x xs) → T (has y ys) → R x y) → Ordered R (xs ++ ys)
 ordered-append R [] ys o p d = p
-ordered-append R (x ∷ xs) ys o p d =
-    ((λ y t. ⊎-elim (λ u. o .0 y u) (λ u. d x y (has-head x x xs refl) u) (has-append-cases y xs ys t)),
-      ordered-append R xs ys (o .1) p (λ z y t u. d z y (has-tail z x xs t) u))
+ordered-append R (x ∷ xs) ys o p d = (
+  (λ y t. ⊎-elim (λ u. o .0 y u) (λ u. d x y (has-head x x xs refl) u) (has-append-cases y xs ys t)),
+  ordered-append R xs ys (o .1) p (λ z y t u. d z y (has-tail z x xs t) u),
+)
 
 pub ordered-concat-map : (R S : ℕ → ℕ → Type 0) (f : ℕ → List ℕ) (xs : List ℕ) → Ordered R xs → ((x : ℕ) → T (has x xs) → Ordered S (f x))
     → ((x y z w : ℕ) → T (has x xs) → T (has y xs) → R x y → T (has z (f x)) → T (has w (f y)) → S z w) → Ordered S (concat-map f xs)
@@ -63,4 +64,4 @@ ordered-concat-map R S f (x ∷ xs) o h d =
     ordered-append S (f x) (concat-map f xs) (first-of x xs h)
     (ordered-concat-map R S f xs (o .1) (rest-of x xs h) (λ y q z w t u. d y q z w (has-tail y x xs t) (has-tail q x xs u)))
     (λ z w t u. let k = concat-map-has f w xs u in
-      d x (k .0) z w (has-head x x xs refl) (has-tail (k .0) x xs (k .1)) (o .0 (k .0) (k .1)) t (k .2))
+    d x (k .0) z w (has-head x x xs refl) (has-tail (k .0) x xs (k .1)) (o .0 (k .0) (k .1)) t (k .2))

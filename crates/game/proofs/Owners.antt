@@ -41,9 +41,9 @@ owner-in g c (o ∷ os) z a e t = go (λ u. owner-in g c os z (a .1) (e .1) u) (
           full = e .0;
           has-it = h;
           only = λ f.
-            let x = ap (λ (b : Bool). bit (b && f o)) q in
-            let y = count-off c f os (λ v. a .0 c c h v (itself (z .inside) (z .none))) in
-            omega arith
+              let x = ap (λ (b : Bool). bit (b && f o)) q in
+              let y = count-off c f os (λ v. a .0 c c h v (itself (z .inside) (z .none))) in
+              omega arith;
         }
     go more false q u =
         let r = more u in
@@ -52,9 +52,9 @@ owner-in g c (o ∷ os) z a e t = go (λ u. owner-in g c os z (a .1) (e .1) u) (
           full = r .full;
           has-it = r .has-it;
           only = λ f.
-            let x = ap (λ (b : Bool). bit (b && f o)) q in
-            let y = r .only f in
-            omega arith
+              let x = ap (λ (b : Bool). bit (b && f o)) q in
+              let y = r .only f in
+              omega arith;
         }
 
 pub owner : (g : Grid) (c : ℕ) → Zero g c → Owner g c (openings g)
@@ -64,7 +64,7 @@ owner g c z = owner-in g c (openings g) z (good g .apart) (good g .full) (covere
 pub same-holds : (g : Grid) (c x : ℕ) (o : List ℕ) → Zero g c → Full g o → T (has c o) → holds g x o ≡ holds g x (joinedTo g c)
 same-holds g c x o z f t =
     some-ext (λ j. has j o) (λ j. has j (joinedTo g c)) (square g x) (λ j. iff (has j o) (has j (joinedTo g c))
-      (λ u. →joinedTo g c j (f .linked c j t u)) (λ u. f .joined-in c j t (joinedTo→ g c j z u)))
+    (λ u. →joinedTo g c j (f .linked c j t u)) (λ u. f .joined-in c j t (joinedTo→ g c j z u)))
 
 -- the 0-cells of each opening are closed together
 unfoldable pub Even : Grid → Position → Type 0

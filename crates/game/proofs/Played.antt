@@ -3,16 +3,16 @@ use Prim.Native.Nat.{ℕ, _<_}
 use native.Mathlib.Omega.{arith}
 use native.Mathlib.Decide.{ℕ-discrete}
 use mathlib.Core.Path.{_∙_, _≡_, ap, refl, subst, sym}
-use mathlib.Core.Bool.{Bool, _&&_, _||_, cond, false, not, true}
+use mathlib.Core.Bool.{Bool, _&&_, cond, false, not, true}
 use mathlib.Core.List.{List, [], _∷_}
 use mathlib.Core.Option.{none}
 use lib.Dec.{T, T-not, eqb, ltb, ltb→lt, not-T}
 use lib.ListN.{getD, getD-replicate, length, length-replicate, length-set, set}
 use lib.Seq.{getD-set-other, getD-set-same}
 use Rattle.game.specs.Demands.{AllLegal}
-use Rattle.game.specs.Grid.{Grid, mine, safe, size, square, zeroCell}
-use Rattle.game.specs.Lists.{all-of, fold, has}
-use Rattle.game.specs.Moves.{Move, after, chord, flag, left, legal, play, reveal, sweep}
+use Rattle.game.specs.Grid.{Grid, mine, safe, size, square}
+use Rattle.game.specs.Lists.{fold, has}
+use Rattle.game.specs.Moves.{Move, after, cellOf, chord, chordable, flag, left, legal, play, reveal, sweep}
 use Rattle.game.specs.Openings.{Joined, holds, joinedTo}
 use Rattle.game.specs.Position.{Position, closed, flagged, opened, untouched}
 use Rattle.game.proofs.Chains.{joined-first, joined-last, joined-sym, joined-trans}
@@ -46,7 +46,7 @@ untouched-played g =
       even = λ a b j. ap (λ (k : ℕ). eqb k 0) (zero-at a (joined-first g a b j .inside) ∙ sym (zero-at b (joined-last g a b j .inside)));
       around = λ z j zz h c t. rw (zero-at z (zz .inside)) tt;
       safes = λ j h t. ap (λ (k : ℕ). eqb k 1) (zero-at j h) ∙ sym (ap (λ (k : ℕ). not (eqb k 0)) (zero-at j h));
-      mines = λ j h t. ap (λ (k : ℕ). eqb k 2) (zero-at j h) ∙ sym (ap (λ (k : ℕ). not (eqb k 0)) (zero-at j h))
+      mines = λ j h t. ap (λ (k : ℕ). eqb k 2) (zero-at j h) ∙ sym (ap (λ (k : ℕ). not (eqb k 0)) (zero-at j h));
     }
   where
     zero-at : (j : ℕ) → j < size g → getD (untouched g) j 0 ≡ 0
@@ -61,26 +61,32 @@ set-played g s c v h f n e p q =
       long = length-set s c v ∙ f .long;
       even = λ a b j. other a (apart a (joined-first g a b j)) ∙ f .even a b j ∙ sym (other b (apart b (joined-last g a b j)));
       around = λ z j zz hj cl t.
-        elim (ℕ-discrete j c) [
-          yes k ↦ absurd (subst T (ap (closed (set s c v)) k ∙ here) t)
-        | no k ↦ subst T (sym (other z (apart z zz))) (f .around z j zz hj cl (subst T (other j k) t)) ];
+          elim (ℕ-discrete j c) [
+            | yes k ↦ absurd (subst T (ap (closed (set s c v)) k ∙ here) t)
+            | no k ↦ subst T (sym (other z (apart z zz))) (f .around z j zz hj cl (subst T (other j k) t))
+          ];
       safes = λ j hj t. state j 1 (λ k. p (subst (λ (x : ℕ). T (safe g x)) k t)) (f .safes j hj t);
-      mines = λ j hj t. state j 2 (λ k. q (subst (λ (x : ℕ). T (mine g x)) k t)) (f .mines j hj t)
+      mines = λ j hj t. state j 2 (λ k. q (subst (λ (x : ℕ). T (mine g x)) k t)) (f .mines j hj t);
     }
   where
     apart : (z : ℕ) → Zero g z → z ≡ c → ⊥
     apart z zz k = n (subst (Zero g) k zz)
+
     other : (j : ℕ) → (j ≡ c → ⊥) → closed (set s c v) j ≡ closed s j
     other j k = ap (λ (x : ℕ). eqb x 0) (getD-set-other s c j v 0 k)
+
     put : (j : ℕ) → j ≡ c → getD (set s c v) j 0 ≡ v
     put j k = ap (λ (x : ℕ). getD (set s c v) x 0) k ∙ getD-set-same s c v 0 (omega (arith, f .long))
+
     here : closed (set s c v) c ≡ false
     here = ap (λ (x : ℕ). eqb x 0) (put c refl) ∙ e
+
     state : (j w : ℕ) → (j ≡ c → eqb v w ≡ true) → eqb (getD s j 0) w ≡ not (closed s j) → eqb (getD (set s c v) j 0) w ≡ not (closed (set s c v) j)
     state j w r o =
         elim (ℕ-discrete j c) [
-          yes k ↦ ap (λ (x : ℕ). eqb x w) (put j k) ∙ r k ∙ sym (ap (λ (x : ℕ). not (eqb x 0)) (put j k) ∙ ap not e)
-        | no k ↦ ap (λ (x : ℕ). eqb x w) (getD-set-other s c j v 0 k) ∙ o ∙ sym (ap not (other j k)) ]
+          | yes k ↦ ap (λ (x : ℕ). eqb x w) (put j k) ∙ r k ∙ sym (ap (λ (x : ℕ). not (eqb x 0)) (put j k) ∙ ap not e)
+          | no k ↦ ap (λ (x : ℕ). eqb x w) (getD-set-other s c j v 0 k) ∙ o ∙ sym (ap not (other j k))
+        ]
 
 -- ---- an opening is swept
 
@@ -93,33 +99,37 @@ sweep-played g s c z f =
     record {
       long = length-sweep g s c;
       even = λ a b j. shut a (joined-first g a b j .inside) ∙ both (held a) (held b) (closed s a) (closed s b)
-        (λ u. joined-held g c b b (joined-last g a b j .inside) (joined-trans g c a b (held-joined g c a z (joined-first g a b j) u) j) (self-close g b))
-        (λ u. joined-held g c a a (joined-first g a b j .inside) (joined-trans g c b a (held-joined g c b z (joined-last g a b j) u) (joined-sym g a b j)) (self-close g a))
-        (f .even a b j) ∙ sym (shut b (joined-last g a b j .inside));
+          (λ u. joined-held g c b b (joined-last g a b j .inside) (joined-trans g c a b (held-joined g c a z (joined-first g a b j) u) j) (self-close g b))
+          (λ u. joined-held g c a a (joined-first g a b j .inside) (joined-trans g c b a (held-joined g c b z (joined-last g a b j) u) (joined-sym g a b j)) (self-close g a))
+          (f .even a b j) ∙ sym (shut b (joined-last g a b j .inside));
       around = λ y j zy hj cl u.
-        let v = subst T (shut j hj) u in
-        let w = f .around y j zy hj cl (and-right (not (held j)) (closed s j) v) in
-        subst T (sym (shut y (zy .inside))) (and-both (not (held y)) (closed s y)
+          let v = subst T (shut j hj) u in
+          let w = f .around y j zy hj cl (and-right (not (held j)) (closed s j) v) in
+          subst T (sym (shut y (zy .inside))) (and-both (not (held y)) (closed s y)
           (not-T (held y) (λ k. T-not (held j) (and-left (not (held j)) (closed s j) v) (joined-held g c y j hj (held-joined g c y z zy k) cl))) w);
       safes = λ j hj u. ap (λ (x : ℕ). eqb x 1) (getD-sweep g s c j hj) ∙ one (held j) (getD s j 0) (f .safes j hj u)
-        ∙ sym (ap (λ (x : ℕ). not (eqb x 0)) (getD-sweep g s c j hj));
+          ∙ sym (ap (λ (x : ℕ). not (eqb x 0)) (getD-sweep g s c j hj));
       mines = λ j hj u.
-        let q = getD-sweep g s c j hj ∙ ap (λ (b : Bool). cond b 1 (getD s j 0)) (no→false (held j) (mine-off g c j z hj u)) in
-        ap (λ (x : ℕ). eqb x 2) q ∙ f .mines j hj u ∙ sym (ap (λ (x : ℕ). not (eqb x 0)) q)
+          let q = getD-sweep g s c j hj ∙ ap (λ (b : Bool). cond b 1 (getD s j 0)) (no→false (held j) (mine-off g c j z hj u)) in
+          ap (λ (x : ℕ). eqb x 2) q ∙ f .mines j hj u ∙ sym (ap (λ (x : ℕ). not (eqb x 0)) q);
     }
   where
     held : ℕ → Bool
     held j = holds g j (joinedTo g c)
+
     shut-one : (b : Bool) (x : ℕ) → eqb (cond b 1 x) 0 ≡ (not b && eqb x 0)
     shut-one true x = refl
     shut-one false x = refl
+
     shut : (j : ℕ) → j < size g → closed (sweep g s c) j ≡ (not (held j) && closed s j)
     shut j h = ap (λ (x : ℕ). eqb x 0) (getD-sweep g s c j h) ∙ shut-one (held j) (getD s j 0)
+
     both : (p q x y : Bool) → (T p → T q) → (T q → T p) → x ≡ y → (not p && x) ≡ (not q && y)
     both true true x y h k r = refl
     both true false x y h k r = absurd (h tt)
     both false true x y h k r = absurd (k tt)
     both false false x y h k r = r
+
     one : (b : Bool) (x : ℕ) → eqb x 1 ≡ not (eqb x 0) → eqb (cond b 1 x) 1 ≡ not (eqb (cond b 1 x) 0)
     one true x h = refl
     one false x h = h
@@ -143,21 +153,14 @@ flag-played g s m h t f =
     set-played g s m 2 h f (λ z. T-not (mine g m) (zero-safe g m z) t) refl (λ u. absurd (T-not (mine g m) u t)) (λ u. refl)
 
 -- a legal move is on a cell of the grid
-pub cellOf : Move → ℕ
-cellOf (left i) = i
-cellOf (flag i) = i
-cellOf (chord i) = i
-
 pub legal-inside : (g : Grid) (s : Position) (m : Move) → T (legal g s m) → cellOf m < size g
-unfolding legal cellOf
+unfolding legal
 legal-inside g s (left i) t = ltb→lt i (size g) (and-left (ltb i (size g)) (safe g i) (and-left (ltb i (size g) && safe g i) (closed s i) t))
 legal-inside g s (flag i) t = ltb→lt i (size g) (and-left (ltb i (size g)) (mine g i) (and-left (ltb i (size g) && mine g i) (closed s i) t))
-legal-inside g s (chord i) t =
-    ltb→lt i (size g) (and-left (ltb i (size g)) (opened s i) (and-left (ltb i (size g) && opened s i) (not (zeroCell g i))
-      (and-left (ltb i (size g) && opened s i && not (zeroCell g i)) (all-of (λ j. not (mine g j) || flagged s j) (square g i)) t)))
+legal-inside g s (chord i) t = ltb→lt i (size g) (and-left (ltb i (size g)) (chordable g s i) t)
 
 pub play-played : (g : Grid) (s : Position) (m : Move) → T (legal g s m) → Played g s → Played g (play g s m)
-unfolding play legal cellOf
+unfolding play legal
 play-played g s (left i) t f = reveal-played g s i (legal-inside g s (left i) t) f
 play-played g s (flag i) t f =
     flag-played g s i (legal-inside g s (flag i) t) (and-right (ltb i (size g)) (mine g i) (and-left (ltb i (size g) && mine g i) (closed s i) t)) f

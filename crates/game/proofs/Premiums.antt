@@ -60,9 +60,10 @@ module _ (g : Grid) (s : Position) (c : ℕ) (inside : c < size g) (long : lengt
   flags-stay : (j : ℕ) → flagged (set s c 1) j ≡ flagged s j
   flags-stay j =
       elim (ℕ-discrete j c) [
-        yes e ↦ ap (λ (k : ℕ). eqb k 2) (ap (λ (k : ℕ). getD (set s c 1) k 0) e ∙ state-c)
-          ∙ sym (ap (λ (k : ℕ). eqb k 2) (ap (λ (k : ℕ). getD s k 0) e ∙ eqb→eq (getD s c 0) 0 shut))
-      | no n ↦ ap (λ (k : ℕ). eqb k 2) (getD-set-other s c j 1 0 n) ]
+        | yes e ↦ ap (λ (k : ℕ). eqb k 2) (ap (λ (k : ℕ). getD (set s c 1) k 0) e ∙ state-c)
+            ∙ sym (ap (λ (k : ℕ). eqb k 2) (ap (λ (k : ℕ). getD s k 0) e ∙ eqb→eq (getD s c 0) 0 shut))
+        | no n ↦ ap (λ (k : ℕ). eqb k 2) (getD-set-other s c j 1 0 n)
+      ]
 
   -- it costs one less itself
   pub open-cost : (x : ℕ) → cost g s x ≡ cost g (set s c 1) x + bit (eqb x c)
@@ -70,15 +71,16 @@ module _ (g : Grid) (s : Position) (c : ℕ) (inside : c < size g) (long : lengt
   open-cost x =
       let a = count-ext (unflagged g (set s c 1)) (unflagged g s) (square g x) (λ j t. ap (λ (b : Bool). mine g j && not b) (flags-stay j)) in
       elim (ℕ-discrete x c) [
-        yes e ↦
-          let b = ap (λ (k : ℕ). bit (eqb k 0)) (ap (λ (k : ℕ). getD (set s c 1) k 0) e ∙ state-c) in
-          let d = bit-yes (closed s x) (rw e shut) in
-          let k = ap bit (eqb-yes x c e) in
-          omega arith
-      | no n ↦
-          let b = ap bit (closed-off x n) in
-          let k = ap bit (eqb-no x c n) in
-          omega arith ]
+        | yes e ↦
+            let b = ap (λ (k : ℕ). bit (eqb k 0)) (ap (λ (k : ℕ). getD (set s c 1) k 0) e ∙ state-c) in
+            let d = bit-yes (closed s x) (rw e shut) in
+            let k = ap bit (eqb-yes x c e) in
+            omega arith
+        | no n ↦
+            let b = ap bit (closed-off x n) in
+            let k = ap bit (eqb-no x c n) in
+            omega arith
+      ]
 
   openings-stay : (o : List ℕ) → Full g o → openingClosed (set s c 1) o ≡ openingClosed s o
   openings-stay o f =
@@ -89,12 +91,12 @@ module _ (g : Grid) (s : Position) (c : ℕ) (inside : c < size g) (long : lengt
   unfolding gain
   open-gain x =
       let a = count-each (λ o. holds g x o && openingClosed (set s c 1) o) (λ o. holds g x o && openingClosed s o) (openings g)
-              (each-map (openings g) (λ o f. ap (λ (b : Bool). holds g x o && b) (openings-stay o f)) (good g .full)) in
+      (each-map (openings g) (λ o f. ap (λ (b : Bool). holds g x o && b) (openings-stay o f)) (good g .full)) in
       let b = count-drop (cellUnit g s) (cellUnit g (set s c 1)) c (square g x) (once-square g x)
-              (λ j n. ap (λ (b : Bool). unlabelled g j && b) (sym (closed-off j n)))
-              (ap (λ (k : ℕ). unlabelled g c && eqb k 0) state-c ∙ sym (and-false (unlabelled g c))) in
+      (λ j n. ap (λ (b : Bool). unlabelled g j && b) (sym (closed-off j n)))
+      (ap (λ (k : ℕ). unlabelled g c && eqb k 0) state-c ∙ sym (and-false (unlabelled g c))) in
       let d = ap (λ (b : Bool). bit (has c (square g x) && b))
-              (ap (λ (b : Bool). unlabelled g c && b) (T→true (closed s c) shut) ∙ sym (and-true (unlabelled g c))) in
+      (ap (λ (b : Bool). unlabelled g c && b) (T→true (closed s c) shut) ∙ sym (and-true (unlabelled g c))) in
       omega arith
 
   -- -1 in the square of a cell without label, +1 at the cell itself
@@ -112,10 +114,10 @@ module _ (g : Grid) (s : Position) (m : ℕ) (inside : m < size g) (long : lengt
   unfolding gain
   flag-gain x =
       let a = count-each (λ o. holds g x o && openingClosed (set s m 2) o) (λ o. holds g x o && openingClosed s o) (openings g)
-              (each-map (openings g) (λ o f. ap (λ (b : Bool). holds g x o && b)
-                (all-ext (closed (set s m 2)) (closed s) o (λ z t. safe-stays z (zero-safe g z (f .zero-cell z t))))) (good g .full)) in
+      (each-map (openings g) (λ o f. ap (λ (b : Bool). holds g x o && b)
+      (all-ext (closed (set s m 2)) (closed s) o (λ z t. safe-stays z (zero-safe g z (f .zero-cell z t))))) (good g .full)) in
       let b = count-ext (cellUnit g (set s m 2)) (cellUnit g s) (square g x)
-              (λ j t. and-under (unlabelled g j) (closed (set s m 2) j) (closed s j) (λ u. safe-stays j (unlabelled-safe g j u))) in
+      (λ j t. and-under (unlabelled g j) (closed (set s m 2) j) (closed s j) (λ u. safe-stays j (unlabelled-safe g j u))) in
       omega arith
 
   -- each safe cell in its square costs one less
@@ -123,10 +125,10 @@ module _ (g : Grid) (s : Position) (m : ℕ) (inside : m < size g) (long : lengt
   unfolding cost
   flag-cost x t =
       let a = count-drop (unflagged g s) (unflagged g (set s m 2)) m (square g x) (once-square g x)
-              (λ j n. ap (λ (k : ℕ). mine g j && not (eqb k 2)) (sym (getD-set-other s m j 2 0 n)))
-              (ap (λ (k : ℕ). mine g m && not (eqb k 2)) (getD-set-same s m 2 0 (omega arith)) ∙ sym (and-false (mine g m))) in
+      (λ j n. ap (λ (k : ℕ). mine g j && not (eqb k 2)) (sym (getD-set-other s m j 2 0 n)))
+      (ap (λ (k : ℕ). mine g m && not (eqb k 2)) (getD-set-same s m 2 0 (omega arith)) ∙ sym (and-false (mine g m))) in
       let b = ap (λ (b : Bool). bit (has m (square g x) && b))
-              (ap (λ (k : ℕ). mine g m && not (eqb k 2)) (eqb→eq (getD s m 0) 0 shut) ∙ ap (λ (b : Bool). b && true) (T→true (mine g m) is-mine)) in
+      (ap (λ (k : ℕ). mine g m && not (eqb k 2)) (eqb→eq (getD s m 0) 0 shut) ∙ ap (λ (b : Bool). b && true) (T→true (mine g m) is-mine)) in
       let c = ap bit (and-true (has m (square g x))) in
       let d = ap bit (safe-stays x t) in
       omega arith
@@ -158,9 +160,9 @@ module _ (g : Grid) (s : Position) (c : ℕ) (z : Zero g c) (shut : T (closed s 
   unfolding cost
   sweep-cost x h =
       let a = count-ext (unflagged g (reveal g s c)) (unflagged g s) (square g x)
-              (λ j t. and-under (mine g j) (not (flagged (reveal g s c) j)) (not (flagged s j)) (λ u.
-                let hj = square→ g x j h t .0 in
-                ap (λ (k : ℕ). not (eqb k 2)) (unswept j hj (mine-off g c j z hj u)))) in
+      (λ j t. and-under (mine g j) (not (flagged (reveal g s c) j)) (not (flagged s j)) (λ u.
+      let hj = square→ g x j h t .0 in
+      ap (λ (k : ℕ). not (eqb k 2)) (unswept j hj (mine-off g c j z hj u)))) in
       let b = ap (λ (k : ℕ). bit (eqb k 0)) (swept x h) in
       let d = one (holds g x (joinedTo g c)) (getD s x 0) in
       omega arith
@@ -176,15 +178,15 @@ module _ (g : Grid) (s : Position) (c : ℕ) (z : Zero g c) (shut : T (closed s 
       let w = owner g c z in
       let a = count-split (λ o. holds g x o && openingClosed s o) (λ o. has c o) (openings g) in
       let b = count-each (λ o. holds g x o && openingClosed (reveal g s c) o) (λ o. holds g x o && openingClosed s o && not (has c o)) (openings g)
-              (each-map (openings g) (λ o f. sym (and-inside (holds g x o) (openingClosed s o) (openingClosed (reveal g s c) o) (has c o)
-                (λ _. reveal-opening g s c o (z .inside) l f))) (good g .full)) in
+      (each-map (openings g) (λ o f. sym (and-inside (holds g x o) (openingClosed s o) (openingClosed (reveal g s c) o) (has c o)
+      (λ _. reveal-opening g s c o (z .inside) l f))) (good g .full)) in
       let d = w .only (λ o. holds g x o && openingClosed s o) in
       let e : bit (holds g x (w .opening) && openingClosed s (w .opening)) ≡ bit (holds g x (joinedTo g c)) =
-            ap (λ (b : Bool). bit (holds g x (w .opening) && b)) (even-closed g s (w .opening) c ev (w .full) (w .has-it) shut)
-            ∙ ap bit (sym (and-true (holds g x (w .opening))) ∙ same-holds g c x (w .opening) z (w .full) (w .has-it)) in
+      ap (λ (b : Bool). bit (holds g x (w .opening) && b)) (even-closed g s (w .opening) c ev (w .full) (w .has-it) shut)
+      ∙ ap bit (sym (and-true (holds g x (w .opening))) ∙ same-holds g c x (w .opening) z (w .full) (w .has-it)) in
       let k = count-ext (cellUnit g (reveal g s c)) (cellUnit g s) (square g x)
-              (λ j t. and-under (unlabelled g j) (closed (reveal g s c) j) (closed s j) (λ u.
-                ap (λ (k : ℕ). eqb k 0) (unswept j (square→ g x j h t .0) (unlabelled-off g j c u z)))) in
+      (λ j t. and-under (unlabelled g j) (closed (reveal g s c) j) (closed s j) (λ u.
+      ap (λ (k : ℕ). eqb k 0) (unswept j (square→ g x j h t .0) (unlabelled-off g j c u z)))) in
       omega arith
 
   -- at each cell of the opening -1, and +1 if it was closed

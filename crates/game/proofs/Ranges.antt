@@ -34,7 +34,7 @@ pub length-square : (g : Grid) (i : ℕ) → length (square g i) ≤ 9
 unfolding square
 length-square g i =
     let a = length-rows (λ r. map (λ c. index g r c) (near (g .columns) (columnOf g i))) (near (g .rows) (rowOf g i))
-            (λ r. omega (arith, length-map (near (g .columns) (columnOf g i)) (λ c. index g r c), length-near (g .columns) (columnOf g i))) in
+    (λ r. omega (arith, length-map (near (g .columns) (columnOf g i)) (λ c. index g r c), length-near (g .columns) (columnOf g i))) in
     omega (arith, length-near (g .rows) (rowOf g i))
 
 -- a test that one cell of the list fails
@@ -78,11 +78,12 @@ gain-range g s i h =
     let d = count-le (cellUnit g s) (square g i) in
     let e = length-square g i in
     elim (decLe 1 (count (holds g i) (openings g))) [
-      yes k ↦
-        let w = labelled→zero g i (held-some g i (openings g) k) in
-        let f = count-short (cellUnit g s) (w .0) (square g i) (w .1) (λ u. zero-labelled g (w .0) (w .2) (and-left (unlabelled g (w .0)) (closed s (w .0)) u)) in
-        omega arith
-    | no k ↦ omega arith ]
+      | yes k ↦
+          let w = labelled→zero g i (held-some g i (openings g) k) in
+          let f = count-short (cellUnit g s) (w .0) (square g i) (w .1) (λ u. zero-labelled g (w .0) (w .2) (and-left (unlabelled g (w .0)) (closed s (w .0)) u)) in
+          omega arith
+      | no k ↦ omega arith
+    ]
 
 -- a safe cell costs at least one, and at most ten: it is no mine itself
 pub cost-range : (g : Grid) (s : Position) (i : ℕ) → i < size g → T (safe g i) → (1 ≤ cost g s i) × (cost g s i ≤ 10)

@@ -122,10 +122,11 @@ zero-labelled g c z t = no-zero-near g c c t (in-own-square g c (z .inside)) z
 pub reveal-unlabelled : (g : Grid) (s : Position) (c j : ℕ) → c < size g → length s ≡ size g → Unlabelled g j → closed (reveal g s c) j ≡ (closed s j && not (eqb j c))
 reveal-unlabelled g s c j h l k =
     elim (ℕ-discrete j c) [
-      yes e ↦ ap (closed (reveal g s c)) e ∙ reveal-self g s c h l (subst (λ (x : ℕ). T (safe g x)) e (unlabelled-safe g j (k .bare)))
-        ∙ and-false (closed s j) ∙ ap (λ (b : Bool). closed s j && not b) (sym (eqb-yes j c e))
-    | no n ↦ reveal-same g s c j (k .inside) n (λ z t. unlabelled-off g j c (k .bare) (record { inside = h; none = z }) t)
-        ∙ and-true (closed s j) ∙ ap (λ (b : Bool). closed s j && not b) (sym (eqb-no j c n)) ]
+      | yes e ↦ ap (closed (reveal g s c)) e ∙ reveal-self g s c h l (subst (λ (x : ℕ). T (safe g x)) e (unlabelled-safe g j (k .bare)))
+          ∙ and-false (closed s j) ∙ ap (λ (b : Bool). closed s j && not b) (sym (eqb-yes j c e))
+      | no n ↦ reveal-same g s c j (k .inside) n (λ z t. unlabelled-off g j c (k .bare) (record { inside = h; none = z }) t)
+          ∙ and-true (closed s j) ∙ ap (λ (b : Bool). closed s j && not b) (sym (eqb-no j c n))
+    ]
 
 -- ---- openings
 
@@ -149,10 +150,10 @@ reveal-opening g s c o h l f = go (has c o) refl
         all-no (closed (reveal g s c)) c o t (reveal-self g s c h l (zero-safe g c (f .zero-cell c t))) ∙ and-false (openingClosed s o)
     go false e =
         all-ext (closed (reveal g s c)) (closed s) o (λ z t.
-          let zz = f .zero-cell z t in
-          let n : T (has c o) → ⊥ = λ u. subst T e u in
-          reveal-same g s c z (zz .inside) (λ q. n (rw q at t))
-          (λ zc u. n (f .joined-in z c t (joined-sym g c z (held-joined g c z (record { inside = h; none = zc }) zz u)))))
+        let zz = f .zero-cell z t in
+        let n : T (has c o) → ⊥ = λ u. subst T e u in
+        reveal-same g s c z (zz .inside) (λ q. n (rw q at t))
+        (λ zc u. n (f .joined-in z c t (joined-sym g c z (held-joined g c z (record { inside = h; none = zc }) zz u)))))
         ∙ and-true (openingClosed s o)
 
 -- ---- a list of cells is revealed one after the other

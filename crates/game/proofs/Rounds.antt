@@ -37,6 +37,7 @@ steps-run (suc n) openedOnly g s f =
   where
     t : Step
     t = stepOf g s (choice openedOnly g s) 0
+
     go : (Played g (afterStep g s t) → Run g (afterStep g s t) (stepsFrom n openedOnly g (afterStep g s t))) → (k : ℕ) → closedSafe g s ≡ k
         → Run g s (elim k [ zero ↦ [] | suc k ↦ t ∷ stepsFrom n openedOnly g (afterStep g s t) ])
     go r zero e = tt
@@ -48,13 +49,15 @@ steps-run (suc n) openedOnly g s f =
 pub steps-end : (n : ℕ) (openedOnly : Bool) (g : Grid) (s : Position) → Played g s → closedUnits g s ≤ n → closedSafe g (after g s (movesOf (stepsFrom n openedOnly g s))) ≡ 0
 steps-end zero openedOnly g s f h =
     elim (decLe 1 (closedSafe g s)) [
-      yes k ↦ absurd (omega (arith, fit-takes g s (stepOf g s (choice openedOnly g s) 0) f (choice-fits openedOnly g s 0 (never-stuck openedOnly g s f k))))
-    | no k ↦ omega arith ]
+      | yes k ↦ absurd (omega (arith, fit-takes g s (stepOf g s (choice openedOnly g s) 0) f (choice-fits openedOnly g s 0 (never-stuck openedOnly g s f k))))
+      | no k ↦ omega arith
+    ]
 steps-end (suc n) openedOnly g s f h =
     go (λ p l. steps-end n openedOnly g (afterStep g s t) p l) (closedSafe g s) refl
   where
     t : Step
     t = stepOf g s (choice openedOnly g s) 0
+
     go : (Played g (afterStep g s t) → closedUnits g (afterStep g s t) ≤ n → closedSafe g (after g (afterStep g s t) (movesOf (stepsFrom n openedOnly g (afterStep g s t)))) ≡ 0)
         → (k : ℕ) → closedSafe g s ≡ k → closedSafe g (after g s (movesOf (elim k [ zero ↦ [] | suc k ↦ t ∷ stepsFrom n openedOnly g (afterStep g s t) ]))) ≡ 0
     go r zero e = e
@@ -83,7 +86,11 @@ clicks-run g (i ∷ is) s h f =
         let t : T (zeroCell g i && closed s i) = rw e tt in
         let z : Zero g i = record { inside = first-of i is h; none = and-left (zeroCell g i) (closed s i) t } in
         let p : Fits g s (clickStep i) = unit i (→unit g s i (record {
-              inside = z .inside; is-safe = zero-safe g i z; is-closed = and-right (zeroCell g i) (closed s i) t; which = inl (z .none) })) in
+          inside = z .inside;
+          is-safe = zero-safe g i z;
+          is-closed = and-right (zeroCell g i) (closed s i) t;
+          which = inl (z .none);
+        })) in
         (p, hit (step-played g s (clickStep i) f p))
     go false e hit miss = miss
 
@@ -92,14 +99,17 @@ unfolding openingsFirstSteps firstClicks
 openings-first-sound g =
     sound g (firstClicks g ++ stepsFrom (threeBV g) true g hit) (run-append g (untouched g) (firstClicks g) (stepsFrom (threeBV g) true g hit) first (steps-run (threeBV g) true g hit played))
     (ap (closedSafe g) (ap (after g (untouched g)) (moves-append (firstClicks g) (stepsFrom (threeBV g) true g hit)) ∙ after-append g (movesOf (firstClicks g)) (movesOf (stepsFrom (threeBV g) true g hit)) (untouched g))
-      ∙ steps-end (threeBV g) true g hit played (enough (run-falls g (untouched g) (firstClicks g) (untouched-played g) first)))
+    ∙ steps-end (threeBV g) true g hit played (enough (run-falls g (untouched g) (firstClicks g) (untouched-played g) first)))
   where
     hit : Position
     hit = after g (untouched g) (movesOf (firstClicks g))
+
     first : Run g (untouched g) (firstClicks g)
     first = clicks-run g (cells g) (untouched g) (cells→ g) (untouched-played g)
+
     played : Played g hit
     played = run-played g (untouched g) (firstClicks g) (untouched-played g) first
+
     enough : closedUnits g hit ≤ closedUnits g (untouched g) → closedUnits g hit ≤ threeBV g
     enough h = omega (arith, units-untouched g)
 
@@ -141,7 +151,7 @@ rounded-first g bytes s at n t d (some e) f p h r =
       fits = (p, r .fits);
       ends = λ k. ap (closedSafe g) (after-append g (t .moves) (movesOf (e .steps)) s) ∙ r .ends (omega (arith, fit-takes g s t f p));
       onward-from = omega (arith, h .0, r .onward-from);
-      within = λ k. r .within (h .1 k)
+      within = λ k. r .within (h .1 k);
     }
 
 pub random-rounded : (n : ℕ) (g : Grid) (bytes : List ℕ) (s : Position) (at : ℕ) → Played g s → IfSome (Rounded g bytes s at n) (randomFrom n g bytes s at)
@@ -152,13 +162,16 @@ random-rounded (suc n) g bytes s at f =
   where
     c : Choice
     c = choice false g s
+
     go : ((t : Step) (d : Drawn) → Played g (afterStep g s t) → IfSome (Rounded g bytes (afterStep g s t) (d .next) n) (randomFrom n g bytes (afterStep g s t) (d .next)))
         → (k : ℕ) → closedSafe g s ≡ k → (o : Option Drawn) → (1 ≤ width c → IfSome (Rolled bytes at (width c)) o)
         → IfSome (Rounded g bytes s at (suc n)) (elim k [
-            zero ↦ some (record { steps = []; next = at })
+          | zero ↦ some (record { steps = []; next = at })
           | suc k ↦ elim o [
-              none ↦ none
-            | some d ↦ before (stepOf g s c (d .place)) (randomFrom n g bytes (afterStep g s (stepOf g s c (d .place))) (d .next)) ] ])
+            | none ↦ none
+            | some d ↦ before (stepOf g s c (d .place)) (randomFrom n g bytes (afterStep g s (stepOf g s c (d .place))) (d .next))
+          ]
+        ])
     go r zero e o h = record { fits = tt; ends = λ k. e; onward-from = omega arith; within = λ k. k }
     go r (suc k) e none h = tt
     go r (suc k) e (some d) h =

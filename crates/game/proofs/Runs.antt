@@ -50,6 +50,7 @@ moves-cost g s i =
   where
     ms : List ℕ
     ms = keep (unflagged g s) (square g i)
+
     one : (b : Bool) → length {A = Move} (cond b (left i ∷ []) []) ≡ bit b
     one true = refl
     one false = refl
@@ -87,9 +88,10 @@ fit-sum g s t f (unit i u) =
 -- the premium of the chosen cell is 0 or more
 pub fit-worth : (g : Grid) (s : Position) (t : Step) → Fits g s t → (k : ℕ) × (worth g s t ≡ pos k)
 unfolding premium
-fit-worth g s t (pays i h k c) =
-    (gain g s i - cost g s i,
-      ap (λ (n : ℕ). pos n -ℤ pos (cost g s i)) (split (gain g s i) (cost g s i) c) ∙ +ℤ-negℤ-cancel (pos (gain g s i - cost g s i)) (pos (cost g s i)))
+fit-worth g s t (pays i h k c) = (
+  gain g s i - cost g s i,
+  ap (λ (n : ℕ). pos n -ℤ pos (cost g s i)) (split (gain g s i) (cost g s i) c) ∙ +ℤ-negℤ-cancel (pos (gain g s i - cost g s i)) (pos (cost g s i)),
+)
   where
     split : (a b : ℕ) → b ≤ a → a ≡ a - b + b
     split a b h = omega arith
@@ -107,7 +109,7 @@ choice-fits openedOnly g s k h = go (topCells openedOnly g s) (λ x t. top→ op
         let i = getD (x ∷ xs) k 0 in
         let w = f i (getD-has (x ∷ xs) k l) in
         let v = looked→ openedOnly g s i (w .is-looked) in
-        pays i (v .0) (v .1) (premium-pays g s i (w .reaches-0))
+        pays i (v .0) (v .1) (premium-pays g s i (w .reaches))
 
 -- ---- steps one after the other
 
@@ -158,14 +160,18 @@ run-sum g s (t ∷ ts) f r =
     ap (λ (k : ℕ). pos k +ℤ pos (closedUnits g (after g s (t .moves ++ movesOf ts))) +ℤ earned g s (t ∷ ts)) (length-append (t .moves) (movesOf ts))
     ∙ ap (λ (p : Position). pos (length (t .moves) + length (movesOf ts)) +ℤ pos (closedUnits g p) +ℤ earned g s (t ∷ ts)) (after-append g (t .moves) (movesOf ts) s)
     ∙ join (length (t .moves)) (length (movesOf ts)) (closedUnits g s) (closedUnits g (afterStep g s t)) (closedUnits g (after g (afterStep g s t) (movesOf ts)))
-      (worth g s t) (earned g (afterStep g s t) ts) (fit-sum g s t f (r .0)) (run-sum g (afterStep g s t) ts (step-played g s t f (r .0)) (r .1))
+    (worth g s t) (earned g (afterStep g s t) ts) (fit-sum g s t f (r .0)) (run-sum g (afterStep g s t) ts (step-played g s t f (r .0)) (r .1))
 
 -- a run takes closed units away, if any
 pub run-falls : (g : Grid) (s : Position) (ts : List Step) → Played g s → Run g s ts → closedUnits g (after g s (movesOf ts)) ≤ closedUnits g s
 run-falls g s [] f r = omega arith
 run-falls g s (t ∷ ts) f r =
-    omega (arith, ap (closedUnits g) (after-append g (t .moves) (movesOf ts) s), fit-takes g s t f (r .0),
-      run-falls g (afterStep g s t) ts (step-played g s t f (r .0)) (r .1))
+    omega (
+      arith,
+      ap (closedUnits g) (after-append g (t .moves) (movesOf ts) s),
+      fit-takes g s t f (r .0),
+      run-falls g (afterStep g s t) ts (step-played g s t f (r .0)) (r .1),
+    )
 
 pub moves-append : (ts us : List Step) → movesOf (ts ++ us) ≡ movesOf ts ++ movesOf us
 moves-append [] us = refl
@@ -191,6 +197,7 @@ module _ (g : Grid) (s : Position) (f : Played g s) (done : closedSafe g s ≡ 0
     where
       never-both : (x : ℕ) → eqb x 2 ≡ not (eqb x 0) → T (eqb x 1) → ⊥
       never-both x e t = let q : x ≡ 1 = eqb→eq x 1 t in subst T (sym (subst (λ (k : ℕ). eqb k 2 ≡ not (eqb k 0)) q e)) tt
+
       go : (b : Bool) → mine g i ≡ b → opened s i ≡ not b
       go true e = no→false (opened s i) (never-both (getD s i 0) (f .mines i h (rw e tt)))
       go false e =
@@ -202,12 +209,12 @@ module _ (g : Grid) (s : Position) (f : Played g s) (done : closedSafe g s ≡ 0
   unfolding closedUnits
   no-units =
       let a = count-each (openingClosed s) (λ o. false) (openings g)
-              (each-map (openings g) (λ o k. no→false (openingClosed s o) (λ t.
-                let w = k .begun in
-                let z = k .zero-cell (w .0) (w .1) in
-                all-open (w .0) (z .inside) (zero-safe g (w .0) z) (all-has (closed s) (w .0) o (w .1) t))) (good g .full)) in
+      (each-map (openings g) (λ o k. no→false (openingClosed s o) (λ t.
+      let w = k .begun in
+      let z = k .zero-cell (w .0) (w .1) in
+      all-open (w .0) (z .inside) (zero-safe g (w .0) z) (all-has (closed s) (w .0) o (w .1) t))) (good g .full)) in
       let b = count-none (cellUnit g s) (cells g) (λ i t u.
-              all-open i (cells→ g i t) (unlabelled-safe g i (and-left (unlabelled g i) (closed s i) u)) (and-right (unlabelled g i) (closed s i) u)) in
+      all-open i (cells→ g i t) (unlabelled-safe g i (and-left (unlabelled g i) (closed s i) u)) (and-right (unlabelled g i) (closed s i) u)) in
       omega (arith, none-of (openings g))
     where
       none-of : (os : List (List ℕ)) → count (λ o. false) os ≡ 0
@@ -220,23 +227,25 @@ pub sound : (g : Grid) (ts : List Step) → Run g (untouched g) ts → closedSaf
 sound g ts r e =
     record {
       ledger = λ done left q. run-sum g (untouched g) done start (run-before g (untouched g) done left (subst (Run g (untouched g)) q r))
-        ∙ ap pos (units-untouched g);
+          ∙ ap pos (units-untouched g);
       takes = λ done left t q.
-        let p = subst (Run g (untouched g)) q r in
-        fit-takes g (standing g done) t (run-played g (untouched g) done start (run-before g (untouched g) done (t ∷ left) p))
-        (run-behind g (untouched g) done (t ∷ left) p .0);
+          let p = subst (Run g (untouched g)) q r in
+          fit-takes g (standing g done) t (run-played g (untouched g) done start (run-before g (untouched g) done (t ∷ left) p))
+          (run-behind g (untouched g) done (t ∷ left) p .0);
       legal-moves = run-legal g (untouched g) ts start r;
       opens = exactly-safe g (standing g ts) final e;
       finished = no-units g (standing g ts) final e;
       at-most-units = paid (length (movesOf ts)) (closedUnits g (standing g ts)) (threeBV g) (earned g (untouched g) ts)
-        (run-earned g (untouched g) ts r) (run-sum g (untouched g) ts start r ∙ ap pos (units-untouched g));
-      units-at-most = units-at-most-cells g
+          (run-earned g (untouched g) ts r) (run-sum g (untouched g) ts start r ∙ ap pos (units-untouched g));
+      units-at-most = units-at-most-cells g;
     }
   where
     start : Played g (untouched g)
     start = untouched-played g
+
     final : Played g (standing g ts)
     final = run-played g (untouched g) ts start r
+
     paid : (a u b : ℕ) (w : ℤ) → (k : ℕ) × (w ≡ pos k) → pos a +ℤ pos u +ℤ w ≡ pos b → a ≤ b
     paid a u b w k q =
         let p : a + u + k .0 ≡ b = ap natAbs (ap (λ (z : ℤ). pos a +ℤ pos u +ℤ z) (sym (k .1)) ∙ q) in

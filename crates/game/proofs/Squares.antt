@@ -67,9 +67,10 @@ square→ g i j h t =
     let rl : a .0 < g .rows = omega arith in
     let cl : b .0 < g .columns = omega arith in
     let er : rowOf g j ≡ a .0 = ap (rowOf g) (b .2) ∙ index-row g (a .0) (b .0) rl in
-    let ec : columnOf g j ≡ b .0 = ap (columnOf g) (b .2) ∙ index-column g (a .0) (b .0) rl in
-    (rw (b .2) (index-lt g (a .0) (b .0) rl cl),
-      omega arith)
+    let ec : columnOf g j ≡ b .0 = ap (columnOf g) (b .2) ∙ index-column g (a .0) (b .0) rl in (
+      rw (b .2) (index-lt g (a .0) (b .0) rl cl),
+      omega arith,
+    )
 
 pub →square : (g : Grid) (i j : ℕ) → i < size g → j < size g → Close g i j → T (has j (square g i))
 unfolding square
@@ -79,8 +80,8 @@ unfolding square
     has-concat-map (λ r. map (λ c. index g r c) (near (g .columns) (columnOf g i))) (rowOf g j) j (near (g .rows) (rowOf g i))
     (range-has (rowOf g i - 1) (min (rowOf g i + 2) (g .rows)) (rowOf g j) (omega arith) (omega arith))
     (subst (λ (k : ℕ). T (has k (map (λ c. index g (rowOf g j) c) (near (g .columns) (columnOf g i))))) (index-of g j)
-      (has-map (λ c. index g (rowOf g j) c) (columnOf g j) (near (g .columns) (columnOf g i))
-        (range-has (columnOf g i - 1) (min (columnOf g i + 2) (g .columns)) (columnOf g j) (omega arith) (omega arith))))
+    (has-map (λ c. index g (rowOf g j) c) (columnOf g j) (near (g .columns) (columnOf g i))
+    (range-has (columnOf g i - 1) (min (columnOf g i + 2) (g .columns)) (columnOf g j) (omega arith) (omega arith))))
 
 pub in-own-square : (g : Grid) (i : ℕ) → i < size g → T (has i (square g i))
 in-own-square g i h = →square g i i h h (self-close g i)
@@ -97,16 +98,19 @@ ordered-square g i =
     ordered-concat-map _<_ (RowFirst g) (λ r. map (λ c. index g r c) (near (g .columns) (columnOf g i))) (near (g .rows) (rowOf g i))
     (ordered-range (rowOf g i - 1) (min (rowOf g i + 2) (g .rows)))
     (λ r t. ordered-map _<_ (RowFirst g) (λ c. index g r c) (near (g .columns) (columnOf g i)) (λ c d h. inr (one-row r c d (in-rows r t) h))
-      (ordered-range (columnOf g i - 1) (min (columnOf g i + 2) (g .columns))))
+    (ordered-range (columnOf g i - 1) (min (columnOf g i + 2) (g .columns))))
     (λ r q z w t u h v x. inl (two-rows r q z w (in-rows r t) (in-rows q u) h v x))
   where
     in-rows : (r : ℕ) → T (has r (near (g .rows) (rowOf g i))) → r < g .rows
     in-rows r t = let h = has-range (rowOf g i - 1) (min (rowOf g i + 2) (g .rows)) r t in omega arith
+
     one-row : (r c d : ℕ) → r < g .rows → c < d → (rowOf g (index g r c) ≡ rowOf g (index g r d)) × (columnOf g (index g r c) < columnOf g (index g r d))
     one-row r c d h k =
         (index-row g r c h ∙ sym (index-row g r d h), omega (arith, index-column g r c h, index-column g r d h))
+
     row-of : (r z : ℕ) → r < g .rows → T (has z (map (λ c. index g r c) (near (g .columns) (columnOf g i)))) → rowOf g z ≡ r
     row-of r z h t = let a = map-has (λ c. index g r c) z (near (g .columns) (columnOf g i)) t in ap (rowOf g) (a .2) ∙ index-row g r (a .0) h
+
     two-rows : (r q z w : ℕ) → r < g .rows → q < g .rows → r < q → T (has z (map (λ c. index g r c) (near (g .columns) (columnOf g i))))
         → T (has w (map (λ c. index g q c) (near (g .columns) (columnOf g i)))) → rowOf g z < rowOf g w
     two-rows r q z w h k l t u = omega (arith, row-of r z h t, row-of q w k u)

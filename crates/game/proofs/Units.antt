@@ -41,7 +41,7 @@ units-taken g p q s t k =
     let b = count-each (openingClosed t) (λ o. openingClosed s o && not (q o)) (openings g) (each-map (openings g) (k .sets) (good g .full)) in
     let c = count-split (cellUnit g s) p (cells g) in
     let d = count-ext (λ j. cellUnit g s j && not (p j)) (cellUnit g t) (cells g)
-            (λ j u. and-inside (unlabelled g j) (closed s j) (closed t j) (p j) (λ v. k .bares j (record { inside = cells→ g j u; bare = v }))) in
+    (λ j u. and-inside (unlabelled g j) (closed s j) (closed t j) (p j) (λ v. k .bares j (record { inside = cells→ g j u; bare = v }))) in
     omega arith
 
 -- one after the other, where the second takes what the first does
@@ -51,7 +51,7 @@ two-turns g p p′ q q′ s t u hp hq a b =
     record {
       long = b .long;
       bares = λ j k. b .bares j k ∙ ap (λ (x : Bool). x && not (p′ j)) (a .bares j k) ∙ absorb (closed s j) (p j) (p′ j) (hp j);
-      sets = λ o f. b .sets o f ∙ ap (λ (x : Bool). x && not (q′ o)) (a .sets o f) ∙ absorb (openingClosed s o) (q o) (q′ o) (hq o)
+      sets = λ o f. b .sets o f ∙ ap (λ (x : Bool). x && not (q′ o)) (a .sets o f) ∙ absorb (openingClosed s o) (q o) (q′ o) (hq o);
     }
 
 nothing-taken : (g : Grid) (s : Position) → length s ≡ size g → Taken g (λ j. false) (λ o. false) s s
@@ -78,7 +78,7 @@ flags-taken g (x ∷ js) s h l =
     (record {
       long = length-set s x 2 ∙ l;
       bares = λ j k. other j (unlabelled-safe g j (k .bare)) ∙ and-true (closed s j);
-      sets = λ o f. all-ext (closed (set s x 2)) (closed s) o (λ z t. other z (zero-safe g z (f .zero-cell z t))) ∙ and-true (openingClosed s o)
+      sets = λ o f. all-ext (closed (set s x 2)) (closed s) o (λ z t. other z (zero-safe g z (f .zero-cell z t))) ∙ and-true (openingClosed s o);
     })
     (flags-taken g js (set s x 2) (rest-of x js h) (length-set s x 2 ∙ l))
   where
@@ -98,7 +98,7 @@ chord-taken g s i h l =
     record {
       long = fold-length g (square g i) s l;
       bares = λ j k. fold-unlabelled g (square g i) s j inside l k;
-      sets = λ o f. fold-opening g (square g i) s o inside l f
+      sets = λ o f. fold-opening g (square g i) s o inside l f;
     }
 
 -- L, flags and C one after the other
@@ -114,20 +114,24 @@ moves-taken : (g : Grid) (s : Position) (i : ℕ) → i < size g → length s �
 moves-taken g s i h l =
     subst (Taken g (λ j. has j (square g i)) (holds g i) s) (sym (after-moves g s i))
     (two-turns g (λ j. closed s i && eqb j i) (λ j. has j (square g i)) (λ o. closed s i && has i o) (holds g i) s s₁ (play g s₂ (chord i))
-      (λ j t. subst (λ (k : ℕ). T (has k (square g i))) (sym (eqb→eq j i (and-right (closed s i) (eqb j i) t))) (in-own-square g i h))
-      (λ o t. some-yes (λ j. has j o) i (square g i) (in-own-square g i h) (and-right (closed s i) (has i o) t))
-      first
-      (two-turns g (λ j. false) (λ j. has j (square g i)) (λ o. false) (holds g i) s₁ s₂ (play g s₂ (chord i)) (λ j t. absurd t) (λ o t. absurd t)
-        second (chord-taken g s₂ i h (second .long))))
+    (λ j t. subst (λ (k : ℕ). T (has k (square g i))) (sym (eqb→eq j i (and-right (closed s i) (eqb j i) t))) (in-own-square g i h))
+    (λ o t. some-yes (λ j. has j o) i (square g i) (in-own-square g i h) (and-right (closed s i) (has i o) t))
+    first
+    (two-turns g (λ j. false) (λ j. has j (square g i)) (λ o. false) (holds g i) s₁ s₂ (play g s₂ (chord i)) (λ j t. absurd t) (λ o t. absurd t)
+    second (chord-taken g s₂ i h (second .long))))
   where
     ms : List ℕ
     ms = keep (unflagged g s) (square g i)
+
     s₁ : Position
     s₁ = after g s (cond (closed s i) (left i ∷ []) [])
+
     s₂ : Position
     s₂ = after g s₁ (map flag ms)
+
     first : Taken g (λ j. closed s i && eqb j i) (λ o. closed s i && has i o) s s₁
     first = click-taken g s i h l (closed s i)
+
     second : Taken g (λ j. false) (λ o. false) s₁ s₂
     second =
         flags-taken g ms s₁ (λ j t. and-left (mine g j) (not (flagged s j)) (keep-has (unflagged g s) j (square g i) t .1)) (first .long)
@@ -149,16 +153,16 @@ units-click g s c h l ev t which =
     let b = count-point (cellUnit g s) c (cells g) (once-cells g) (→cells g c h) in
     ⊎-elim
     (λ n.
-      let z : Zero g c = record { inside = h; none = n } in
-      let w = owner g c z in
-      let d = w .only (openingClosed s) in
-      let e = ap bit (even-closed g s (w .opening) c ev (w .full) (w .has-it) t) in
-      let m = bit-no (cellUnit g s c) (λ u. zero-labelled g c z (and-left (unlabelled g c) (closed s c) u)) in
-      omega arith)
+    let z : Zero g c = record { inside = h; none = n } in
+    let w = owner g c z in
+    let d = w .only (openingClosed s) in
+    let e = ap bit (even-closed g s (w .opening) c ev (w .full) (w .has-it) t) in
+    let m = bit-no (cellUnit g s c) (λ u. zero-labelled g c z (and-left (unlabelled g c) (closed s c) u)) in
+    omega arith)
     (λ n.
-      let d = count-off c (openingClosed s) (openings g) (λ u. zero-labelled g c (good g .zeros c u) n) in
-      let m = bit-yes (cellUnit g s c) (and-both (unlabelled g c) (closed s c) n t) in
-      omega arith)
+    let d = count-off c (openingClosed s) (openings g) (λ u. zero-labelled g c (good g .zeros c u) n) in
+    let m = bit-yes (cellUnit g s c) (and-both (unlabelled g c) (closed s c) n t) in
+    omega arith)
     which
 
 -- ---- before any move all units are closed
@@ -174,11 +178,11 @@ pub units-untouched : (g : Grid) → closedUnits g (untouched g) ≡ threeBV g
 unfolding closedUnits threeBV
 units-untouched g =
     let a = count-each (openingClosed (untouched g)) (λ o. true) (openings g)
-            (each-map (openings g) (λ o f. T→true (openingClosed (untouched g) o)
-              (all-give (closed (untouched g)) o (λ x t. rw (closed-untouched g x (f .zero-cell x t .inside)) tt))) (good g .full)) in
+    (each-map (openings g) (λ o f. T→true (openingClosed (untouched g) o)
+    (all-give (closed (untouched g)) o (λ x t. rw (closed-untouched g x (f .zero-cell x t .inside)) tt))) (good g .full)) in
     let b = count-all (openings g) in
     let c = count-ext (cellUnit g (untouched g)) (unlabelled g) (cells g)
-            (λ i t. ap (λ (b : Bool). unlabelled g i && b) (closed-untouched g i (cells→ g i t)) ∙ sym (and-true (unlabelled g i))) in
+    (λ i t. ap (λ (b : Bool). unlabelled g i && b) (closed-untouched g i (cells→ g i t)) ∙ sym (and-true (unlabelled g i))) in
     omega arith
 
 -- ---- 3BV is at most the cells: each opening begins at a 0-cell of its own, and no 0-cell is unlabelled

@@ -32,9 +32,10 @@ between-row g a b za zb er ec =
     let ic = index-column g (rowOf g a) (columnOf g a + 1) hr in
     →zero g (index g (rowOf g a) (columnOf g a + 1)) (index-lt g (rowOf g a) (columnOf g a + 1) hr (omega arith))
     (λ x hx c.
-      elim (decLe (columnOf g x) (columnOf g a + 1)) [
-        yes l ↦ zero→ g a x za hx (omega arith)
-      | no n ↦ zero→ g b x zb hx (omega arith) ])
+    elim (decLe (columnOf g x) (columnOf g a + 1)) [
+      | yes l ↦ zero→ g a x za hx (omega arith)
+      | no n ↦ zero→ g b x zb hx (omega arith)
+    ])
 
 pub between-column : (g : Grid) (a b : ℕ) → Zero g a → Zero g b → columnOf g a ≡ columnOf g b → rowOf g a + 2 ≡ rowOf g b → Zero g (index g (rowOf g a + 1) (columnOf g a))
 between-column g a b za zb ec er =
@@ -45,6 +46,7 @@ between-column g a b za zb ec er =
     let ic = index-column g (rowOf g a + 1) (columnOf g a) hm in
     →zero g (index g (rowOf g a + 1) (columnOf g a)) (index-lt g (rowOf g a + 1) (columnOf g a) hm hc)
     (λ x hx c.
-      elim (decLe (rowOf g x) (rowOf g a + 1)) [
-        yes l ↦ zero→ g a x za hx (omega arith)
-      | no n ↦ zero→ g b x zb hx (omega arith) ])
+    elim (decLe (rowOf g x) (rowOf g a + 1)) [
+      | yes l ↦ zero→ g a x za hx (omega arith)
+      | no n ↦ zero→ g b x zb hx (omega arith)
+    ])

@@ -24,7 +24,7 @@ priced g =
       units = threeBV g;
       clicks = length (movesOf (greedySteps g));
       firstClicks = length (movesOf (openingsFirstSteps g));
-      moves = movesOf (greedySteps g)
+      moves = movesOf (greedySteps g);
     }
 
 -- a safe cell

@@ -1,25 +1,28 @@
 -- Legal play: the moves L, F and C, what each does, and the replay of a list. Assumes nothing.
-use Prim.Native.Nat.{ℕ, suc, _+_, _*_, _/_, _%_}
-use mathlib.Core.Bool.{Bool, true, false, not, cond, _&&_, _||_}
+use Prim.Native.Nat.{ℕ, _%_, _*_, _+_, _/_, suc}
+use mathlib.Core.Bool.{Bool, _&&_, _||_, cond, false, not, true}
 use mathlib.Core.List.{List, [], _∷_, map}
 use mathlib.Core.Option.{Option, none, some}
-use lib.ListN.{getD, set}
 use lib.Dec.{eqb, ltb}
+use lib.ListN.{getD, set}
+use Rattle.game.specs.Grid.{Grid, cells, mine, safe, size, square, zeroCell}
 use Rattle.game.specs.Lists.{all-of, fold}
-use Rattle.game.specs.Grid.{Grid, size, cells, mine, safe, square, zeroCell}
-use Rattle.game.specs.Openings.{joinedTo, holds}
-use Rattle.game.specs.Position.{Position, closed, opened, flagged}
+use Rattle.game.specs.Openings.{holds, joinedTo}
+use Rattle.game.specs.Position.{Position, closed, flagged, opened}
 
 -- L, F and C, each on the cell of an index
 pub data Move : Type 0 where
   left flag chord : ℕ → Move
 
--- L on a closed safe cell, F on a closed mine, C on an opened cell of number 1 or more whose square's mines are all flagged
+-- C may be played: the cell is opened, of number 1 or more, and the mines of its square are all flagged
+unfoldable pub chordable : Grid → Position → ℕ → Bool
+chordable g s i = opened s i && not (zeroCell g i) && all-of (λ j. not (mine g j) || flagged s j) (square g i)
+
+-- L on a closed safe cell, F on a closed mine, C where it may be played
 unfoldable pub legal : Grid → Position → Move → Bool
 legal g s (left i) = ltb i (size g) && safe g i && closed s i
 legal g s (flag i) = ltb i (size g) && mine g i && closed s i
-legal g s (chord i) =
-    ltb i (size g) && opened s i && not (zeroCell g i) && all-of (λ j. not (mine g j) || flagged s j) (square g i)
+legal g s (chord i) = ltb i (size g) && chordable g s i
 
 -- the position with the whole opening of a 0-cell opened
 abbrev pub sweep : Grid → Position → ℕ → Position
@@ -46,11 +49,21 @@ after g s (m ∷ ms) = after g (play g s m) ms
 
 -- ---- moves as numbers
 
--- a move as a number: kind x 65536 + index, kind 1 for L, 2 for F, 3 for C
+-- the kind of a move: 1 for L, 2 for F, 3 for C
+abbrev pub kindOf : Move → ℕ
+kindOf (left i) = 1
+kindOf (flag i) = 2
+kindOf (chord i) = 3
+
+-- the cell that a move is on
+abbrev pub cellOf : Move → ℕ
+cellOf (left i) = i
+cellOf (flag i) = i
+cellOf (chord i) = i
+
+-- a move as a number: kind x 65536 + index
 abbrev pub word : Move → ℕ
-word (left i) = 1 * 65536 + i
-word (flag i) = 2 * 65536 + i
-word (chord i) = 3 * 65536 + i
+word m = kindOf m * 65536 + cellOf m
 
 -- the move of a kind and an index, if there is such a kind
 abbrev pub moveOf : ℕ → ℕ → Option Move
@@ -61,13 +74,15 @@ moveOf kind i =
 unfoldable pub readMove : ℕ → Option Move
 readMove w = moveOf (w / 65536) (w % 65536)
 
--- the number stands for a move that is legal: no other kind, no index past the grid
-abbrev pub legalWord : Grid → Position → ℕ → Bool
-legalWord g s w = elim (readMove w) [ none ↦ false | some m ↦ legal g s m ]
+-- a move that was read is legal: not another kind, not past the grid
+abbrev pub legalRead : Grid → Position → Option Move → Bool
+legalRead g s none = false
+legalRead g s (some m) = legal g s m
 
--- the position after the move that a number stands for
-abbrev pub playWord : Grid → Position → ℕ → Position
-playWord g s w = elim (readMove w) [ none ↦ s | some m ↦ play g s m ]
+-- the position after a move that was read
+abbrev pub playRead : Grid → Position → Option Move → Position
+playRead g s none = s
+playRead g s (some m) = play g s m
 
 -- ---- replay
 
@@ -80,4 +95,7 @@ pub data Replayed : Type 0 where
 abbrev pub replayFrom : Grid → ℕ → Position → List ℕ → Replayed
 replayFrom g k s [] = whole s
 replayFrom g k s (w ∷ ws) =
-    elim (legalWord g s w) [ true ↦ replayFrom g (suc k) (playWord g s w) ws | false ↦ stopped k s ]
+    elim (legalRead g s (readMove w)) [
+      | true ↦ replayFrom g (suc k) (playRead g s (readMove w)) ws
+      | false ↦ stopped k s
+    ]

@@ -1,17 +1,17 @@
 -- One step and one round: greedy, openings-first and random; random search. Assumes nothing.
-use Prim.Native.Nat.{ℕ, zero, suc, _-_, min}
-use mathlib.Core.Bool.{Bool, true, false, not, cond, _&&_, _||_}
-use mathlib.Core.List.{List, [], _∷_, _++_, map}
+use Prim.Native.Nat.{ℕ, _-_, min, suc, zero}
+use mathlib.Core.Bool.{Bool, _&&_, _||_, cond, false, not, true}
+use mathlib.Core.List.{List, [], _++_, _∷_, map}
 use mathlib.Core.Option.{Option, none, some}
-use lib.IntN.{ℤ, negsuc}
-use lib.Signed.{leZ, nonNeg}
+use lib.IntN.{negsuc, pos, ℤ}
+use lib.Signed.{leZ}
 use lib.ListN.{getD, length}
-use Rattle.game.specs.Lists.{keep, concat-map}
+use Rattle.game.specs.Draws.{draw}
 use Rattle.game.specs.Grid.{Grid, cells, safe, square, zeroCell}
-use Rattle.game.specs.Openings.{unlabelled, threeBV}
-use Rattle.game.specs.Position.{Position, untouched, closed, opened, unflagged, premium, closedSafe}
-use Rattle.game.specs.Moves.{Move, left, flag, chord, after}
-use Rattle.game.specs.Draws.{Drawn, draw}
+use Rattle.game.specs.Lists.{concat-map, keep}
+use Rattle.game.specs.Moves.{Move, after, chord, flag, left}
+use Rattle.game.specs.Openings.{threeBV, unlabelled}
+use Rattle.game.specs.Position.{Position, closed, closedSafe, opened, premium, unflagged, untouched}
 
 -- the cells that a step looks at: the safe cells; openings-first: the opened safe cells only
 abbrev pub looked : Bool → Grid → Position → List ℕ
@@ -26,11 +26,15 @@ highest (p ∷ ps) = let m = highest ps in cond (leZ p m) m p
 abbrev pub same : ℤ → ℤ → Bool
 same a b = leZ a b && leZ b a
 
+-- the least premium that is chosen
+abbrev pub leastChosen : ℤ
+leastChosen = pos 0
+
 -- those of highest premium, if that is 0 or more
 unfoldable pub topCells : Bool → Grid → Position → List ℕ
 topCells openedOnly g s =
     let m = highest (map (premium g s) (looked openedOnly g s)) in
-    keep (λ i. nonNeg m && same (premium g s i) m) (looked openedOnly g s)
+    keep (λ i. leZ leastChosen m && same (premium g s i) m) (looked openedOnly g s)
 
 -- a closed safe cell of number 0 or without label
 abbrev pub closedUnitCell : Grid → Position → ℕ → Bool
