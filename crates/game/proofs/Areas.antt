@@ -2,31 +2,22 @@
 use Prim.Native.Nat.{ℕ, _%_, _*_, _+_, _-_, _/_, _<_, _≤_, suc, zero}
 use native.Mathlib.Omega.{arith}
 use native.Mathlib.Decide.{decLe}
-use native.Mathlib.Nat.{zero-add}
+use native.Mathlib.Nat.{add-zero, zero-add}
 use mathlib.Core.Path.{_∙_, _≡_, ap, refl, sym}
-use mathlib.Core.List.{List, [], _∷_}
+use mathlib.Core.List.{List}
 use lib.IntN.{pos, ℤ}
 use lib.ListN.{List·getD-append, drop, getD, length, length-append, length-drop}
 use lib.Seq.{ext-getD, getD-append-add, getD-drop}
-use Rattle.game.specs.Area.{areaOf, begun, fiveNumbers}
-use Rattle.game.specs.Grid.{Grid, cells, size}
-use Rattle.game.specs.Lists.{concat-map, from}
+use Rattle.game.specs.Area.{begun, fiveNumbers, laid}
+use Rattle.game.specs.Grid.{Grid}
+use Rattle.game.specs.Lists.{concat-map, from, range}
 use Rattle.game.specs.Position.{Position}
-use Rattle.game.proofs.Squares.{length-cells}
 
-length-five : (g : Grid) (s : Position) (is : List ℕ) → length (concat-map (fiveNumbers g s) is) ≡ 5 * length is
-unfolding fiveNumbers
-length-five g s [] = refl
-length-five g s (i ∷ is) = omega (arith, length-five g s is)
+-- ---- a run that begins with other entries
 
-pub length-cells-five : (g : Grid) (s : Position) → length (concat-map (fiveNumbers g s) (cells g)) ≡ 5 * size g
-length-cells-five g s = omega (arith, length-five g s (cells g), length-cells g)
-
--- a run that begins with others keeps its length, if there is room
 pub length-begun {ℓ} : {A : Type ℓ} (front old : List A) → length front ≤ length old → length (begun front old) ≡ length old
 length-begun front old h = omega (arith, length-append front (drop (length front) old), length-drop (length front) old)
 
--- within the front, and past it
 pub begun-front {ℓ} : {A : Type ℓ} (front old : List A) (k : ℕ) (d : A) → k < length front → getD (begun front old) k d ≡ getD front k d
 begun-front front old k d h = List·getD-append front (drop (length front) old) d k h
 
@@ -40,69 +31,87 @@ begun-past front old k d h =
     there : k ≡ length front + (k - length front)
     there = omega arith
 
--- the number k of the cell i
-five-at : (g : Grid) (s : Position) (n a j k : ℕ) → j < n → k < 5 → getD (concat-map (fiveNumbers g s) (from a n)) (5 * j + k) (pos 0) ≡ getD (fiveNumbers g s (a + j)) k (pos 0)
+-- ---- five numbers a cell
+
+module _ (five : ℕ → List ℤ) (len : (i : ℕ) → length (five i) ≡ 5) where
+  length-front : (n a : ℕ) → length (concat-map five (from a n)) ≡ 5 * n
+  length-front zero a = refl
+  length-front (suc n) a = omega (arith, length-append (five a) (concat-map five (from (suc a) n)), len a, length-front n (suc a))
+
+  pub laid-front : (n : ℕ) → length (concat-map five (range 0 n)) ≡ 5 * n
+  laid-front n = omega (arith, length-front (n - 0) 0)
+
+  front-at : (n a j k : ℕ) → j < n → k < 5 → getD (concat-map five (from a n)) (5 * j + k) (pos 0) ≡ getD (five (a + j)) k (pos 0)
+  front-at zero a j k h l = absurd (omega arith)
+  front-at (suc n) a zero k h l =
+      ap (λ (m : ℕ). getD (concat-map five (from a (suc n))) m (pos 0)) first
+      ∙ List·getD-append (five a) (concat-map five (from (suc a) n)) (pos 0) k (omega (arith, len a))
+      ∙ ap (λ (m : ℕ). getD (five m) k (pos 0)) (sym (add-zero a))
+    where
+      first : 5 * 0 + k ≡ k
+      first = omega arith
+  front-at (suc n) a (suc j) k h l =
+      ap (λ (m : ℕ). getD (concat-map five (from a (suc n))) m (pos 0)) onwards
+      ∙ getD-append-add (five a) (concat-map five (from (suc a) n)) (5 * j + k) (pos 0)
+      ∙ front-at n (suc a) j k (omega arith) l
+      ∙ ap (λ (m : ℕ). getD (five m) k (pos 0)) there
+    where
+      onwards : 5 * suc j + k ≡ length (five a) + (5 * j + k)
+      onwards = omega (arith, len a)
+
+      there : suc a + j ≡ a + suc j
+      there = omega arith
+
+  -- the number k of the cell i
+  pub laid-at : (n : ℕ) (old : List ℤ) (i k : ℕ) → i < n → k < 5 → getD (laid five n old) (5 * i + k) (pos 0) ≡ getD (five i) k (pos 0)
+  unfolding laid
+  laid-at n old i k h l =
+      begun-front (concat-map five (range 0 n)) old (5 * i + k) (pos 0) (omega (arith, laid-front n))
+      ∙ front-at (n - 0) 0 i k (omega arith) l
+      ∙ ap (λ (m : ℕ). getD (five m) k (pos 0)) (zero-add i)
+
+  -- numbers past the cells are unchanged
+  pub laid-past : (n : ℕ) (old : List ℤ) (k : ℕ) → 5 * n ≤ k → getD (laid five n old) k (pos 0) ≡ getD old k (pos 0)
+  unfolding laid
+  laid-past n old k h = begun-past (concat-map five (range 0 n)) old k (pos 0) (omega (arith, laid-front n))
+
+  pub laid-length : (n : ℕ) (old : List ℤ) → 5 * n ≤ length old → length (laid five n old) ≡ length old
+  unfolding laid
+  laid-length n old h = length-begun (concat-map five (range 0 n)) old (omega (arith, laid-front n))
+
+  -- it is the only such run
+  pub laid-only : (n : ℕ) (old new : List ℤ) → 5 * n ≤ length old → length new ≡ length old
+      → ((i k : ℕ) → i < n → k < 5 → getD new (5 * i + k) (pos 0) ≡ getD (five i) k (pos 0))
+      → ((k : ℕ) → 5 * n ≤ k → getD new k (pos 0) ≡ getD old k (pos 0)) → new ≡ laid five n old
+  laid-only n old new h l front past =
+      ext-getD (pos 0) new (laid five n old) (l ∙ sym (laid-length n old h)) (λ k b. same-at k)
+    where
+      parts : (k : ℕ) → 5 * (k / 5) + k % 5 ≡ k
+      parts k = omega arith
+
+      small : (k : ℕ) → k % 5 < 5
+      small k = omega arith
+
+      cell : (k : ℕ) → k < 5 * n → k / 5 < n
+      cell k h = omega arith
+
+      same-at : (k : ℕ) → getD new k (pos 0) ≡ getD (laid five n old) k (pos 0)
+      same-at k =
+          elim (decLe (5 * n) k) [
+            | yes b ↦ past k b ∙ sym (laid-past n old k b)
+            | no b ↦ ap (λ (m : ℕ). getD new m (pos 0)) (sym (parts k)) ∙ front (k / 5) (k % 5) (cell k (omega arith)) (small k)
+                ∙ sym (laid-at n old (k / 5) (k % 5) (cell k (omega arith)) (small k)) ∙ ap (λ (m : ℕ). getD (laid five n old) m (pos 0)) (parts k)
+          ]
+
+-- numbers laid over numbers laid: the later ones stand
+pub laid-again : (five other : ℕ → List ℤ) → ((i : ℕ) → length (five i) ≡ 5) → ((i : ℕ) → length (other i) ≡ 5) → (n : ℕ) (old : List ℤ) → 5 * n ≤ length old
+    → laid five n (laid other n old) ≡ laid five n old
+laid-again five other l k n old h =
+    laid-only five l n old (laid five n (laid other n old)) h
+    (laid-length five l n (laid other n old) (omega (arith, laid-length other k n old h)) ∙ laid-length other k n old h)
+    (λ i m a b. laid-at five l n (laid other n old) i m a b)
+    (λ m a. laid-past five l n (laid other n old) m a ∙ laid-past other k n old m a)
+
+pub length-fiveNumbers : (g : Grid) (s : Position) (i : ℕ) → length (fiveNumbers g s i) ≡ 5
 unfolding fiveNumbers
-five-at g s zero a j k h l = absurd (omega arith)
-five-at g s (suc n) a zero k h l =
-    ap (λ (m : ℕ). getD (concat-map (fiveNumbers g s) (from a (suc n))) m (pos 0)) first
-    ∙ List·getD-append (fiveNumbers g s a) (concat-map (fiveNumbers g s) (from (suc a) n)) (pos 0) k l
-    ∙ ap (λ (m : ℕ). getD (fiveNumbers g s m) k (pos 0)) here
-  where
-    first : 5 * 0 + k ≡ k
-    first = omega arith
-
-    here : a ≡ a + 0
-    here = omega arith
-five-at g s (suc n) a (suc j) k h l =
-    ap (λ (m : ℕ). getD (concat-map (fiveNumbers g s) (from a (suc n))) m (pos 0)) onwards
-    ∙ getD-append-add (fiveNumbers g s a) (concat-map (fiveNumbers g s) (from (suc a) n)) (5 * j + k) (pos 0)
-    ∙ five-at g s n (suc a) j k (omega arith) l
-    ∙ ap (λ (m : ℕ). getD (fiveNumbers g s m) k (pos 0)) there
-  where
-    onwards : 5 * suc j + k ≡ 5 + (5 * j + k)
-    onwards = omega arith
-
-    there : suc a + j ≡ a + suc j
-    there = omega arith
-
--- the area holds each cell's five numbers
-pub area-at : (g : Grid) (s : Position) (old : List ℤ) (i k : ℕ) → i < size g → k < 5 → getD (areaOf g s old) (5 * i + k) (pos 0) ≡ getD (fiveNumbers g s i) k (pos 0)
-unfolding areaOf
-area-at g s old i k h l =
-    begun-front (concat-map (fiveNumbers g s) (cells g)) old (5 * i + k) (pos 0) (omega (arith, length-cells-five g s))
-    ∙ five-at g s (size g - 0) 0 i k (omega arith) l
-    ∙ ap (λ (m : ℕ). getD (fiveNumbers g s m) k (pos 0)) (zero-add i)
-
--- numbers past 5 x cells are unchanged
-pub area-past : (g : Grid) (s : Position) (old : List ℤ) (k : ℕ) → 5 * size g ≤ k → getD (areaOf g s old) k (pos 0) ≡ getD old k (pos 0)
-unfolding areaOf
-area-past g s old k h = begun-past (concat-map (fiveNumbers g s) (cells g)) old k (pos 0) (omega (arith, length-cells-five g s))
-
-pub area-length : (g : Grid) (s : Position) (old : List ℤ) → 5 * size g ≤ length old → length (areaOf g s old) ≡ length old
-unfolding areaOf
-area-length g s old h = length-begun (concat-map (fiveNumbers g s) (cells g)) old (omega (arith, length-cells-five g s))
-
--- and it is the only such run
-pub area-only : (g : Grid) (s : Position) (old new : List ℤ) → 5 * size g ≤ length old → length new ≡ length old
-    → ((i k : ℕ) → i < size g → k < 5 → getD new (5 * i + k) (pos 0) ≡ getD (fiveNumbers g s i) k (pos 0))
-    → ((k : ℕ) → 5 * size g ≤ k → getD new k (pos 0) ≡ getD old k (pos 0)) → new ≡ areaOf g s old
-area-only g s old new h l front past =
-    ext-getD (pos 0) new (areaOf g s old) (l ∙ sym (area-length g s old h)) (λ k b. same-at k)
-  where
-    parts : (k : ℕ) → 5 * (k / 5) + k % 5 ≡ k
-    parts k = omega arith
-
-    small : (k : ℕ) → k % 5 < 5
-    small k = omega arith
-
-    cell : (k : ℕ) → k < 5 * size g → k / 5 < size g
-    cell k h = omega arith
-
-    same-at : (k : ℕ) → getD new k (pos 0) ≡ getD (areaOf g s old) k (pos 0)
-    same-at k =
-        elim (decLe (5 * size g) k) [
-          | yes b ↦ past k b ∙ sym (area-past g s old k b)
-          | no b ↦ ap (λ (m : ℕ). getD new m (pos 0)) (sym (parts k)) ∙ front (k / 5) (k % 5) (cell k (omega arith)) (small k)
-              ∙ sym (area-at g s old (k / 5) (k % 5) (cell k (omega arith)) (small k)) ∙ ap (λ (m : ℕ). getD (areaOf g s old) m (pos 0)) (parts k)
-        ]
+length-fiveNumbers g s i = refl

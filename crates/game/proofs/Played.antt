@@ -9,10 +9,9 @@ use mathlib.Core.Option.{none}
 use lib.Dec.{T, T-not, eqb, ltb, ltb→lt, not-T}
 use lib.ListN.{getD, getD-replicate, length, length-replicate, length-set, set}
 use lib.Seq.{getD-set-other, getD-set-same}
-use Rattle.game.specs.Demands.{AllLegal}
 use Rattle.game.specs.Grid.{Grid, mine, safe, size, square}
 use Rattle.game.specs.Lists.{fold, has}
-use Rattle.game.specs.Moves.{Move, after, cellOf, chord, chordable, flag, left, legal, play, reveal, sweep}
+use Rattle.game.specs.Moves.{AllLegal, Move, Reached, after, cellOf, chord, chordable, flag, left, legal, play, reveal, sweep}
 use Rattle.game.specs.Openings.{Joined, holds, joinedTo}
 use Rattle.game.specs.Position.{Position, closed, flagged, opened, untouched}
 use Rattle.game.proofs.Chains.{joined-first, joined-last, joined-sym, joined-trans}
@@ -169,3 +168,7 @@ play-played g s (chord i) t f = fold-played g (square g i) s (λ x u. square→ 
 pub after-played : (g : Grid) (ms : List Move) (s : Position) → AllLegal g s ms → Played g s → Played g (after g s ms)
 after-played g [] s h f = f
 after-played g (m ∷ ms) s h f = after-played g ms (play g s m) (h .1) (play-played g s m (h .0) f)
+
+-- so of every position that legal play comes to
+pub reached-played : (g : Grid) (s : Position) → Reached g s → Played g s
+reached-played g s r = subst (Played g) (r .comes-to) (after-played g (r .moves) (untouched g) (r .all-legal) (untouched-played g))

@@ -5,9 +5,9 @@ use mathlib.Core.Path.{_∙_, _≡_, ap, refl}
 use mathlib.Core.Bool.{Bool, false, true}
 use mathlib.Core.List.{List, [], _∷_, map}
 use mathlib.Core.Option.{Option, some}
-use Rattle.game.specs.Demands.{AllLegal, Sound, standing}
+use Rattle.game.specs.Demands.{Sound, standing}
 use Rattle.game.specs.Grid.{Grid, size}
-use Rattle.game.specs.Moves.{Move, Replayed, after, cellOf, chord, flag, kindOf, left, legal, legalRead, moveOf, play, playRead, readMove, replayFrom, stopped, whole, word}
+use Rattle.game.specs.Moves.{AllLegal, Move, Replayed, after, cellOf, chord, flag, kindOf, left, legal, legalRead, moveOf, play, playRead, readMove, replayFrom, stopped, whole, word}
 use Rattle.game.specs.Position.{Position, untouched}
 use Rattle.game.specs.Rounds.{Step, movesOf}
 use Rattle.game.proofs.Played.{legal-inside}

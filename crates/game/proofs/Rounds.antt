@@ -10,11 +10,11 @@ use mathlib.Core.List.{List, [], _++_, _∷_}
 use mathlib.Core.Option.{Option, none, some}
 use lib.Dec.{T, leb, leb→le}
 use lib.ListN.{length}
-use Rattle.game.specs.Demands.{AllLegal, Sound}
+use Rattle.game.specs.Demands.{Sound}
 use Rattle.game.specs.Draws.{Drawn, draw, fourBytes}
 use Rattle.game.specs.Grid.{Grid, cells, size, zeroCell}
 use Rattle.game.specs.Lists.{has}
-use Rattle.game.specs.Moves.{Move, after}
+use Rattle.game.specs.Moves.{AllLegal, Move, after}
 use Rattle.game.specs.Openings.{threeBV}
 use Rattle.game.specs.Position.{Position, closed, closedSafe, closedUnits, untouched}
 use Rattle.game.specs.Rounds.{Choice, Round, Step, afterStep, before, choice, clickStep, firstClicks, greedySteps, movesOf, openingClicks, openingsFirstSteps, randomFrom, randomRound, stepOf, stepsFrom, width}

@@ -8,10 +8,10 @@ use mathlib.Core.Option.{none}
 use lib.Dec.{T, eqb, eqb→eq}
 use lib.IntN.{+ℤ-assoc, +ℤ-comm, +ℤ-negℤ-cancel, _+ℤ_, _-ℤ_, natAbs, negℤ, pos, ℤ}
 use lib.ListN.{getD, length, length-append, length-map}
-use Rattle.game.specs.Demands.{AllLegal, Sound, earned, standing, worth}
+use Rattle.game.specs.Demands.{Sound, earned, standing, worth}
 use Rattle.game.specs.Grid.{Grid, cells, mine, safe, size, square}
 use Rattle.game.specs.Lists.{bit, count, has, keep}
-use Rattle.game.specs.Moves.{Move, after, chord, flag, left, play, reveal}
+use Rattle.game.specs.Moves.{AllLegal, Move, after, chord, flag, left, play, reveal}
 use Rattle.game.specs.Openings.{openings, threeBV, unlabelled}
 use Rattle.game.specs.Position.{Position, cellUnit, closed, closedSafe, closedUnits, cost, gain, opened, openingClosed, premium, unflagged, untouched}
 use Rattle.game.specs.Rounds.{Step, afterStep, choice, chordStep, chords, clickStep, clicks, movesAt, movesOf, stepOf, topCells, unitCells, width}

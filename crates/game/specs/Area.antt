@@ -4,8 +4,8 @@ use mathlib.Core.Bool.{cond}
 use mathlib.Core.List.{List, [], _∷_, _++_, map}
 use lib.IntN.{ℤ, pos}
 use lib.ListN.{getD, length, replicate, drop}
-use Rattle.game.specs.Lists.{concat-map}
-use Rattle.game.specs.Grid.{Grid, size, cells, mine}
+use Rattle.game.specs.Lists.{concat-map, range}
+use Rattle.game.specs.Grid.{Grid, mine, size}
 use Rattle.game.specs.Openings.{firstLabel, secondLabel}
 use Rattle.game.specs.Position.{Position, premium}
 use Rattle.game.specs.Moves.{Move, word}
@@ -23,9 +23,13 @@ fiveNumbers g s i =
 abbrev pub begun {ℓ} : {A : Type ℓ} → List A → List A → List A
 begun front old = front ++ drop (length front) old
 
+-- five numbers for each of n cells, one cell after the other, and what was there past them
+unfoldable pub laid : (ℕ → List ℤ) → ℕ → List ℤ → List ℤ
+laid five n old = begun (concat-map five (range 0 n)) old
+
 -- the work area that stands for a position: each cell's five numbers, and what was there past them
 unfoldable pub areaOf : Grid → Position → List ℤ → List ℤ
-areaOf g s old = begun (concat-map (fiveNumbers g s) (cells g)) old
+areaOf g s old = laid (fiveNumbers g s) (size g) old
 
 -- the move list with moves written: room after the last is unchanged
 unfoldable pub listOf : List Move → List ℕ → List ℕ

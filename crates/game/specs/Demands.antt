@@ -1,16 +1,15 @@
 -- Demand 3 as definitions: what holds of a round's steps. Assumes nothing.
-use Prim.Native.Nat.{ℕ, _≤_, _<_}
+use Prim.Native.Nat.{ℕ, _<_, _≤_}
 use mathlib.Core.Path.{_≡_}
-use mathlib.Core.List.{List, [], _∷_, _++_}
+use mathlib.Core.List.{List, [], _++_, _∷_}
 use mathlib.Core.Option.{none, some}
-use lib.IntN.{ℤ, pos, _+ℤ_}
+use lib.IntN.{_+ℤ_, pos, ℤ}
 use lib.ListN.{length}
-use lib.Dec.{T}
-use Rattle.game.specs.Grid.{Grid, size, safe}
+use Rattle.game.specs.Grid.{Grid, safe, size}
+use Rattle.game.specs.Moves.{AllLegal, after, left}
 use Rattle.game.specs.Openings.{threeBV}
-use Rattle.game.specs.Position.{Position, untouched, opened, closedUnits, premium}
-use Rattle.game.specs.Moves.{Move, legal, play, after}
-use Rattle.game.specs.Rounds.{Step, movesOf, afterStep}
+use Rattle.game.specs.Position.{Position, closedUnits, opened, premium, untouched}
+use Rattle.game.specs.Rounds.{Step, afterStep, movesOf}
 
 -- the premium of the cell that a step chose, just before it; a single L has none
 abbrev pub worth : Grid → Position → Step → ℤ
@@ -28,11 +27,6 @@ standing g ts = after g (untouched g) (movesOf ts)
 -- clicks paid + closed units + premiums of the chosen cells, once these steps are done
 abbrev pub balance : Grid → List Step → ℤ
 balance g ts = pos (length (movesOf ts)) +ℤ pos (closedUnits g (standing g ts)) +ℤ earned g (untouched g) ts
-
--- each move is legal where it stands
-abbrev pub AllLegal : Grid → Position → List Move → Type 0
-AllLegal g s [] = Unit {0}
-AllLegal g s (m ∷ ms) = T (legal g s m) × AllLegal g (play g s m) ms
 
 -- Demand 3 of a whole round, by its steps
 pub record Sound (g : Grid) (ts : List Step) : Type 0 where

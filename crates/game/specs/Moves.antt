@@ -1,14 +1,15 @@
 -- Legal play: the moves L, F and C, what each does, and the replay of a list. Assumes nothing.
 use Prim.Native.Nat.{ℕ, _%_, _*_, _+_, _/_, suc}
+use mathlib.Core.Path.{_≡_}
 use mathlib.Core.Bool.{Bool, _&&_, _||_, cond, false, not, true}
 use mathlib.Core.List.{List, [], _∷_, map}
 use mathlib.Core.Option.{Option, none, some}
-use lib.Dec.{eqb, ltb}
+use lib.Dec.{T, eqb, ltb}
 use lib.ListN.{getD, set}
 use Rattle.game.specs.Grid.{Grid, cells, mine, safe, size, square, zeroCell}
 use Rattle.game.specs.Lists.{all-of, fold}
 use Rattle.game.specs.Openings.{holds, joinedTo}
-use Rattle.game.specs.Position.{Position, closed, flagged, opened}
+use Rattle.game.specs.Position.{Position, closed, flagged, opened, untouched}
 
 -- L, F and C, each on the cell of an index
 pub data Move : Type 0 where
@@ -46,6 +47,17 @@ play g s (chord i) = fold (reveal g) s (square g i)
 abbrev pub after : Grid → Position → List Move → Position
 after g s [] = s
 after g s (m ∷ ms) = after g (play g s m) ms
+
+-- each move is legal where it stands
+abbrev pub AllLegal : Grid → Position → List Move → Type 0
+AllLegal g s [] = Unit {0}
+AllLegal g s (m ∷ ms) = T (legal g s m) × AllLegal g (play g s m) ms
+
+-- a position that legal play comes to
+pub record Reached (g : Grid) (s : Position) : Type 0 where
+  pub moves : List Move
+  pub all-legal : AllLegal g (untouched g) moves
+  pub comes-to : after g (untouched g) moves ≡ s
 
 -- ---- moves as numbers
 

@@ -1,0 +1,3 @@
+-- What the functions on single numbers of the lent runs promise.
+pub mod Numbers
+pub mod Stages

@@ -1,0 +1,18 @@
+-- One number of the work area at a time. Assumes nothing.
+use Prim.Native.Nat.{ℕ, _%_}
+use mathlib.Core.List.{List}
+use lib.IntN.{ℤ, pos, negsuc}
+use lib.ListN.{getD, set}
+
+-- a number that is not below 0; 0 in place of one that is
+abbrev pub natural : ℤ → ℕ
+natural (pos n) = n
+natural (negsuc n) = 0
+
+-- the number at a place
+abbrev pub numberAt : List ℤ → ℕ → ℕ
+numberAt w k = natural (getD w k (pos 0))
+
+-- a number put at a place; numbers of 2 ^ 31 and more do not occur
+abbrev pub putAt : List ℤ → ℕ → ℕ → List ℤ
+putAt w k v = set w k (pos (v % 2147483648))

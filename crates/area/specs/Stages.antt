@@ -1,0 +1,60 @@
+-- What the work area holds while a call runs. Assumes nothing.
+use Prim.Native.Nat.{ℕ, _+_, _-_, _*_, _≤_}
+use mathlib.Core.Path.{_≡_}
+use mathlib.Core.Bool.{cond}
+use mathlib.Core.List.{List, [], _∷_}
+use lib.IntN.{ℤ, pos}
+use lib.ListN.{getD, length}
+use Rattle.game.specs.Grid.{Grid, size, mine, number}
+use Rattle.game.specs.Openings.{firstLabel, secondLabel}
+use Rattle.game.specs.Position.{Position, gain, cost}
+use Rattle.game.specs.Moves.{Reached}
+use Rattle.game.specs.Area.{laid}
+
+-- what tells a cell's kind: 0 for a mine, 1 more than its number for a safe cell
+unfoldable pub kind : Grid → ℕ → ℕ
+kind g i = cond (mine g i) 0 (1 + number g i)
+
+-- a safe cell's premium raised by 10, so that it is never below 0; 0 for a mine
+unfoldable pub raised : Grid → Position → ℕ → ℕ
+raised g s i = cond (mine g i) 0 (10 + gain g s i - cost g s i)
+
+-- before labelling: the third number holds the kind
+unfoldable pub loadedFive : Grid → ℕ → List ℤ
+loadedFive g i = pos 0 ∷ pos 0 ∷ pos (kind g i) ∷ pos 0 ∷ pos 0 ∷ []
+
+-- once labelled
+unfoldable pub labelledFive : Grid → ℕ → List ℤ
+labelledFive g i = pos (firstLabel g i) ∷ pos (secondLabel g i) ∷ pos (kind g i) ∷ pos 0 ∷ pos 0 ∷ []
+
+-- during play: labels, raised premium, state, kind
+unfoldable pub heldFive : Grid → Position → ℕ → List ℤ
+heldFive g s i =
+    pos (firstLabel g i) ∷ pos (secondLabel g i) ∷ pos (raised g s i) ∷ pos (getD s i 0) ∷ pos (kind g i) ∷ []
+
+-- the work area during play
+abbrev pub held : Grid → Position → List ℤ → List ℤ
+held g s old = laid (heldFive g s) (size g) old
+
+-- a grid of so many rows and columns, within the limits
+pub record Shape (rows columns : ℕ) : Type 0 where
+  pub some-rows : 1 ≤ rows
+  pub few-rows : rows ≤ 255
+  pub some-columns : 1 ≤ columns
+  pub few-columns : columns ≤ 255
+
+-- the work area w stands for the position s of the grid g, laid over old
+pub record Stands (rows columns : ℕ) (g : Grid) (s : Position) (old w : List ℤ) : Type 0 where
+  pub rows-are : g .rows ≡ rows
+  pub columns-are : g .columns ≡ columns
+  pub shape : Shape rows columns
+  pub room : 5 * size g ≤ length old
+  pub reached : Reached g s
+  pub holds-it : w ≡ held g s old
+
+-- the work area stands for some position
+pub record Standing (rows columns : ℕ) (w : List ℤ) : Type 0 where
+  pub grid : Grid
+  pub position : Position
+  pub old : List ℤ
+  pub stands : Stands rows columns grid position old w
