@@ -1,8 +1,18 @@
 -- One number of the work area at a time. Assumes nothing.
-use Prim.Native.Nat.{ℕ, _%_}
+use Prim.Native.Nat.{ℕ, _+_, _*_, _%_}
+use mathlib.Core.Bool.{Bool}
 use mathlib.Core.List.{List}
 use lib.IntN.{ℤ, pos, negsuc}
 use lib.ListN.{getD, set}
+use Rattle.game.specs.Grid.{Grid, isMine}
+
+-- the grid of rows, columns and a lent run of values
+abbrev pub gridOf : ℕ → ℕ → List ℤ → Grid
+gridOf r c vs = record { rows = r; columns = c; values = vs }
+
+-- the value at a row and a column is a mine
+abbrev pub rowMine : List ℤ → ℕ → ℕ → ℕ → Bool
+rowMine vs columns row column = isMine (getD vs (row * columns + column) (pos 0))
 
 -- a number that is not below 0; 0 in place of one that is
 abbrev pub natural : ℤ → ℕ

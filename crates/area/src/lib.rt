@@ -3,9 +3,8 @@ ghost use mathlib.Core.Path.{_≡_};
 ghost use Prim.Native.Nat.{ℕ, _+_, _*_, _-_, _<_, _≤_, min};
 ghost use lib.ListN.{length, getD};
 ghost use lib.IntN.{pos};
-ghost use Rattle.game.specs.Grid.{isMine, number, index};
+ghost use Rattle.game.specs.Grid.{isMine};
 ghost use Rattle.area.specs.Numbers.{numberAt, putAt};
-ghost use Rattle.area.specs.Stages.{Shape};
 
 // Whether the value at a place of the grid is a mine.
 pub fn mine_at(grid: &[i32], at: usize) -> bool

@@ -4,11 +4,11 @@ use native.Mathlib.Omega.{arith}
 use native.Mathlib.Decide.{ℕ-discrete, decLe}
 use mathlib.Core.Path.{_∙_, _≡_, ap, refl, subst, sym}
 use mathlib.Core.Bool.{Bool, _&&_, _||_, false, not, true}
-use mathlib.Core.List.{List, [], _∷_}
+use mathlib.Core.List.{List, [], _++_, _∷_, map}
 use lib.Dec.{T, eqb, eqb→eq}
 use lib.ListN.{length}
-use Rattle.game.specs.Lists.{Each, bit, count, has, keep}
-use Rattle.game.proofs.Members.{first-of, has-cases, has-head, has-tail, rest-of}
+use Rattle.game.specs.Lists.{Each, bit, count, has, keep, range}
+use Rattle.game.proofs.Members.{first-of, has-cases, has-head, has-tail, range-more, rest-of}
 use Rattle.game.proofs.Truth.{T→true, and-false, and-left, and-true, eqb-no, eqb-yes, no→false}
 
 -- ---- counts
@@ -63,6 +63,18 @@ count-find f (x ∷ xs) h = go (λ k. count-find f xs k) (f x) refl h
     go : (1 ≤ count f xs → (x : ℕ) × T (has x xs) × T (f x)) → (b : Bool) → f x ≡ b → 1 ≤ bit b + count f xs → (y : ℕ) × T (has y (x ∷ xs)) × T (f y)
     go r true e k = (x, has-head x x xs refl, rw e tt)
     go r false e k = let w = r (omega arith) in (w .0, has-tail (w .0) x xs (w .1), w .2)
+
+pub count-append {ℓ} : {A : Type ℓ} (f : A → Bool) (xs ys : List A) → count f (xs ++ ys) ≡ count f xs + count f ys
+count-append f [] ys = omega arith
+count-append f (x ∷ xs) ys = omega (arith, count-append f xs ys)
+
+-- a count over a range, one place more
+pub count-more : (f : ℕ → Bool) (a b : ℕ) → a ≤ b → count f (range a (b + 1)) ≡ count f (range a b) + bit (f b)
+count-more f a b h = omega (arith, ap (count f) (range-more a b h), count-append f (range a b) (b ∷ []))
+
+pub count-map {ℓ} : {A : Type ℓ} (f : A → Bool) (h : ℕ → A) (xs : List ℕ) → count f (map h xs) ≡ count (λ x. f (h x)) xs
+count-map f h [] = refl
+count-map f h (x ∷ xs) = ap (λ (n : ℕ). bit (f (h x)) + n) (count-map f h xs)
 
 pub length-keep {ℓ} : {A : Type ℓ} (f : A → Bool) (xs : List A) → length (keep f xs) ≡ count f xs
 length-keep f [] = refl

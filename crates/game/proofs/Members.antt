@@ -2,7 +2,8 @@
 use Prim.Native.Nat.{ℕ, _+_, _-_, _<_, _≤_, suc, zero}
 use native.Mathlib.Omega.{arith}
 use native.Mathlib.Decide.{ℕ-discrete}
-use mathlib.Core.Path.{_∙_, _≡_, ap, refl}
+use native.Mathlib.Nat.{add-zero}
+use mathlib.Core.Path.{_∙_, _≡_, ap, refl, sym}
 use mathlib.Core.Logic.{_⊎_, inl, inr, ⊎-elim}
 use mathlib.Core.Bool.{Bool, _&&_, _||_, false, not, true}
 use mathlib.Core.List.{List, [], _++_, _∷_, map}
@@ -170,3 +171,48 @@ pub fold-inv : {S : Type 0} (P : S → Type 0) (f : S → ℕ → S) (xs : List 
 fold-inv P f [] h s p = p
 fold-inv P f (x ∷ xs) h s p =
     fold-inv P f xs (λ t y u. h t y (has-tail y x xs u)) (f s x) (h s x (has-head x x xs refl) p)
+
+-- ---- walks: one place more, and squares as rows of columns
+
+from-more : (n a : ℕ) → from a (suc n) ≡ from a n ++ ((a + n) ∷ [])
+from-more zero a = ap (λ (k : ℕ). k ∷ []) (sym (add-zero a))
+from-more (suc n) a = ap (λ (l : List ℕ). a ∷ l) (from-more n (suc a) ∙ ap (λ (k : ℕ). from (suc a) n ++ (k ∷ [])) (move a n))
+  where
+    move : (a n : ℕ) → suc a + n ≡ a + suc n
+    move a n = omega arith
+
+pub range-more : (a b : ℕ) → a ≤ b → range a (b + 1) ≡ range a b ++ (b ∷ [])
+range-more a b h =
+    ap (from a) (one (b + 1) b refl) ∙ from-more (b - a) a ∙ ap (λ (k : ℕ). range a b ++ (k ∷ [])) (there)
+  where
+    one : (c d : ℕ) → c ≡ b + 1 → c - a ≡ suc (b - a)
+    one c d e = omega arith
+
+    there : a + (b - a) ≡ b
+    there = omega arith
+
+pub range-none : (a : ℕ) → range a a ≡ []
+range-none a = ap (from a) (sub-self a)
+  where
+    sub-self : (a : ℕ) → a - a ≡ 0
+    sub-self a = omega arith
+
+pub fold-append {ℓ} : {S : Type ℓ} (f : S → ℕ → S) (s : S) (xs ys : List ℕ) → fold f s (xs ++ ys) ≡ fold f (fold f s xs) ys
+fold-append f s [] ys = refl
+fold-append f s (x ∷ xs) ys = fold-append f (f s x) xs ys
+
+-- a fold over a range, one place more
+pub fold-more {ℓ} : {S : Type ℓ} (f : S → ℕ → S) (s : S) (a b : ℕ) → a ≤ b → fold f s (range a (b + 1)) ≡ f (fold f s (range a b)) b
+fold-more f s a b h = ap (fold f s) (range-more a b h) ∙ fold-append f s (range a b) (b ∷ [])
+
+pub fold-map {ℓ} : {S : Type ℓ} (f : S → ℕ → S) (h : ℕ → ℕ) (s : S) (xs : List ℕ) → fold f s (map h xs) ≡ fold (λ t x. f t (h x)) s xs
+fold-map f h s [] = refl
+fold-map f h s (x ∷ xs) = fold-map f h (f s (h x)) xs
+
+pub fold-concat-map {ℓ} : {S : Type ℓ} (f : S → ℕ → S) (h : ℕ → List ℕ) (s : S) (xs : List ℕ) → fold f s (concat-map h xs) ≡ fold (λ t x. fold f t (h x)) s xs
+fold-concat-map f h s [] = refl
+fold-concat-map f h s (x ∷ xs) = fold-append f s (h x) (concat-map h xs) ∙ fold-concat-map f h (fold f s (h x)) xs
+
+pub fold-ext {ℓ} : {S : Type ℓ} (f h : S → ℕ → S) (s : S) (xs : List ℕ) → ((t : S) (x : ℕ) → f t x ≡ h t x) → fold f s xs ≡ fold h s xs
+fold-ext f h s [] e = refl
+fold-ext f h s (x ∷ xs) e = ap (λ t. fold f t xs) (e s x) ∙ fold-ext f h (h s x) xs e

@@ -1,0 +1,36 @@
+-- `area::put`: the remainder fits 31 bits, so it is stored as itself. Assumes nothing.
+use Prim.Native.Nat.{ℕ, _%_}
+use native.Mathlib.Omega.{arith}
+use borrow.Author.Needs.{needs}
+use lib.IntN.{ℤ, pos}
+use lib.ListN.{set}
+use mathlib.Core.Path.{_≡_, ap}
+use mir.Syntax.{w32}
+use mir.Val.{SFits, toZ}
+use mir.Facts.{toZ-ofZ}
+use Rattle.area.proofs.put.Statement.{statement}
+use Rattle.area.proofs.put.Tie as tie
+
+cast-work : tie.Need-cast-work
+cast-work c = search needs
+
+mul-t6 : tie.Need-mul-t6
+mul-t6 c = search needs
+
+slice-set-from-work : tie.Need-slice-set-from-work
+slice-set-from-work c = search needs
+
+same-length : tie.Need-same-length
+same-length c = search needs
+
+stored : (v : ℕ) → toZ w32 (v % 2147483648) ≡ pos (v % 2147483648)
+stored v = toZ-ofZ (fits v)
+  where
+    fits : (v : ℕ) → SFits w32 (pos (v % 2147483648))
+    fits v = record { sfits = omega arith }
+
+returns : tie.Need-returns
+returns c = ap (λ (z : ℤ). set (c .args .work .now) (c .args .at) z) (stored (c .args .value))
+
+pub put-spec : {M : Type 1} → statement M
+put-spec = tie.close (tie.spec cast-work mul-t6 slice-set-from-work same-length returns)
