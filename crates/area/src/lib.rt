@@ -3,8 +3,10 @@ ghost use mathlib.Core.Path.{_≡_};
 ghost use Prim.Native.Nat.{ℕ, _+_, _*_, _-_, _<_, _≤_, min};
 ghost use lib.ListN.{length, getD};
 ghost use lib.IntN.{pos};
-ghost use Rattle.game.specs.Grid.{isMine};
-ghost use Rattle.area.specs.Numbers.{numberAt, putAt};
+ghost use Rattle.game.specs.Lists.{count, range};
+ghost use Rattle.game.specs.Grid.{isMine, number};
+ghost use Rattle.area.specs.Numbers.{numberAt, putAt, gridOf, rowMine};
+ghost use Rattle.area.specs.Stages.{Shape};
 
 // Whether the value at a place of the grid is a mine.
 pub fn mine_at(grid: &[i32], at: usize) -> bool
@@ -45,4 +47,32 @@ pub fn upper(x: usize, n: usize) -> usize
     ensures { λ r. ⌜ r ≡ min (x + 2) n ⌝ }
 {
     if x + 1 < n { x + 2 } else { n }
+}
+
+// The mines of a row, in the columns from one up to another.
+pub fn mines_in_row(grid: &[i32], columns: usize, row: usize, from: usize, to: usize) -> usize
+    requires { ⌜ (from ≤ to) × (to ≤ columns) × (row * columns + to ≤ length (now grid)) ⌝ }
+    ensures { λ r. ⌜ (r ≡ count (rowMine (now (grid .entry)) columns row) (range from to)) × (r ≤ to - from) ⌝ }
+{
+    let mut mines: usize = 0;
+    for column in from..to {
+        mines += mine_at(grid, row * columns + column) as usize;
+    }
+    mines
+}
+
+// The number of a cell: the mines in its square.
+pub fn number(grid: &[i32], rows: usize, columns: usize, row: usize, column: usize) -> usize
+    requires { ⌜ Shape rows columns ⌝ }
+    requires { ⌜ (row < rows) × (column < columns) × (length (now grid) ≡ rows * columns) ⌝ }
+    ensures { λ r. ⌜ (r ≡ number (gridOf rows columns (now (grid .entry))) (column * rows + row)) × (r ≤ 9) ⌝ }
+{
+    let from = lower(column);
+    let to = upper(column, columns);
+    let last = upper(row, rows);
+    let mut mines: usize = 0;
+    for r in lower(row)..last {
+        mines += mines_in_row(grid, columns, r, from, to);
+    }
+    mines
 }

@@ -6,7 +6,7 @@ use native.Mathlib.Nat.{add-zero}
 use mathlib.Core.Path.{_∙_, _≡_, ap, refl, sym}
 use mathlib.Core.Logic.{_⊎_, inl, inr, ⊎-elim}
 use mathlib.Core.Bool.{Bool, _&&_, _||_, false, not, true}
-use mathlib.Core.List.{List, [], _++_, _∷_, map}
+use mathlib.Core.List.{List, [], _++_, _∷_, append-assoc, append-nil, map}
 use lib.Dec.{T, T-not, eqb, eqb-refl, eqb→eq}
 use lib.ListN.{getD, length}
 use Rattle.game.specs.Lists.{all-of, concat-map, fold, from, has, keep, range, some-of}
@@ -216,3 +216,10 @@ fold-concat-map f h s (x ∷ xs) = fold-append f s (h x) (concat-map h xs) ∙ f
 pub fold-ext {ℓ} : {S : Type ℓ} (f h : S → ℕ → S) (s : S) (xs : List ℕ) → ((t : S) (x : ℕ) → f t x ≡ h t x) → fold f s xs ≡ fold h s xs
 fold-ext f h s [] e = refl
 fold-ext f h s (x ∷ xs) e = ap (λ t. fold f t xs) (e s x) ∙ fold-ext f h (h s x) xs e
+
+pub concat-map-more : (f : ℕ → List ℕ) (a b : ℕ) → a ≤ b → concat-map f (range a (b + 1)) ≡ concat-map f (range a b) ++ f b
+concat-map-more f a b h = ap (concat-map f) (range-more a b h) ∙ append-one (range a b)
+  where
+    append-one : (xs : List ℕ) → concat-map f (xs ++ (b ∷ [])) ≡ concat-map f xs ++ f b
+    append-one [] = append-nil (f b)
+    append-one (x ∷ xs) = ap (λ (l : List ℕ). f x ++ l) (append-one xs) ∙ sym (append-assoc (f x) (concat-map f xs) (f b))

@@ -9,7 +9,7 @@ use mathlib.Core.List.{map}
 use lib.Dec.{T}
 use lib.ListN.{getD, length}
 use Rattle.game.specs.Grid.{Grid, cells, columnOf, index, near, rowOf, size, square}
-use Rattle.game.specs.Lists.{count, from, has}
+use Rattle.game.specs.Lists.{concat-map, count, from, has}
 use Rattle.game.proofs.Counts.{Once, count-once}
 use Rattle.game.proofs.Members.{concat-map-has, has-concat-map, has-map, has-range, length-from, map-has, range-has}
 use Rattle.game.proofs.Orders.{Ordered, once-range, ordered-concat-map, ordered-map, ordered-once, ordered-range}
@@ -145,3 +145,12 @@ getD-cells g f j h = getD-from f (size g - 0) 0 j (omega arith) ∙ ap f (zero-a
 pub count-square : (g : Grid) (f : ℕ → Bool) (i : ℕ) → i < size g → count f (square g i) ≡ count (λ j. has j (square g i) && f j) (cells g)
 count-square g f i h =
     count-once f (square g i) (cells g) (once-square g i) (once-cells g) (λ x t. →cells g x (square→ g i x h t .0))
+
+-- ---- the square of a cell by its row and column
+
+pub square-at : (g : Grid) (row column : ℕ) → row < g .rows
+    → square g (index g row column) ≡ concat-map (λ r. map (λ c. index g r c) (near (g .columns) column)) (near (g .rows) row)
+unfolding square
+square-at g row column h =
+    ap (λ (k : ℕ). concat-map (λ r. map (λ c. index g r c) (near (g .columns) k)) (near (g .rows) (rowOf g (index g row column)))) (index-column g row column h)
+    ∙ ap (λ (k : ℕ). concat-map (λ r. map (λ c. index g r c) (near (g .columns) column)) (near (g .rows) k)) (index-row g row column h)
