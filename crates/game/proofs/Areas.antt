@@ -1,16 +1,17 @@
 -- The work area by its places: each cell's five numbers, and what was there past them. Assumes nothing.
 use Prim.Native.Nat.{ℕ, _%_, _*_, _+_, _-_, _/_, _<_, _≤_, suc, zero}
 use native.Mathlib.Omega.{arith}
-use native.Mathlib.Decide.{decLe}
+use native.Mathlib.Decide.{ℕ-discrete, decLe}
 use native.Mathlib.Nat.{add-zero, zero-add}
-use mathlib.Core.Path.{_∙_, _≡_, ap, refl, sym}
+use mathlib.Core.Path.{_∙_, _≡_, ap, refl, subst, sym}
+use mathlib.Core.Logic.{_⊎_, inl, inr}
 use mathlib.Core.List.{List}
 use lib.IntN.{pos, ℤ}
 use lib.ListN.{List·getD-append, drop, getD, length, length-append, length-drop}
 use lib.Seq.{ext-getD, getD-append-add, getD-drop}
 use Rattle.game.specs.Area.{begun, fiveNumbers, laid}
 use Rattle.game.specs.Grid.{Grid}
-use Rattle.game.specs.Lists.{concat-map, from, range}
+use Rattle.game.specs.Lists.{concat-map, fold, from, range}
 use Rattle.game.specs.Position.{Position}
 
 -- ---- a run that begins with other entries
@@ -102,6 +103,46 @@ module _ (five : ℕ → List ℤ) (len : (i : ℕ) → length (five i) ≡ 5) w
             | no b ↦ ap (λ (m : ℕ). getD new m (pos 0)) (sym (parts k)) ∙ front (k / 5) (k % 5) (cell k (omega arith)) (small k)
                 ∙ sym (laid-at n old (k / 5) (k % 5) (cell k (omega arith)) (small k)) ∙ ap (λ (m : ℕ). getD (laid five n old) m (pos 0)) (parts k)
           ]
+
+-- cells laid one after the other, each from what was there before
+module _ (five : ℕ → List ℤ) (len : (i : ℕ) → length (five i) ≡ 5) (n : ℕ) (old : List ℤ) (room : 5 * n ≤ length old) (step : List ℤ → ℕ → List ℤ) where
+  -- the first i cells are laid, the rest is as it was
+  pub record LaidTo (i : ℕ) (w : List ℤ) : Type 0 where
+    pub long : length w ≡ length old
+    pub done : (j k : ℕ) → j < i → k < 5 → getD w (5 * j + k) (pos 0) ≡ getD (five j) k (pos 0)
+    pub rest : (m : ℕ) → 5 * i ≤ m → getD w m (pos 0) ≡ getD old m (pos 0)
+
+  module _ (long : (w : List ℤ) (i : ℕ) → length (step w i) ≡ length w)
+      (here : (w : List ℤ) (i k : ℕ) → i < n → LaidTo i w → k < 5 → getD (step w i) (5 * i + k) (pos 0) ≡ getD (five i) k (pos 0))
+      (there : (w : List ℤ) (i m : ℕ) → i < n → LaidTo i w → (m < 5 * i) ⊎ (5 * i + 5 ≤ m) → getD (step w i) m (pos 0) ≡ getD w m (pos 0)) where
+    one-laid : (w : List ℤ) (i : ℕ) → i < n → LaidTo i w → LaidTo (suc i) (step w i)
+    one-laid w i h l =
+        record {
+          long = long w i ∙ l .long;
+          done = λ j k a b. elim (ℕ-discrete j i) [
+            | yes e ↦ subst (λ (x : ℕ). getD (step w i) (5 * x + k) (pos 0) ≡ getD (five x) k (pos 0)) (sym e) (here w i k h l b)
+            | no f ↦ there w i (5 * j + k) h l (inl (omega arith)) ∙ l .done j k (omega arith) b
+          ];
+          rest = λ m a. there w i m h l (inr (omega arith)) ∙ l .rest m (omega arith);
+        }
+
+    laid-from : (k i : ℕ) (w : List ℤ) → i + k ≤ n → LaidTo i w → LaidTo (i + k) (fold step w (from i k))
+    laid-from zero i w h l = subst (λ (m : ℕ). LaidTo m w) (sym (add-zero i)) l
+    laid-from (suc k) i w h l =
+        subst (λ (m : ℕ). LaidTo m (fold step w (from i (suc k)))) (up i k) (laid-from k (suc i) (step w i) (omega arith) (one-laid w i (omega arith) l))
+      where
+        up : (i k : ℕ) → suc i + k ≡ i + suc k
+        up i k = omega arith
+
+    -- together they are laid
+    pub laid-fold : fold step old (range 0 n) ≡ laid five n old
+    laid-fold =
+        let l = subst (λ (m : ℕ). LaidTo m (fold step old (range 0 n))) (all n)
+        (laid-from (n - 0) 0 old (omega arith) (record { long = refl; done = λ j k a b. absurd (omega arith); rest = λ m a. refl })) in
+        laid-only five len n old (fold step old (range 0 n)) room (l .long) (l .done) (l .rest)
+      where
+        all : (n : ℕ) → 0 + (n - 0) ≡ n
+        all n = omega arith
 
 -- numbers laid over numbers laid: the later ones stand
 pub laid-again : (five other : ℕ → List ℤ) → ((i : ℕ) → length (five i) ≡ 5) → ((i : ℕ) → length (other i) ≡ 5) → (n : ℕ) (old : List ℤ) → 5 * n ≤ length old

@@ -1,8 +1,8 @@
 -- What it is to be in a list, by the computed test `has`: each law by going down the list. Assumes nothing.
-use Prim.Native.Nat.{ℕ, _+_, _-_, _<_, _≤_, suc, zero}
+use Prim.Native.Nat.{ℕ, _*_, _+_, _-_, _<_, _≤_, suc, zero}
 use native.Mathlib.Omega.{arith}
 use native.Mathlib.Decide.{ℕ-discrete}
-use native.Mathlib.Nat.{add-zero}
+use native.Mathlib.Nat.{add-zero, sub-zero, zero-add}
 use mathlib.Core.Path.{_∙_, _≡_, ap, refl, sym}
 use mathlib.Core.Logic.{_⊎_, inl, inr, ⊎-elim}
 use mathlib.Core.Bool.{Bool, _&&_, _||_, false, not, true}
@@ -223,3 +223,52 @@ concat-map-more f a b h = ap (concat-map f) (range-more a b h) ∙ append-one (r
     append-one : (xs : List ℕ) → concat-map f (xs ++ (b ∷ [])) ≡ concat-map f xs ++ f b
     append-one [] = append-nil (f b)
     append-one (x ∷ xs) = ap (λ (l : List ℕ). f x ++ l) (append-one xs) ∙ sym (append-assoc (f x) (concat-map f xs) (f b))
+
+-- ---- a walk by column and row is a walk in index order
+
+from-append : (m n a : ℕ) → from a (m + n) ≡ from a m ++ from (a + m) n
+from-append zero n a = ap (from a) (zero-add n) ∙ ap (λ (k : ℕ). from k n) (sym (add-zero a))
+from-append (suc m) n a =
+    ap (from a) (up m n) ∙ ap (λ (l : List ℕ). a ∷ l) (from-append m n (suc a) ∙ ap (λ (k : ℕ). from (suc a) m ++ from k n) (up′ a m))
+  where
+    up : (m n : ℕ) → suc m + n ≡ suc (m + n)
+    up m n = omega arith
+
+    up′ : (a m : ℕ) → suc a + m ≡ a + suc m
+    up′ a m = omega arith
+
+from-shift : (n a b : ℕ) → from (a + b) n ≡ map (λ (k : ℕ). a + k) (from b n)
+from-shift zero a b = refl
+from-shift (suc n) a b = ap (λ (l : List ℕ). (a + b) ∷ l) (ap (λ (k : ℕ). from k n) (up a b) ∙ from-shift n a (suc b))
+  where
+    up : (a b : ℕ) → suc (a + b) ≡ a + suc b
+    up a b = omega arith
+
+pub fold-columns {ℓ} : {S : Type ℓ} (f : S → ℕ → S) (rows : ℕ) (s : S) (columns : ℕ)
+    → fold (λ t c. fold (λ u r. f u (c * rows + r)) t (range 0 rows)) s (range 0 columns) ≡ fold f s (range 0 (columns * rows))
+fold-columns {S} f rows s columns =
+    ap (λ (n : ℕ). fold (λ t c. fold (λ u r. f u (c * rows + r)) t (range 0 rows)) s (from 0 n)) (sub-zero columns) ∙ go columns
+    ∙ ap (λ (n : ℕ). fold f s (from 0 n)) (sym (sub-zero (columns * rows)))
+  where
+    column : S → ℕ → S
+    column t c = fold (λ u r. f u (c * rows + r)) t (range 0 rows)
+
+    one-column : (t : S) (c : ℕ) → column t c ≡ fold f t (from (c * rows) rows)
+    one-column t c =
+        sym (fold-map f (λ r. c * rows + r) t (range 0 rows)) ∙ ap (λ (l : List ℕ). fold f t l)
+        (ap (λ (n : ℕ). map (λ r. c * rows + r) (from 0 n)) (sub-zero rows) ∙ sym (from-shift rows (c * rows) 0) ∙ ap (λ (k : ℕ). from k rows) (add-zero (c * rows)))
+
+    go : (n : ℕ) → fold column s (from 0 n) ≡ fold f s (from 0 (n * rows))
+    go zero = ap (λ (k : ℕ). fold f s (from 0 k)) (none rows)
+      where
+        none : (r : ℕ) → 0 ≡ 0 * r
+        none r = omega arith
+    go (suc n) =
+        ap (fold column s) (from-more n 0) ∙ fold-append column s (from 0 n) ((0 + n) ∷ []) ∙ ap (λ (k : ℕ). column (fold column s (from 0 n)) k) (zero-add n)
+        ∙ ap (λ (t : S). column t n) (go n) ∙ one-column (fold f s (from 0 (n * rows))) n
+        ∙ ap (λ (k : ℕ). fold f (fold f s (from 0 (n * rows))) (from k rows)) (sym (zero-add (n * rows)))
+        ∙ sym (fold-append f s (from 0 (n * rows)) (from (0 + n * rows) rows)) ∙ ap (fold f s) (sym (from-append (n * rows) rows 0))
+        ∙ ap (λ (k : ℕ). fold f s (from 0 k)) (up n rows)
+      where
+        up : (n r : ℕ) → n * r + r ≡ suc n * r
+        up n r = omega arith
