@@ -5,10 +5,10 @@ use native.Mathlib.Decide.{ℕ-discrete, decLe}
 use native.Mathlib.Nat.{add-zero, zero-add}
 use mathlib.Core.Path.{_∙_, _≡_, ap, refl, subst, sym}
 use mathlib.Core.Logic.{_⊎_, inl, inr}
-use mathlib.Core.List.{List}
+use mathlib.Core.List.{List, [], _∷_}
 use lib.IntN.{pos, ℤ}
-use lib.ListN.{List·getD-append, drop, getD, length, length-append, length-drop}
-use lib.Seq.{ext-getD, getD-append-add, getD-drop}
+use lib.ListN.{List·getD-append, drop, getD, length, length-append, length-drop, length-set, set}
+use lib.Seq.{ext-getD, getD-append-add, getD-drop, getD-set-other, getD-set-same, sets}
 use Rattle.game.specs.Area.{begun, fiveNumbers, laid}
 use Rattle.game.specs.Grid.{Grid}
 use Rattle.game.specs.Lists.{concat-map, fold, from, range}
@@ -31,6 +31,28 @@ begun-past front old k d h =
   where
     there : k ≡ length front + (k - length front)
     there = omega arith
+
+-- ---- a run of entries set in the middle
+
+module _ {A : Type 0} (d : A) where
+  pub sets-below : (vs l : List A) (i m : ℕ) → m < i → getD (sets l i vs) m d ≡ getD l m d
+  sets-below [] l i m h = refl
+  sets-below (v ∷ vs) l i m h = sets-below vs (set l i v) (suc i) m (omega arith) ∙ getD-set-other l i m v d (λ e. omega arith)
+
+  pub sets-above : (vs l : List A) (i m : ℕ) → i + length vs ≤ m → getD (sets l i vs) m d ≡ getD l m d
+  sets-above [] l i m h = refl
+  sets-above (v ∷ vs) l i m h = sets-above vs (set l i v) (suc i) m (omega arith) ∙ getD-set-other l i m v d (λ e. omega arith)
+
+  pub sets-here : (vs l : List A) (i k : ℕ) → i + length vs ≤ length l → k < length vs → getD (sets l i vs) (i + k) d ≡ getD vs k d
+  sets-here [] l i k h b = absurd (omega arith)
+  sets-here (v ∷ vs) l i zero h b =
+      ap (λ (m : ℕ). getD (sets (set l i v) (suc i) vs) m d) (add-zero i) ∙ sets-below vs (set l i v) (suc i) i (omega arith)
+      ∙ getD-set-same l i v d (omega arith)
+  sets-here (v ∷ vs) l i (suc k) h b =
+      ap (λ (m : ℕ). getD (sets (set l i v) (suc i) vs) m d) (up i k) ∙ sets-here vs (set l i v) (suc i) k (omega (arith, length-set l i v)) (omega arith)
+    where
+      up : (i k : ℕ) → i + suc k ≡ suc i + k
+      up i k = omega arith
 
 -- ---- five numbers a cell
 

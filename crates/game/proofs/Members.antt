@@ -205,6 +205,10 @@ fold-append f s (x ∷ xs) ys = fold-append f (f s x) xs ys
 pub fold-more {ℓ} : {S : Type ℓ} (f : S → ℕ → S) (s : S) (a b : ℕ) → a ≤ b → fold f s (range a (b + 1)) ≡ f (fold f s (range a b)) b
 fold-more f s a b h = ap (fold f s) (range-more a b h) ∙ fold-append f s (range a b) (b ∷ [])
 
+pub length-fold {ℓ} : {A : Type ℓ} (f : List A → ℕ → List A) (w : List A) (xs : List ℕ) → ((v : List A) (x : ℕ) → length (f v x) ≡ length v) → length (fold f w xs) ≡ length w
+length-fold f w [] h = refl
+length-fold f w (x ∷ xs) h = length-fold f (f w x) xs h ∙ h w x
+
 pub fold-map {ℓ} : {S : Type ℓ} (f : S → ℕ → S) (h : ℕ → ℕ) (s : S) (xs : List ℕ) → fold f s (map h xs) ≡ fold (λ t x. f t (h x)) s xs
 fold-map f h s [] = refl
 fold-map f h s (x ∷ xs) = fold-map f h (f s (h x)) xs

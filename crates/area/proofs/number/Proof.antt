@@ -1,5 +1,5 @@
 -- `area::number`: the mines counted so far are those of the square's rows passed. Assumes nothing.
-use Prim.Native.Nat.{ℕ, _+_, _-_, _*_, _%_, _≤_, _<_, min}
+use Prim.Native.Nat.{ℕ, _+_, _-_, _*_, _≤_, _<_, min}
 use native.Mathlib.Omega.{arith}
 use native.Mathlib.Nat.{mul-le-mul-right}
 use borrow.Author.Needs.{needs}
@@ -11,8 +11,9 @@ use Rattle.game.specs.Lists.{count, range, concat-map}
 use Rattle.game.specs.Grid.{Grid, isMine, mine, number, square}
 use Rattle.game.proofs.Members.{range-none, concat-map-more}
 use Rattle.game.proofs.Counts.{count-append, count-map, count-ext, count-le}
-use Rattle.game.proofs.Squares.{square-at, index-row, index-column}
+use Rattle.game.proofs.Squares.{square-at}
 use Rattle.game.proofs.Ranges.{length-square}
+use Rattle.area.proofs.Cells.{mine-here}
 use Rattle.area.specs.Numbers.{gridOf, rowMine}
 use Rattle.area.specs.Stages.{Shape}
 use Rattle.area.proofs.number.Statement.{statement}
@@ -25,11 +26,8 @@ cellsOf rows from to a b = concat-map (λ r. map (λ c. c * rows + r) (range fro
 -- a row's mines, by the values and by the cells
 row-mines : (rows columns : ℕ) (vs : List ℤ) (r from to : ℕ) → r < rows
     → count (rowMine vs columns r) (range from to) ≡ count (mine (gridOf rows columns vs)) (map (λ c. c * rows + r) (range from to))
-unfolding mine
 row-mines rows columns vs r from to h =
-    count-ext (rowMine vs columns r) (λ c. mine (gridOf rows columns vs) (c * rows + r)) (range from to) (λ c t.
-    ap (λ (k : ℕ). rowMine vs columns k c) (sym (index-row (gridOf rows columns vs) r c h))
-    ∙ ap (λ (k : ℕ). rowMine vs columns ((c * rows + r) % rows) k) (sym (index-column (gridOf rows columns vs) r c h)))
+    count-ext (rowMine vs columns r) (λ c. mine (gridOf rows columns vs) (c * rows + r)) (range from to) (λ c t. mine-here rows columns vs r c h)
     ∙ sym (count-map (mine (gridOf rows columns vs)) (λ c. c * rows + r) (range from to))
 
 -- one row more

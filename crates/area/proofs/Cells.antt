@@ -1,0 +1,29 @@
+-- A cell by its row and column: its index lies in the grid, and its value tells a mine. Assumes nothing.
+use Prim.Native.Nat.{ℕ, _%_, _*_, _+_, _<_, _≤_}
+use native.Mathlib.Omega.{arith}
+use native.Mathlib.Nat.{mul-le-mul-left, mul-le-mul-right, mul-comm}
+use mathlib.Core.Path.{_≡_, ap, sym, _∙_}
+use mathlib.Core.List.{List}
+use lib.IntN.{ℤ}
+use Rattle.game.specs.Grid.{mine}
+use Rattle.game.proofs.Squares.{index-row, index-column}
+use Rattle.area.specs.Numbers.{gridOf, rowMine}
+use Rattle.area.specs.Stages.{Shape}
+
+pub mine-here : (rows columns : ℕ) (vs : List ℤ) (row column : ℕ) → row < rows → rowMine vs columns row column ≡ mine (gridOf rows columns vs) (column * rows + row)
+unfolding mine
+mine-here rows columns vs row column h =
+    ap (λ (k : ℕ). rowMine vs columns k column) (sym (index-row (gridOf rows columns vs) row column h))
+    ∙ ap (λ (k : ℕ). rowMine vs columns ((column * rows + row) % rows) k) (sym (index-column (gridOf rows columns vs) row column h))
+
+-- an index is below the cells
+pub cell-below : (rows columns row column : ℕ) → row < rows → column < columns → column * rows + row < rows * columns
+cell-below rows columns row column h k = omega (arith, mul-le-mul-right rows k)
+
+-- a place in the grid's values too
+pub place-below : (rows columns row column : ℕ) → row < rows → column < columns → row * columns + column < rows * columns
+place-below rows columns row column h k = omega (arith, mul-le-mul-right columns h)
+
+-- there are at most 65025 cells
+pub cells-few : (rows columns : ℕ) → Shape rows columns → rows * columns ≤ 65025
+cells-few rows columns s = omega (arith, mul-le-mul-left rows (s .few-columns), mul-le-mul-right 255 (s .few-rows))
