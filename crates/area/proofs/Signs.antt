@@ -1,10 +1,10 @@
 -- A signed number in a local is its bits: what tests on the bits say of the number. Assumes nothing.
-use Prim.Native.Nat.{ℕ, zero, suc, _-_, _<_}
+use Prim.Native.Nat.{ℕ, zero, suc, _-_, _%_, _<_}
 use native.Mathlib.Omega.{arith}
 use mathlib.Core.Path.{_≡_, refl, sym, ap, _∙_, subst}
-use mathlib.Core.Bool.{Bool, true, false}
+use mathlib.Core.Bool.{Bool, true, false, cond}
 use lib.Dec.{T, eqb, ltb, ltb→lt}
-use lib.IntN.{ℤ, pos, negsuc, natAbs}
+use lib.IntN.{ℤ, pos, negsuc, natAbs, _-ℤ_}
 use lib.Signed.{mag, ltZ, nonNeg}
 use mir.Syntax.{w32}
 use mir.Val.{SFits, ofZ, toZ}
@@ -42,3 +42,20 @@ from-zero (negsuc n) f e = absurd (subst T e tt)
 
 pub left-negative : (v : ℤ) → SFits w32 v → ltZ (toZ w32 (ofZ w32 v)) (pos 0) ≡ false → FromZero v
 left-negative v f e = from-zero v f (subst (λ (z : ℤ). ltZ z (pos 0) ≡ false) (toZ-ofZ f) e)
+
+-- ---- what is stored
+
+fits-below : (v : ℕ) → v < 2147483648 → SFits w32 (pos v)
+fits-below v h = record { sfits = h }
+
+-- a number of 31 bits
+pub stored : (v : ℕ) → toZ w32 (v % 2147483648) ≡ pos (v % 2147483648)
+stored v = toZ-ofZ (fits-below (v % 2147483648) (omega arith))
+
+-- the same less 10
+pub lowered-fits : (v : ℕ) → SFits w32 (pos (v % 2147483648) -ℤ pos 10)
+lowered-fits v = record { sfits = go (v % 2147483648) (omega arith) (ltb (v % 2147483648) 10) }
+  where
+    go : (n : ℕ) → n < 2147483648 → (b : Bool) → mag (cond b (negsuc (10 - suc n)) (pos (n - 10))) < 2147483648
+    go n h true = omega arith
+    go n h false = omega arith

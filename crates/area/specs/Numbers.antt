@@ -2,7 +2,7 @@
 use Prim.Native.Nat.{ℕ, _+_, _*_, _%_}
 use mathlib.Core.Bool.{Bool}
 use mathlib.Core.List.{List}
-use lib.IntN.{ℤ, pos, negsuc}
+use lib.IntN.{ℤ, pos, negsuc, _-ℤ_}
 use lib.ListN.{getD, set}
 use Rattle.game.specs.Grid.{Grid, isMine}
 
@@ -26,3 +26,7 @@ numberAt w k = natural (getD w k (pos 0))
 -- a number put at a place; numbers of 2 ^ 31 and more do not occur
 abbrev pub putAt : List ℤ → ℕ → ℕ → List ℤ
 putAt w k v = set w k (pos (v % 2147483648))
+
+-- a number less 10 put at a place
+abbrev pub putLowered : List ℤ → ℕ → ℕ → List ℤ
+putLowered w k v = set w k (pos (v % 2147483648) -ℤ pos 10)

@@ -3,9 +3,11 @@ ghost use mathlib.Core.Path.{_≡_};
 ghost use Prim.Native.Nat.{ℕ, _+_, _*_, _-_, _<_, _≤_, min};
 ghost use lib.ListN.{length, getD};
 ghost use lib.IntN.{pos};
-ghost use Rattle.game.specs.Lists.{count, range};
+ghost use mathlib.Core.Bool.{not};
+ghost use lib.Dec.{eqb};
+ghost use Rattle.game.specs.Lists.{bit, count, range};
 ghost use Rattle.game.specs.Grid.{isMine, number};
-ghost use Rattle.area.specs.Numbers.{numberAt, putAt, gridOf, rowMine};
+ghost use Rattle.area.specs.Numbers.{numberAt, putAt, putLowered, gridOf, rowMine};
 ghost use Rattle.area.specs.Stages.{Shape};
 
 // Whether the value at a place of the grid is a mine.
@@ -75,4 +77,27 @@ pub fn number(grid: &[i32], rows: usize, columns: usize, row: usize, column: usi
         mines += mines_in_row(grid, columns, r, from, to);
     }
     mines
+}
+
+// Puts a number less 10 at a place of the work area.
+pub fn put_lowered(work: &mut [i32], at: usize, value: usize)
+    requires { ⌜ at < length (now work) ⌝ }
+    ensures { λ _. ⌜ now (work .exit) ≡ putLowered (now (work .entry)) at value ⌝ }
+{
+    let v = (value % 2147483648) as i32;
+    work[at] = v - 10;
+}
+
+// A difference, 0 where it would be below 0.
+pub fn less(a: usize, b: usize) -> usize
+    ensures { λ r. ⌜ r ≡ a - b ⌝ }
+{
+    if a < b { 0 } else { a - b }
+}
+
+// 1 for a number that is not 0.
+pub fn mark(x: usize) -> usize
+    ensures { λ r. ⌜ (r ≡ bit (not (eqb x 0))) × (r ≤ 1) ⌝ }
+{
+    if x == 0 { 0 } else { 1 }
 }

@@ -1,13 +1,9 @@
 -- `area::put`: the remainder fits 31 bits, so it is stored as itself. Assumes nothing.
-use Prim.Native.Nat.{ℕ, _%_}
-use native.Mathlib.Omega.{arith}
 use borrow.Author.Needs.{needs}
-use lib.IntN.{ℤ, pos}
+use lib.IntN.{ℤ}
 use lib.ListN.{set}
-use mathlib.Core.Path.{_≡_, ap}
-use mir.Syntax.{w32}
-use mir.Val.{SFits, toZ}
-use mir.Facts.{toZ-ofZ}
+use mathlib.Core.Path.{ap}
+use Rattle.area.proofs.Signs.{stored}
 use Rattle.area.proofs.put.Statement.{statement}
 use Rattle.area.proofs.put.Tie as tie
 
@@ -22,12 +18,6 @@ slice-set-from-work c = search needs
 
 same-length : tie.Need-same-length
 same-length c = search needs
-
-stored : (v : ℕ) → toZ w32 (v % 2147483648) ≡ pos (v % 2147483648)
-stored v = toZ-ofZ (fits v)
-  where
-    fits : (v : ℕ) → SFits w32 (pos (v % 2147483648))
-    fits v = record { sfits = omega arith }
 
 returns : tie.Need-returns
 returns c = ap (λ (z : ℤ). set (c .args .work .now) (c .args .at) z) (stored (c .args .value))

@@ -1,0 +1,36 @@
+-- `area::put_lowered`: a number of 31 bits less 10 fits 32. Assumes nothing.
+use borrow.Author.Needs.{needs}
+use mathlib.Core.Path.{ap, _∙_}
+use lib.IntN.{ℤ, pos, _-ℤ_}
+use lib.ListN.{set}
+use mir.Syntax.{w32}
+use mir.Val.{toZ, ofZ}
+use mir.Facts.{toZ-ofZ}
+use Rattle.area.proofs.Signs.{stored, lowered-fits}
+use Rattle.area.proofs.put_lowered.Statement.{statement}
+use Rattle.area.proofs.put_lowered.Tie as tie
+
+cast-v : tie.Need-cast-v
+cast-v c = search needs
+
+sub-work : tie.Need-sub-work
+sub-work c = rw (stored (c .args .value)) (lowered-fits (c .args .value))
+
+mul-t5 : tie.Need-mul-t5
+mul-t5 c = search needs
+
+slice-set-from-work : tie.Need-slice-set-from-work
+slice-set-from-work c = search needs
+
+same-length : tie.Need-same-length
+same-length c = search needs
+
+returns : tie.Need-returns
+returns c =
+    let v = c .args .value in
+    ap (λ (z : ℤ). set (c .args .work .now) (c .args .at) (toZ w32 (ofZ w32 (z -ℤ pos 10)))) (stored v)
+    ∙ ap (λ (z : ℤ). set (c .args .work .now) (c .args .at) z) (toZ-ofZ (lowered-fits v))
+
+pub put-lowered-spec : {M : Type 1} → statement M
+put-lowered-spec =
+    tie.close (tie.spec cast-v sub-work mul-t5 slice-set-from-work same-length returns)
