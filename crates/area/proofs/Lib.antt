@@ -1,2 +1,4 @@
 pub mod Signs
 pub mod Cells
+pub mod Tests
+pub mod Rows

@@ -2,30 +2,13 @@
 use Prim.Native.Nat.{ℕ, _+_, _-_, _≤_}
 use native.Mathlib.Omega.{arith}
 use borrow.Author.Needs.{needs}
-use mathlib.Core.Path.{_≡_, ap, refl, sym, _∙_}
-use mathlib.Core.Bool.{Bool, true, false}
-use mathlib.Core.Logic.{⊎-elim}
+use mathlib.Core.Path.{_≡_, ap, _∙_}
 use lib.ListN.{length}
-use mir.Val.{boolByte}
-use Rattle.game.specs.Lists.{bit, count, range}
-use Rattle.game.proofs.Members.{range-none}
-use Rattle.game.proofs.Counts.{count-more}
+use Rattle.game.specs.Lists.{count, range}
+use Rattle.area.proofs.Tests.{byte-le, count-none-yet, count-one-more}
 use Rattle.area.specs.Numbers.{rowMine}
 use Rattle.area.proofs.mines_in_row.Statement.{statement}
 use Rattle.area.proofs.mines_in_row.Tie as tie
-
--- a test as a number
-byte-bit : (b : Bool) → boolByte b ≡ bit b
-byte-bit true = refl
-byte-bit false = refl
-
-byte-le : (b : Bool) → boolByte b ≤ 1
-byte-le true = omega arith
-byte-le false = omega arith
-
--- one column more
-one-more : (f : ℕ → Bool) (a b m : ℕ) (r : Bool) → a ≤ b → m ≡ count f (range a b) → r ≡ f b → m + boolByte r ≡ count f (range a (b + 1))
-one-more f a b m r h e q = omega (arith, count-more f a b h, byte-bit r, ap bit q)
 
 abbrev Inv-loop : tie.InvT-loop
 Inv-loop grid columns row from to mines₀ column₀ mines column =
@@ -36,7 +19,7 @@ abbrev μ-loop : tie.MeasureT-loop
 
 loop-holds : tie.Need-loop-holds Inv-loop μ-loop
 loop-holds c =
-    (omega arith, omega arith, sym (ap (count (rowMine (c .args .grid .now) (c .args .columns) (c .args .row))) (range-none (c .args .from))), omega arith)
+    (omega arith, omega arith, count-none-yet (rowMine (c .args .grid .now) (c .args .columns) (c .args .row)) (c .args .from), omega arith)
 
 mul-mine-at : tie.Need-mul-mine-at Inv-loop μ-loop
 mul-mine-at c = omega arith
@@ -65,7 +48,7 @@ loop-again c =
     let a = c .before .before .before .args in (
       omega arith,
       omega arith,
-      one-more (rowMine (a .grid .now) (a .columns) (a .row)) (a .from) (l .column) (l .mines) (c .mine-at .result) (l .inv .0) (l .inv .2) (c .mine-at .ensures),
+      count-one-more (rowMine (a .grid .now) (a .columns) (a .row)) (a .from) (l .column) (l .mines) (c .mine-at .result) (l .inv .0) (l .inv .2) (c .mine-at .ensures),
       omega (arith, byte-le (c .mine-at .result)),
     )
 
