@@ -178,3 +178,16 @@ laid-again five other l k n old h =
 pub length-fiveNumbers : (g : Grid) (s : Position) (i : ℕ) → length (fiveNumbers g s i) ≡ 5
 unfolding fiveNumbers
 length-fiveNumbers g s i = refl
+
+-- ---- in the middle of a pass over cells that were laid before
+
+module _ (five other : ℕ → List ℤ) (len : (i : ℕ) → length (five i) ≡ 5) (len′ : (i : ℕ) → length (other i) ≡ 5) (n : ℕ) (old : List ℤ)
+    (room : 5 * n ≤ length (laid other n old)) (step : List ℤ → ℕ → List ℤ) (i : ℕ) (w : List ℤ) (l : LaidTo five len n (laid other n old) room step i w) where
+  -- a cell that the pass has not come to is as it was
+  pub laid-ahead : (j k : ℕ) → i ≤ j → j < n → k < 5 → getD w (5 * j + k) (pos 0) ≡ getD (other j) k (pos 0)
+  laid-ahead j k h a b = l .rest (5 * j + k) (omega arith) ∙ laid-at other len′ n old j k a b
+
+  -- a number that the pass keeps is as it was, everywhere
+  pub laid-kept : (k : ℕ) → k < 5 → ((j : ℕ) → getD (five j) k (pos 0) ≡ getD (other j) k (pos 0)) → (j : ℕ) → j < n → getD w (5 * j + k) (pos 0) ≡ getD (other j) k (pos 0)
+  laid-kept k b e j a =
+      elim (decLe i j) [ yes h ↦ laid-ahead j k h a b | no h ↦ l .done j k (omega arith) b ∙ e j ]

@@ -47,7 +47,7 @@ count-short f x (y ∷ xs) t n =
 -- ---- gain and cost
 
 -- the openings that hold a cell are as many as its labels
-held-count : (g : Grid) (i k : ℕ) (os : List (List ℕ)) → count (holds g i) os ≡ length (places g i k os)
+pub held-count : (g : Grid) (i k : ℕ) (os : List (List ℕ)) → count (holds g i) os ≡ length (places g i k os)
 held-count g i k [] = refl
 held-count g i k (o ∷ os) = go (holds g i o) (held-count g i (suc k) os)
   where

@@ -171,7 +171,7 @@ count-all : (os : List (List ℕ)) → count (λ o. true) os ≡ length os
 count-all [] = refl
 count-all (o ∷ os) = let r = count-all os in omega arith
 
-closed-untouched : (g : Grid) (j : ℕ) → j < size g → closed (untouched g) j ≡ true
+pub closed-untouched : (g : Grid) (j : ℕ) → j < size g → closed (untouched g) j ≡ true
 closed-untouched g j h = ap (λ (k : ℕ). eqb k 0) (getD-replicate (size g) j 0 0 h)
 
 pub units-untouched : (g : Grid) → closedUnits g (untouched g) ≡ threeBV g

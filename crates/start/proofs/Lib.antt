@@ -1,2 +1,5 @@
 pub mod Puts
 pub mod Loaded
+pub mod Settled
+pub mod Priced
+pub mod Passed

@@ -27,7 +27,7 @@ length-load w i k = simp length-set
 load-sets : (w : List ℤ) (i k : ℕ) → k < 2147483648 → loadAt w i k ≡ sets w (5 * i) (pos 0 ∷ pos 0 ∷ pos k ∷ pos 0 ∷ pos 0 ∷ [])
 load-sets w i k h = rw (mod-eq-of-lt h) (simp towards-suc)
 
-kind-few : (g : Grid) (i : ℕ) → kind g i < 2147483648
+pub kind-few : (g : Grid) (i : ℕ) → kind g i < 2147483648
 unfolding kind number
 kind-few g i = go (mine g i)
   where

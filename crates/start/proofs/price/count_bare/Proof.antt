@@ -24,7 +24,7 @@ bare-requires : tie.Need-bare-requires Inv-loop μ-loop
 bare-requires c κs = omega arith
 
 cast-units : tie.Need-cast-units Inv-loop μ-loop
-cast-units c = omega arith
+cast-units c = search needs
 
 add-units : tie.Need-add-units Inv-loop μ-loop
 add-units c = omega (arith, byte-le (c .bare .result))
@@ -36,10 +36,17 @@ loop-less : tie.Need-loop-less Inv-loop μ-loop
 loop-less c = omega arith
 
 loop-again : tie.Need-loop-again Inv-loop μ-loop
-loop-again c = ?again
+loop-again c =
+    let l = c .before .before .loop in
+    let a = c .before .before .before .args in
+    (omega arith, count-one-more (bareAt (a .work .now)) 0 (l .index) (l .units) (c .bare .result) (omega arith) (l .inv .1) (c .bare .ensures), omega (arith, byte-le (c .bare .result)))
 
 returns : tie.Need-returns Inv-loop μ-loop
-returns c = ?ret
+returns c =
+    let l = c .before .loop in
+    let a = c .before .before .args in
+    let e : l .index ≡ a .cells = omega arith in
+    (l .inv .1 ∙ ap (λ (k : ℕ). count (bareAt (a .work .now)) (range 0 k)) e, omega arith)
 
 pub count-bare-spec : {M : Type 1} → statement M
 count-bare-spec =

@@ -1,75 +1,83 @@
+-- `start::price::swap`: the cells passed are swapped. Assumes nothing.
+use Prim.Native.Nat.{ℕ, _+_, _-_, _*_, _≤_, _<_}
+use native.Mathlib.Omega.{arith}
+use mathlib.Core.Path.{_≡_, refl, ap, sym, _∙_}
+use mathlib.Core.List.{List}
+use lib.IntN.{ℤ}
+use lib.ListN.{length, length-set}
+use borrow.Author.Needs.{needs}
+use Rattle.game.specs.Lists.{range, fold}
+use Rattle.game.proofs.Members.{fold-more}
+use Rattle.area.specs.Numbers.{numberAt, putAt}
+use Rattle.start.specs.Passes.{swapCell}
 use Rattle.start.proofs.price.swap.Statement.{statement}
 use Rattle.start.proofs.price.swap.Tie as tie
-use Rattle.start.proofs.price.swap.Reads as reads
-use Rattle.start.proofs.price.swap.Lts as lts
-use Rattle.area.proofs.get.Reads as get-reads
-use Rattle.area.proofs.put.Reads as put-reads
+
+length-swap : (w : List ℤ) (i : ℕ) → length (swapCell w i) ≡ length w
+length-swap w i = simp length-set
 
 abbrev Inv-loop : tie.InvT-loop
-Inv-loop work₀ cells index₀ work index = ?
+Inv-loop work₀ cells index₀ work index =
+    (index ≤ cells) × (work ≡ fold swapCell work₀ (range 0 index)) × (length work ≡ length work₀)
 
 abbrev μ-loop : tie.MeasureT-loop
-μ-loop work₀ cells index₀ work index = ?
+μ-loop work₀ cells index₀ work index = cells - index
 
--- src/price.rt:94:5
 loop-holds : tie.Need-loop-holds Inv-loop μ-loop
-loop-holds c = ?
+loop-holds c = (omega arith, refl, refl)
 
--- src/price.rt:95:18
 mul-at : tie.Need-mul-at Inv-loop μ-loop
-mul-at c = ?
+mul-at c = omega arith
 
--- src/price.rt:96:36
 add-get : tie.Need-add-get Inv-loop μ-loop
-add-get c = ?
+add-get c = omega arith
 
--- src/price.rt:96:13
 get-requires : tie.Need-get-requires Inv-loop μ-loop
-get-requires c κs = ?
+get-requires c κs = omega arith
 
--- src/price.rt:97:39
 add-get-2 : tie.Need-add-get-2 Inv-loop μ-loop
-add-get-2 c = ?
+add-get-2 c = omega arith
 
--- src/price.rt:97:13
 get-requires-2 : tie.Need-get-requires-2 Inv-loop μ-loop
-get-requires-2 c κs = ?
+get-requires-2 c κs = omega arith
 
--- src/price.rt:98:25
 add-put : tie.Need-add-put Inv-loop μ-loop
-add-put c = ?
+add-put c = omega arith
 
--- src/price.rt:98:9
 put-requires : tie.Need-put-requires Inv-loop μ-loop
-put-requires c κs = ?
+put-requires c κs = omega arith
 
--- src/price.rt:99:25
 add-put-2 : tie.Need-add-put-2 Inv-loop μ-loop
-add-put-2 c = ?
+add-put-2 c = omega arith
 
--- src/price.rt:99:9
 put-requires-2 : tie.Need-put-requires-2 Inv-loop μ-loop
-put-requires-2 c κs = ?
+put-requires-2 c κs = omega arith
 
--- src/price.rt:94:9
 add-index : tie.Need-add-index Inv-loop μ-loop
-add-index c = ?
+add-index c = omega arith
 
--- src/price.rt:94:5
 loop-less : tie.Need-loop-less Inv-loop μ-loop
-loop-less c = ?
+loop-less c = omega arith
 
--- src/price.rt:94:5
 loop-again : tie.Need-loop-again Inv-loop μ-loop
-loop-again c = ?
+loop-again c =
+    let l = c .before .before .before .before .before .before .before .before .before .before .before .loop in
+    let a = c .before .before .before .before .before .before .before .before .before .before .before .before .args in
+    let e : c .before .put2 .last .0 ≡ swapCell (l .work) (l .index) = cc in (
+      omega arith,
+      e ∙ ap (λ (w : List ℤ). swapCell w (l .index)) (l .inv .1) ∙ sym (fold-more swapCell (a .work .now) 0 (l .index) (omega arith)),
+      ap length e ∙ length-swap (l .work) (l .index) ∙ l .inv .2,
+    )
 
--- src/price.rt:90:1
 same-length : tie.Need-same-length Inv-loop μ-loop
-same-length c = ?
+same-length c = c .before .loop .inv .2
 
--- src/price.rt:90:1
 returns : tie.Need-returns Inv-loop μ-loop
-returns c = ?
+returns c =
+    let l = c .before .loop in
+    let a = c .before .before .args in
+    let e : l .index ≡ a .cells = omega arith in
+    l .inv .1 ∙ ap (λ (k : ℕ). fold swapCell (a .work .now) (range 0 k)) e
 
 pub swap-spec : {M : Type 1} → statement M
 swap-spec =

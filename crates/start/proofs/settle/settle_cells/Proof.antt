@@ -1,55 +1,72 @@
+-- `start::settle::settle_cells`: the cells passed are settled. Assumes nothing.
+use Prim.Native.Nat.{ℕ, _+_, _-_, _*_, _≤_, _<_}
+use native.Mathlib.Omega.{arith}
+use mathlib.Core.Path.{_≡_, refl, ap, sym, _∙_}
+use mathlib.Core.Bool.{Bool, true, false, cond}
+use mathlib.Core.List.{List}
+use lib.Dec.{eqb}
+use lib.IntN.{ℤ, pos}
+use lib.ListN.{length, length-set}
+use borrow.Author.Needs.{needs}
+use Rattle.game.specs.Lists.{range, fold}
+use Rattle.game.proofs.Members.{fold-more}
+use Rattle.area.specs.Numbers.{numberAt, putAt, putLowered}
+use Rattle.start.specs.Passes.{settleCell}
+use Rattle.start.proofs.Settled.{length-lowered, length-settle}
 use Rattle.start.proofs.settle.settle_cells.Statement.{statement}
 use Rattle.start.proofs.settle.settle_cells.Tie as tie
-use Rattle.start.proofs.settle.settle_cells.Reads as reads
-use Rattle.start.proofs.settle.settle_cells.Lts as lts
-use Rattle.area.proofs.put.Reads as put-reads
-use Rattle.start.proofs.settle.lower_premium.Reads as lower-premium-reads
 
 abbrev Inv-loop : tie.InvT-loop
-Inv-loop work₀ cells index₀ work index = ?
+Inv-loop work₀ cells index₀ work index =
+    (index ≤ cells) × (work ≡ fold settleCell work₀ (range 0 index)) × (length work ≡ length work₀)
 
 abbrev μ-loop : tie.MeasureT-loop
-μ-loop work₀ cells index₀ work index = ?
+μ-loop work₀ cells index₀ work index = cells - index
 
--- src/settle.rt:28:5
 loop-holds : tie.Need-loop-holds Inv-loop μ-loop
-loop-holds c = ?
+loop-holds c = (omega arith, refl, refl)
 
--- src/settle.rt:29:9
 lower-premium-requires : tie.Need-lower-premium-requires Inv-loop μ-loop
-lower-premium-requires c κs = ?
+lower-premium-requires c κs = omega arith
 
--- src/settle.rt:30:25
 mul-put : tie.Need-mul-put Inv-loop μ-loop
-mul-put c = ?
+mul-put c = omega arith
 
--- src/settle.rt:30:25
 add-put : tie.Need-add-put Inv-loop μ-loop
-add-put c = ?
+add-put c = omega arith
 
--- src/settle.rt:30:9
 put-requires : tie.Need-put-requires Inv-loop μ-loop
-put-requires c κs = ?
+put-requires c κs =
+    let l = c .before .before .before .before .before .loop in
+    let e = ap length (c .before .before .lower-premium .ensures)
+    ∙ length-lowered (eqb (numberAt (l .work) (5 * l .index + 4)) 0) (l .work) (5 * l .index + 2) (numberAt (l .work) (5 * l .index + 2)) in
+    omega (arith, e)
 
--- src/settle.rt:28:9
 add-index : tie.Need-add-index Inv-loop μ-loop
-add-index c = ?
+add-index c = omega arith
 
--- src/settle.rt:28:5
 loop-less : tie.Need-loop-less Inv-loop μ-loop
-loop-less c = ?
+loop-less c = omega arith
 
--- src/settle.rt:28:5
 loop-again : tie.Need-loop-again Inv-loop μ-loop
-loop-again c = ?
+loop-again c =
+    let l = c .before .before .before .before .before .before .before .loop in
+    let a = c .before .before .before .before .before .before .before .before .args in
+    let e : c .before .put .last .0 ≡ settleCell (l .work) (l .index) = cc in (
+      omega arith,
+      e ∙ ap (λ (w : List ℤ). settleCell w (l .index)) (l .inv .1) ∙ sym (fold-more settleCell (a .work .now) 0 (l .index) (omega arith)),
+      ap length e ∙ length-settle (l .work) (l .index) ∙ l .inv .2,
+    )
 
--- src/settle.rt:24:1
 same-length : tie.Need-same-length Inv-loop μ-loop
-same-length c = ?
+same-length c = c .before .loop .inv .2
 
--- src/settle.rt:24:1
 returns : tie.Need-returns Inv-loop μ-loop
-returns c = ?
+returns c =
+    let l = c .before .loop in
+    let a = c .before .before .args in
+    let e : l .index ≡ a .cells = omega arith in
+    l .inv .1 ∙ ap (λ (k : ℕ). fold settleCell (a .work .now) (range 0 k)) e
 
 pub settle-cells-spec : {M : Type 1} → statement M
 settle-cells-spec =
