@@ -9,8 +9,8 @@ use lib.Dec.{T}
 use lib.IntN.{pos, ℤ}
 use lib.ListN.{length}
 use Rattle.area.specs.Numbers.{natural}
-use Rattle.game.specs.Grid.{Grid, cells, size, square}
-use Rattle.game.specs.Lists.{from, has}
+use Rattle.game.specs.Grid.{Grid, size, square}
+use Rattle.game.specs.Lists.{has}
 use Rattle.openings.specs.Marks.{edgeFirst, edgeSecond, firstOf, kindOf, marked, secondOf}
 use Rattle.openings.specs.Spread.{Change, Closed, Edge, Reach, Same, Side, here, next}
 use Rattle.game.proofs.Squares.{square→}
@@ -51,7 +51,7 @@ module _ (op : ℕ) (o : 1 ≤ op) (w w1 w2 : List ℤ) (i : ℕ) where
             ∙ ap pos (second-twice op o (firstOf w i) (secondOf w i));
       }
 
-  edge-some : Edge op w w1 i → 1 ≤ firstOf w1 i
+  pub edge-some : Edge op w w1 i → 1 ≤ firstOf w1 i
   edge-some s = let p : firstOf w1 i ≡ edgeFirst op (firstOf w i) = ap natural (s .one) in omega (arith, first-some op o (firstOf w i))
 
 same-first : (w w1 : List ℤ) (i : ℕ) → Same w w1 i → firstOf w1 i ≡ firstOf w i
@@ -112,11 +112,15 @@ module _ (g : Grid) (k : ℕ → ℕ) (op : ℕ) (o : 1 ≤ op) where
 
   -- ---- a side, before and after a change
 
+  pub edge-then : (from : ℕ) (w w1 w2 : List ℤ) (y : ℕ) → y < size g → Edge op w w1 y → Change g k op from w1 w2 → Edge op w w2 y
+  edge-then from w w1 w2 y h e d =
+      ⊎-elim (λ t. edge-same op o w w1 w2 y e t) (λ t. edge-edge op o w w1 w2 y e (t .edge)) (d .cells y h)
+
   pub side-then : (from : ℕ) (w w1 w2 : List ℤ) (y : ℕ) → y < size g → Side k op w w1 y → Change g k op from w1 w2 → Side k op w w2 y
   side-then from w w1 w2 y h s d =
       record {
         zero-cell = λ e. stays from w1 w2 d y h (s .zero-cell e);
-        edge = λ e. ⊎-elim (λ t. edge-same op o w w1 w2 y (s .edge e) t) (λ t. edge-edge op o w w1 w2 y (s .edge e) (t .edge)) (d .cells y h);
+        edge = λ e. edge-then from w w1 w2 y h (s .edge e) d;
       }
 
   pub then-side : (from : ℕ) (w w1 w2 : List ℤ) (y : ℕ) → y < size g → Change g k op from w w1 → Side k op w1 w2 y → Side k op w w2 y

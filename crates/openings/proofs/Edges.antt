@@ -9,7 +9,7 @@ use lib.IntN.{ℤ, pos}
 use lib.ListN.{getD, length, length-set, set}
 use lib.Seq.{getD-set-other, getD-set-same}
 use borrow.Author.Tests.{eq-eqb, eqb-false, eqb-true, ltb-true, lt-ltb, ne-eqb}
-use Rattle.area.specs.Numbers.{numberAt, putAt}
+use Rattle.area.specs.Numbers.{natural, putAt}
 use Rattle.openings.specs.Marks.{bordered, edgeFirst, edgeSecond, firstOf, freshCell, kindOf, marked, numberedOf, secondOf}
 
 -- a test decides
@@ -96,6 +96,9 @@ module _ (w : List ℤ) (i op : ℕ) where
   pub marked-other : (x : ℕ) → (x ≡ 5 * i → ⊥) → (x ≡ 5 * i + 1 → ⊥) → getD (marked w i op) x (pos 0) ≡ getD w x (pos 0)
   unfolding marked
   marked-other x f h = two-other w i (pos (edgeFirst op (firstOf w i))) (pos (edgeSecond op (firstOf w i) (secondOf w i))) x f h
+
+  pub marked-kind : kindOf (marked w i op) i ≡ kindOf w i
+  marked-kind = ap natural (marked-other (5 * i + 2) (λ e. omega arith) (λ e. omega arith))
 
   pub marked-long : length (marked w i op) ≡ length w
   unfolding marked

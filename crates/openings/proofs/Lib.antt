@@ -1,3 +1,5 @@
 pub mod Cells
 pub mod Edges
 pub mod Changes
+pub mod Frees
+pub mod Visits
