@@ -68,8 +68,12 @@ module _ (g : Grid) (k : ℕ → ℕ) (op : ℕ) (o : 1 ≤ op) where
       record {
         long = c .long;
         cells = λ i h. ⊎-elim (λ s. inl s) (λ t. inr (record {
-          edge = t .edge; fresh = t .fresh; source = t .source;
-          reached = let f = reach-first g k (t .reached) in reach-trans g k (r (f .0) (f .1)) (t .reached); beside = t .beside })) (c .cells i h);
+          edge = t .edge;
+          fresh = t .fresh;
+          source = t .source;
+          reached = let f = reach-first g k (t .reached) in reach-trans g k (r (f .0) (f .1)) (t .reached);
+          beside = t .beside;
+        })) (c .cells i h);
         others = c .others;
         past = c .past;
       }
@@ -83,8 +87,12 @@ module _ (g : Grid) (k : ℕ → ℕ) (op : ℕ) (o : 1 ≤ op) where
             (λ s. ⊎-elim
             (λ t. inl (same-same op o w w1 w2 i s t))
             (λ t. inr (record {
-              edge = same-edge op o w w1 w2 i s (t .edge); fresh = λ e. sym (same-first w w1 i s) ∙ t .fresh e;
-              source = t .source; reached = t .reached; beside = t .beside }))
+              edge = same-edge op o w w1 w2 i s (t .edge);
+              fresh = λ e. sym (same-first w w1 i s) ∙ t .fresh e;
+              source = t .source;
+              reached = t .reached;
+              beside = t .beside;
+            }))
             (d .cells i h))
             (λ s.
             let e : Edge op w w2 i = ⊎-elim (λ t. edge-same op o w w1 w2 i (s .edge) t) (λ t. edge-edge op o w w1 w2 i (s .edge) (t .edge)) (d .cells i h) in
@@ -148,10 +156,16 @@ module _ (g : Grid) (k : ℕ → ℕ) (op : ℕ) (o : 1 ≤ op) where
         cells = λ i l.
             elim (ℕ-discrete i at) [
               | yes e ↦ inr (rw e (record {
-                  edge = mark-edge w at (omega arith); fresh = f; source = source; reached = r; beside = t }))
+                edge = mark-edge w at (omega arith);
+                fresh = f;
+                source = source;
+                reached = r;
+                beside = t;
+              }))
               | no n ↦ inl (record {
-                  one = marked-other w at op (5 * i) (λ e. n (omega arith)) (λ e. omega arith);
-                  two = marked-other w at op (5 * i + 1) (λ e. omega arith) (λ e. n (omega arith)) })
+                one = marked-other w at op (5 * i) (λ e. n (omega arith)) (λ e. omega arith);
+                two = marked-other w at op (5 * i + 1) (λ e. omega arith) (λ e. n (omega arith));
+              })
             ];
         others = λ i s l a b. marked-other w at op (5 * i + s) (λ e. omega arith) (λ e. omega arith);
         past = λ x l. marked-other w at op x (λ e. omega arith) (λ e. omega arith);

@@ -22,9 +22,10 @@ use Rattle.openings.proofs.Changes.{kind-stays, stays}
 use Rattle.openings.proofs.Edges.{Fresh, first-some, marked-first, marked-other}
 
 fresh-yes? : (w : List ℤ) (i : ℕ) → T (freshOf w i) → (kindOf w i ≡ 1) × (firstOf w i ≡ 0)
-fresh-yes? w i t =
-    (eqb→eq (kindOf w i) 1 (and-left (eqb (kindOf w i) 1) (eqb (firstOf w i) 0) t),
-    eqb→eq (firstOf w i) 0 (and-right (eqb (kindOf w i) 1) (eqb (firstOf w i) 0) t))
+fresh-yes? w i t = (
+  eqb→eq (kindOf w i) 1 (and-left (eqb (kindOf w i) 1) (eqb (firstOf w i) 0) t),
+  eqb→eq (firstOf w i) 0 (and-right (eqb (kindOf w i) 1) (eqb (firstOf w i) 0) t),
+)
 
 fresh-test : (w : List ℤ) (i : ℕ) → kindOf w i ≡ 1 → firstOf w i ≡ 0 → freshOf w i ≡ true
 fresh-test w i p q = simp (eq-eqb (kindOf w i) 1 p, eq-eqb (firstOf w i) 0 q)

@@ -3,3 +3,6 @@ pub mod Edges
 pub mod Changes
 pub mod Frees
 pub mod Visits
+pub mod Places
+pub mod Exact
+pub mod Numbers

@@ -8,8 +8,8 @@ ghost use Rattle.openings.specs.Spread.{Begun, Labelling};
 use cycle::label_cell;
 use marks::fresh;
 
-pub mod marks;
 pub mod cycle;
+pub mod marks;
 
 // Labels the opening whose lowest 0-cell this is, if one begins here, as the next. Answers how many there are now.
 fn begin(work: &mut [i32], rows: usize, columns: usize, count: usize, index: usize) -> usize

@@ -270,9 +270,13 @@ visit-visit-requires t c κs =
     let m = met t (c .before .before) in
     let o = s .pre .1 .0 .some-label in
     let g = shaped (a .rows) (a .columns) in
-    let less = free-le g (kindOf w) (a .op) o (a .index) w w2 (m .change) in
-    (omega (arith, less, s .pre .0, c .before .before .before .before .before .before .before .before .if1 .left), (ready-again w w2 (s .pre .1 .0) (m .change .long),
-    (s .pre .1 .1 .0, kind-stays g (kindOf w) (a .op) o (a .index) w w2 (m .change) (a .index) ∙ s .pre .1 .1 .1)))
+    let less = free-le g (kindOf w) (a .op) o (a .index) w w2 (m .change) in (
+      omega (arith, less, s .pre .0, c .before .before .before .before .before .before .before .before .if1 .left),
+      (
+        ready-again w w2 (s .pre .1 .0) (m .change .long),
+        (s .pre .1 .1 .0, kind-stays g (kindOf w) (a .op) o (a .index) w w2 (m .change) (a .index) ∙ s .pre .1 .1 .1),
+      ),
+    )
 
 visit-same-length : (t : ℕ) → visit-lts.Need-same-length (
   near-reads.Asked,

@@ -45,7 +45,7 @@ same-length : tie.Need-same-length
 same-length c = search needs
 
 returns : tie.Need-returns
-returns c = 
+returns c =
     let a = c .before .before .before .before .before .before .before .before .before .before .before .before .args in
     marked-by (a .work .now) (c .before .before .before .before .before .put .last .0) (c .before .put2 .last .0) (a .index) (a .op) _ _ _ _ (c .before .before .before .before .before .before .before .before .before .before .before .before .pre .1) (c .before .before .before .before .before .before .before .before .before .before .get .ensures) (c .before .before .before .before .before .before .before .before .get2 .ensures)
     (c .before .before .before .before .before .before .edge-first .ensures) (c .before .before .edge-second .ensures) (c .before .before .before .before .before .put .ensures) (c .before .put2 .ensures)

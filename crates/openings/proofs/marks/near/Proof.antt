@@ -68,7 +68,7 @@ add-result : tie.Need-add-result
 add-result c = omega (arith, below (c .before .before .before .before) (c .before .before .before .if1 .left) (c .before .before .if2 .left) (c .before .if3 .left) (c .if4 .left))
 
 returns-5 : tie.Need-returns-5
-returns-5 c = 
+returns-5 c =
     on-grid _ _ (c .before .before .before .before .pre .0) _ _ (row (c .before .before .before .before)) (column (c .before .before .before .before)) refl refl
     (omega arith) (c .before .before .if2 .left) (omega arith) (c .if4 .left)
 
