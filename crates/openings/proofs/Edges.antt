@@ -1,0 +1,149 @@
+-- One more label at a cell: what it makes of the labels, and that all else stays. Putting it twice is putting it once. Assumes nothing.
+use Prim.Native.Nat.{ℕ, _%_, _*_, _+_, _<_, _≤_}
+use native.Mathlib.Omega.{arith}
+use mathlib.Core.Path.{_≡_, _∙_, ap, refl, sym}
+use mathlib.Core.Bool.{Bool, cond, false, not, true, _&&_}
+use mathlib.Core.List.{List}
+use lib.Dec.{eqb, ltb}
+use lib.IntN.{ℤ, pos}
+use lib.ListN.{getD, length, length-set, set}
+use lib.Seq.{getD-set-other, getD-set-same}
+use borrow.Author.Tests.{eq-eqb, eqb-false, eqb-true, ltb-true, lt-ltb, ne-eqb}
+use Rattle.area.specs.Numbers.{natural, putAt}
+use Rattle.openings.specs.Marks.{bordered, edgeFirst, edgeSecond, firstOf, freshCell, kindOf, marked, numberedOf, secondOf}
+
+-- a test decides
+pub split : {A : Type 0} (b : Bool) → (b ≡ true → A) → (b ≡ false → A) → A
+split true f g = f refl
+split false f g = g refl
+
+-- ---- labels twice
+
+module _ (op : ℕ) (o : 1 ≤ op) where
+  some-op : eqb op 0 ≡ false
+  some-op = ne-eqb op 0 (λ e. omega arith)
+
+  pub first-twice : (a : ℕ) → edgeFirst op (edgeFirst op a) ≡ edgeFirst op a
+  unfolding edgeFirst
+  first-twice a = split (eqb a 0) (λ e. simp (e, some-op)) (λ e. simp (e, e))
+
+  pub second-twice : (a b : ℕ) → edgeSecond op (edgeFirst op a) (edgeSecond op a b) ≡ edgeSecond op a b
+  unfolding edgeFirst edgeSecond
+  second-twice a b =
+      split (eqb a 0) (λ e. simp (e, some-op, eq-eqb op op refl)) (λ e.
+      split (eqb a op) (λ f. simp (e, f)) (λ f.
+      split (eqb b 0) (λ h. simp (e, f, h, some-op)) (λ h. simp (e, f, h))))
+
+  pub first-some : (a : ℕ) → 1 ≤ edgeFirst op a
+  unfolding edgeFirst
+  first-some a = split (eqb a 0) (λ e. simp e o) (λ e. simp e (let n = eqb-false a 0 e in omega arith))
+
+pub first-none : (op : ℕ) → edgeFirst op 0 ≡ op
+unfolding edgeFirst
+first-none op = refl
+
+pub first-old : (op a : ℕ) → 1 ≤ a → edgeFirst op a ≡ a
+unfolding edgeFirst
+first-old op a h = simp (ne-eqb a 0 (λ e. omega arith))
+
+-- ---- the label is put
+
+module _ (op a b : ℕ) (fit : op < 2147483648) (h : a < 2147483648) where
+  first-fits : edgeFirst op a % 2147483648 ≡ edgeFirst op a
+  unfolding edgeFirst
+  first-fits = split (eqb a 0) (λ e. simp e (omega arith)) (λ e. simp e (omega arith))
+
+  second-fits : b < 2147483648 → edgeSecond op a b % 2147483648 ≡ edgeSecond op a b
+  unfolding edgeSecond
+  second-fits l =
+      split (eqb a 0) (λ e. simp e (omega arith)) (λ e.
+      split (eqb a op) (λ f. simp (e, f) (omega arith)) (λ f.
+      split (eqb b 0) (λ d. simp (e, f, d) (omega arith)) (λ d. simp (e, f, d) (omega arith))))
+
+pub marked-by : (w w1 w2 : List ℤ) (i op a b x y : ℕ) → op < 2147483648 → (a ≡ firstOf w i) × (a < 2147483648) → (b ≡ secondOf w i) × (b < 2147483648)
+    → x ≡ edgeFirst op a → y ≡ edgeSecond op a b → w1 ≡ putAt w (5 * i) x → w2 ≡ putAt w1 (5 * i + 1) y → w2 ≡ marked w i op
+unfolding marked
+marked-by w w1 w2 i op a b x y fit ea eb ex ey e1 e2 =
+    let px : x % 2147483648 ≡ edgeFirst op (firstOf w i) = ap (λ (n : ℕ). n % 2147483648) ex ∙ first-fits op a b fit (ea .1) ∙ ap (edgeFirst op) (ea .0) in
+    let py : y % 2147483648 ≡ edgeSecond op (firstOf w i) (secondOf w i) =
+    ap (λ (n : ℕ). n % 2147483648) ey ∙ second-fits op a b fit (ea .1) (eb .1) ∙ cc (ea .0, eb .0) in
+    e2 ∙ ap (λ (n : ℕ). set w1 (5 * i + 1) (pos n)) py
+    ∙ ap (λ (l : List ℤ). set l (5 * i + 1) (pos (edgeSecond op (firstOf w i) (secondOf w i)))) (e1 ∙ ap (λ (n : ℕ). set w (5 * i) (pos n)) px)
+
+-- what two stores at a cell's labels do at each place
+module _ (w : List ℤ) (i : ℕ) (a b : ℤ) where
+  two-first : 5 * i + 5 ≤ length w → getD (set (set w (5 * i) a) (5 * i + 1) b) (5 * i) (pos 0) ≡ a
+  two-first h = getD-set-other (set w (5 * i) a) (5 * i + 1) (5 * i) b (pos 0) (λ e. omega arith) ∙ getD-set-same w (5 * i) a (pos 0) (omega arith)
+
+  two-second : 5 * i + 5 ≤ length w → getD (set (set w (5 * i) a) (5 * i + 1) b) (5 * i + 1) (pos 0) ≡ b
+  two-second h = getD-set-same (set w (5 * i) a) (5 * i + 1) b (pos 0) (omega (arith, length-set w (5 * i) a))
+
+  two-other : (x : ℕ) → (x ≡ 5 * i → ⊥) → (x ≡ 5 * i + 1 → ⊥) → getD (set (set w (5 * i) a) (5 * i + 1) b) x (pos 0) ≡ getD w x (pos 0)
+  two-other x f h = getD-set-other (set w (5 * i) a) (5 * i + 1) x b (pos 0) h ∙ getD-set-other w (5 * i) x a (pos 0) f
+
+  two-long : length (set (set w (5 * i) a) (5 * i + 1) b) ≡ length w
+  two-long = length-set (set w (5 * i) a) (5 * i + 1) b ∙ length-set w (5 * i) a
+
+module _ (w : List ℤ) (i op : ℕ) where
+  pub marked-first : 5 * i + 5 ≤ length w → getD (marked w i op) (5 * i) (pos 0) ≡ pos (edgeFirst op (firstOf w i))
+  unfolding marked
+  marked-first h = two-first w i (pos (edgeFirst op (firstOf w i))) (pos (edgeSecond op (firstOf w i) (secondOf w i))) h
+
+  pub marked-second : 5 * i + 5 ≤ length w → getD (marked w i op) (5 * i + 1) (pos 0) ≡ pos (edgeSecond op (firstOf w i) (secondOf w i))
+  unfolding marked
+  marked-second h = two-second w i (pos (edgeFirst op (firstOf w i))) (pos (edgeSecond op (firstOf w i) (secondOf w i))) h
+
+  pub marked-other : (x : ℕ) → (x ≡ 5 * i → ⊥) → (x ≡ 5 * i + 1 → ⊥) → getD (marked w i op) x (pos 0) ≡ getD w x (pos 0)
+  unfolding marked
+  marked-other x f h = two-other w i (pos (edgeFirst op (firstOf w i))) (pos (edgeSecond op (firstOf w i) (secondOf w i))) x f h
+
+  pub marked-kind : kindOf (marked w i op) i ≡ kindOf w i
+  marked-kind = ap natural (marked-other (5 * i + 2) (λ e. omega arith) (λ e. omega arith))
+
+  pub marked-long : length (marked w i op) ≡ length w
+  unfolding marked
+  marked-long = two-long w i (pos (edgeFirst op (firstOf w i))) (pos (edgeSecond op (firstOf w i) (secondOf w i)))
+
+-- ---- what the tests tell
+
+not-true : (r : Bool) → not r ≡ true → r ≡ false
+not-true true e = sym e
+not-true false e = refl
+
+not-false : (r : Bool) → not r ≡ false → r ≡ true
+not-false true e = refl
+not-false false e = sym e
+
+clash : false ≡ true → ⊥
+clash e = let one : _≡_ {A = ℕ} 1 0 = ap (λ (b : Bool). cond b 0 1) e in omega arith
+
+both : (a b : Bool) → (a && b) ≡ true → (a ≡ true) × (b ≡ true)
+both true b e = (refl, e)
+both false b e = absurd (clash e)
+
+-- a 0-cell without label
+pub record Fresh (n : ℕ) (w : List ℤ) (i : ℕ) : Type 0 where
+  pub inside : i < n
+  pub zero-cell : kindOf w i ≡ 1
+  pub unlabelled : firstOf w i ≡ 0
+
+module _ (n : ℕ) (w : List ℤ) (i : ℕ) (r : Bool) where
+  pub fresh-yes : r ≡ freshCell n w i → not r ≡ false → Fresh n w i
+  fresh-yes e t =
+      let a = both (ltb i n) (eqb (kindOf w i) 1 && eqb (firstOf w i) 0) (sym e ∙ not-false r t) in
+      let b = both (eqb (kindOf w i) 1) (eqb (firstOf w i) 0) (a .1) in
+      record { inside = ltb-true i n (a .0); zero-cell = eqb-true (kindOf w i) 1 (b .0); unlabelled = eqb-true (firstOf w i) 0 (b .1) }
+
+  pub fresh-no : r ≡ freshCell n w i → not r ≡ true → Fresh n w i → ⊥
+  fresh-no e t f =
+      let z : true ≡ freshCell n w i = simp (lt-ltb i n (f .inside), eq-eqb (kindOf w i) 1 (f .zero-cell), eq-eqb (firstOf w i) 0 (f .unlabelled)) in
+      clash (sym (not-true r t) ∙ e ∙ sym z)
+
+  pub numbered-inside : r ≡ numberedOf n w i → not r ≡ false → i < n
+  numbered-inside e t = ltb-true i n (both (ltb i n) (not (eqb (kindOf w i) 1)) (sym e ∙ not-false r t) .0)
+
+  pub bordered-not : (op : ℕ) → r ≡ numberedOf n w i → not r ≡ true → w ≡ bordered n w i op
+  bordered-not op e t = ap (λ (b : Bool). cond b (marked w i op) w) (sym (not-true r t) ∙ e)
+
+  pub bordered-by : (op : ℕ) (w1 : List ℤ) → r ≡ numberedOf n w i → not r ≡ false → w1 ≡ marked w i op → w1 ≡ bordered n w i op
+  bordered-by op w1 e t q = q ∙ ap (λ (b : Bool). cond b (marked w i op) w) (sym (not-false r t) ∙ e)

@@ -1,0 +1,164 @@
+-- The neighbours of a 0-cell one after another, each by a border label or by its own opening. Assumes nothing.
+use Prim.Native.Nat.{ℕ, _*_, _+_, _<_, _≤_}
+use native.Mathlib.Omega.{arith}
+use native.Mathlib.Decide.{ℕ-discrete}
+use mathlib.Core.Path.{_∙_, _≡_, ap, refl, subst}
+use mathlib.Core.Bool.{Bool, _&&_, cond, false, not, true}
+use mathlib.Core.List.{List}
+use borrow.Author.Tests.{eqb-false, eqb-true, ltb-false, ltb-true}
+use lib.Dec.{T, eqb, ltb}
+use lib.IntN.{pos, ℤ}
+use lib.ListN.{getD, length}
+use Rattle.area.specs.Numbers.{natural}
+use Rattle.game.specs.Calls.{shape}
+use Rattle.game.specs.Grid.{Grid, size, square}
+use Rattle.game.specs.Lists.{has}
+use Rattle.openings.specs.Marks.{Neighbour, Ready, bordered, firstOf, freeOf, kindOf, marked, shaped}
+use Rattle.openings.specs.Spread.{Change, ClearFrom, Closed, Edge, Opened, Reach, Side, Visited, here, next, turn}
+use Rattle.game.proofs.Squares.{in-own-square, square→, →square}
+use Rattle.openings.proofs.Changes.{change-from, closed-then, edge-some, edge-then, kinds-stay, mark-change, refl-change, side-then, stays, then-side, trans-change}
+use Rattle.openings.proofs.Edges.{Fresh, marked-first, marked-other, marked-second}
+use Rattle.openings.proofs.Frees.{free-le}
+
+-- what putting a border label at a cell comes to
+pub record Bordering (g : Grid) (k : ℕ → ℕ) (op from at : ℕ) (w w1 : List ℤ) : Type 0 where
+  pub change : Change g k op from w w1
+  pub quiet : (x : ℕ) → k x ≡ 1 → firstOf w1 x ≡ firstOf w x
+  pub edge : at < size g → (k at ≡ 1 → ⊥) → Edge op w w1 at
+  pub waits : (x : ℕ) → getD w1 (5 * x + 4) (pos 0) ≡ getD w (5 * x + 4) (pos 0)
+
+pub bordering : (g : Grid) (op : ℕ) → 1 ≤ op → (from source at : ℕ) (w w1 : List ℤ) → 5 * size g ≤ length w → Reach g (kindOf w) from source
+    → (at < size g → T (has at (square g source))) → w1 ≡ bordered (size g) w at op → Bordering g (kindOf w) op from at w w1
+bordering g op o from source at w w1 room r t q = rw q (go (ltb at (size g)) refl (eqb (kindOf w at) 1) refl)
+  where
+    go : (a : Bool) → ltb at (size g) ≡ a → (b : Bool) → eqb (kindOf w at) 1 ≡ b → Bordering g (kindOf w) op from at w (cond (a && not b) (marked w at op) w)
+    go true p true e =
+        record { change = refl-change g (kindOf w) op o from w; quiet = λ x h. refl; edge = λ h f. absurd (f (eqb-true (kindOf w at) 1 e)); waits = λ x. refl }
+    go false p b e =
+        record { change = refl-change g (kindOf w) op o from w; quiet = λ x h. refl; edge = λ h f. absurd (let l = ltb-false at (size g) p in omega arith); waits = λ x. refl }
+    go true p false e =
+        let h = ltb-true at (size g) p in
+        let f = eqb-false (kindOf w at) 1 e in
+        record {
+          change = mark-change g (kindOf w) op o from source w at h room (λ z. absurd (f z)) r (t h);
+          quiet = λ x z. ap natural (marked-other w at op (5 * x) (λ q. f (subst (λ (y : ℕ). kindOf w y ≡ 1) (same x q) z)) (λ q. omega arith));
+          edge = λ _ _. record { one = marked-first w at op (omega arith); two = marked-second w at op (omega arith) };
+          waits = λ x. marked-other w at op (5 * x + 4) (λ q. omega arith) (λ q. omega arith);
+        }
+      where
+        same : (x : ℕ) → 5 * x ≡ 5 * at → x ≡ at
+        same x q = omega arith
+
+-- the neighbour number n of a 0-cell is one of its square, and the only one of that number
+beside-of : (g : Grid) (i n r : ℕ) → i < size g → n < 9 → Neighbour g i n r → r < size g → T (has r (square g i))
+beside-of g i n r h l nb hr =
+    let a = nb .row hr in
+    let b = nb .column hr in
+    →square g i r h hr (record { north = omega arith; south = omega arith; west = omega arith; east = omega arith })
+
+only-of : (g : Grid) (i n r : ℕ) → i < size g → Neighbour g i n r → (y : ℕ) → T (has y (square g i)) → turn g i y ≡ n → r ≡ y
+only-of g i n r h nb y t e =
+    let s = square→ g i y h t in
+    let c = s .1 in
+    nb .found y (s .0) (omega (arith, c .north, c .south, c .west, c .east)) (omega (arith, c .north, c .south, c .west, c .east))
+
+module _ (rows columns op : ℕ) (o : 1 ≤ op) where
+  abbrev g : Grid
+  g = shaped rows columns
+
+  -- nothing to do
+  pub opened-not : (w : List ℤ) (i : ℕ) → (Fresh (size g) w i → ⊥) → Opened g (kindOf w) op i w w
+  opened-not w i f =
+      record {
+        change = refl-change g (kindOf w) op o i w;
+        closed = λ x h e a b. absurd (omega arith);
+        self = λ h e. elim (ℕ-discrete (firstOf w i) 0) [
+          | yes q ↦ absurd (f (record { inside = h; zero-cell = e; unlabelled = q }))
+          | no n ↦ omega arith
+        ];
+        clear = λ c. c;
+      }
+
+  pub visited-none : (w : List ℤ) (i n : ℕ) → i < size g → 9 ≤ n → Visited g (kindOf w) op i n w w
+  visited-none w i n h l =
+      record {
+        change = refl-change g (kindOf w) op o i w;
+        closed = λ x h e a b. absurd (omega arith);
+        ahead = λ y t a. absurd (let c = square→ g i y h t .1 in omega (arith, c .north, c .south, c .west, c .east));
+        clear = λ c. c;
+      }
+
+  -- what one neighbour comes to
+  pub record Stepped (i n : ℕ) (w w2 : List ℤ) : Type 0 where
+    pub change : Change g (kindOf w) op i w w2
+    pub closed : Closed g (kindOf w) op w w2
+    pub side : (y : ℕ) → T (has y (square g i)) → turn g i y ≡ n → Side (kindOf w) op w w2 y
+    pub clear : ClearFrom g 0 w → ClearFrom g 0 w2
+
+  pub stepped : (w w1 w2 : List ℤ) (i n at : ℕ) → i < size g → kindOf w i ≡ 1 → n < 9 → 5 * size g ≤ length w → Neighbour g i n at
+      → w1 ≡ bordered (size g) w at op → Opened g (kindOf w1) op at w1 w2 → Stepped i n w w2
+  stepped w w1 w2 i n at h e l room nb q p1 =
+      let k = kindOf w in
+      let b = bordering g op o i i at w w1 room (here h e) (beside-of g i n at h l nb) q in
+      let p : Opened g k op at w1 w2 = subst (λ (m : ℕ → ℕ). Opened g m op at w1 w2) (kinds-stay g k op o i w w1 (b .change)) p1 in
+      let c : Change g k op i w1 w2 = change-from g k op o w1 w2 (λ ha ea. next (here h e) (beside-of g i n at h l nb ha) ea) (p .change) in
+      record {
+        change = trans-change g k op o i w w1 w2 (b .change) c;
+        closed = closed-then g k op o i i w w1 w2 (b .change) (λ x hx ex u v. absurd (let s = b .quiet x ex in omega arith)) c (p .closed);
+        side = λ y t u.
+            let hy = square→ g i y h t .0 in
+            let s : at ≡ y = only-of g i n at h nb y t u in
+            subst (Side k op w w2) s (record {
+              zero-cell = λ z. p .self (rw s hy) z;
+              edge = λ f. edge-then g k op o i w w1 w2 at (rw s hy) (b .edge (rw s hy) f) c;
+            });
+        clear = λ f. p .clear (λ x a d. b .waits x ∙ f x a d);
+      }
+
+  -- one neighbour, and then those after it
+  pub visited-more : (w w2 w3 : List ℤ) (i n : ℕ) → i < size g → Stepped i n w w2 → Visited g (kindOf w2) op i (n + 1) w2 w3 → Visited g (kindOf w) op i n w w3
+  visited-more w w2 w3 i n h s v1 =
+      let k = kindOf w in
+      let v : Visited g k op i (n + 1) w2 w3 = subst (λ (m : ℕ → ℕ). Visited g m op i (n + 1) w2 w3) (kinds-stay g k op o i w w2 (s .change)) v1 in
+      record {
+        change = trans-change g k op o i w w2 w3 (s .change) (v .change);
+        closed = closed-then g k op o i i w w2 w3 (s .change) (s .closed) (v .change) (v .closed);
+        ahead = λ y t a.
+            let hy = square→ g i y h t .0 in
+            elim (ℕ-discrete (turn g i y) n) [
+              | yes e ↦ side-then g k op o i w w2 w3 y hy (s .side y t e) (v .change)
+              | no f ↦ then-side g k op o i w w2 w3 y hy (s .change) (v .ahead y t (omega arith))
+            ];
+        clear = λ f. v .clear (s .clear f);
+      }
+
+  -- the cell itself, and then all its neighbours
+  pub opened-all : (w w1 w2 : List ℤ) (i : ℕ) → 5 * size g ≤ length w → Fresh (size g) w i → w1 ≡ marked w i op
+      → Visited g (kindOf w1) op i 0 w1 w2 → Opened g (kindOf w) op i w w2
+  opened-all w w1 w2 i room f q v1 =
+      let k = kindOf w in
+      let h = f .inside in
+      let m : Change g k op i w w1 = rw q (mark-change g k op o i i w i h room (λ _. f .unlabelled) (here h (f .zero-cell)) (in-own-square g i h)) in
+      let v : Visited g k op i 0 w1 w2 = subst (λ (m : ℕ → ℕ). Visited g m op i 0 w1 w2) (kinds-stay g k op o i w w1 m) v1 in
+      record {
+        change = trans-change g k op o i w w1 w2 m (v .change);
+        closed = λ x hx ex u l y t.
+            let hy = square→ g x y hx t .0 in
+            then-side g k op o i w w1 w2 y hy m (elim (ℕ-discrete x i) [
+              | yes e ↦ v .ahead y (subst (λ (z : ℕ). T (has y (square g z))) e t) (omega arith)
+              | no d ↦ v .closed x hx ex (rw q (ap natural (marked-other w i op (5 * x) (λ r. d (omega arith)) (λ r. omega arith)) ∙ u)) l y t
+            ]);
+        self = λ _ _. stays g k op o i w1 w2 (v .change) i h
+            (rw q (edge-some op o w (marked w i op) w2 i (record { one = marked-first w i op (omega arith); two = marked-second w i op (omega arith) })));
+        clear = λ c. v .clear (λ x a d. rw q (marked-other w i op (5 * x + 4) (λ r. omega arith) (λ r. omega arith) ∙ c x a d));
+      }
+
+  -- a border label leaves no more 0-cells without label
+  pub border-free : (w w1 : List ℤ) (i n at : ℕ) → i < size g → kindOf w i ≡ 1 → n < 9 → 5 * size g ≤ length w → Neighbour g i n at
+      → w1 ≡ bordered (size g) w at op → freeOf (size g) w1 ≤ freeOf (size g) w
+  border-free w w1 i n at h e l room nb q =
+      free-le g (kindOf w) op o i w w1 (bordering g op o i i at w w1 room (here h e) (beside-of g i n at h l nb) q .change)
+
+-- a call is ready after another that keeps the length
+pub ready-again : {rows columns op : ℕ} (w w1 : List ℤ) → Ready rows columns op w → length w1 ≡ length w → Ready rows columns op w1
+ready-again w w1 r e = record { shape = r .shape; room = omega (arith, r .room, e); some-label = r .some-label; fits = r .fits }

@@ -1,0 +1,3 @@
+-- What labelling the openings promises.
+pub mod Marks
+pub mod Spread

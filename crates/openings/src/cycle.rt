@@ -1,0 +1,40 @@
+// Up to 512 cells: a cell function and a neighbour function that call each other.
+ghost use Prim.Native.Nat.{ℕ, _+_, _*_, _<_, _≤_};
+ghost use mathlib.Core.Path.{_≡_};
+ghost use lib.ListN.{length};
+ghost use Rattle.openings.specs.Marks.{Ready, bordered, kindOf, shaped};
+ghost use Rattle.openings.specs.Spread.{Opened, Visited};
+use super::marks::border;
+use super::marks::fresh;
+use super::marks::mark;
+use super::marks::near;
+
+// Labels the opening of a 0-cell without label; any other cell stays as it is.
+pub fn label_cell(work: &mut [i32], rows: usize, columns: usize, op: usize, index: usize)
+    requires { ⌜ Ready rows columns op (now work) ⌝ }
+    ensures { λ _. ⌜ Opened (shaped rows columns) (kindOf (now (work .entry))) op index
+        (now (work .entry)) (now (work .exit)) ⌝ }
+{
+    if !fresh(work, rows * columns, index) {
+        return;
+    }
+    mark(work, index, op);
+    visit(work, rows, columns, op, index, 0);
+}
+
+// Visits the neighbours of a 0-cell from number k on: each gets the label, and a 0-cell without label is labelled in turn.
+pub fn visit(work: &mut [i32], rows: usize, columns: usize, op: usize, index: usize, k: usize)
+    requires { ⌜ Ready rows columns op (now work) ⌝ }
+    requires { ⌜ index < rows * columns ⌝ }
+    requires { ⌜ kindOf (now work) index ≡ 1 ⌝ }
+    ensures { λ _. ⌜ Visited (shaped rows columns) (kindOf (now (work .entry))) op index k
+        (now (work .entry)) (now (work .exit)) ⌝ }
+{
+    if k >= 9 {
+        return;
+    }
+    let at = near(rows, columns, index, k);
+    border(work, rows * columns, at, op);
+    label_cell(work, rows, columns, op, at);
+    visit(work, rows, columns, op, index, k + 1);
+}
