@@ -3,3 +3,4 @@ pub mod Loaded
 pub mod Settled
 pub mod Priced
 pub mod Passed
+pub mod Begun

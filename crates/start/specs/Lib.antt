@@ -1,2 +1,3 @@
 -- What the passes over the work area before any move, and after the last, promise.
 pub mod Passes
+pub mod Setting

@@ -2,3 +2,4 @@
 pub mod load; // each cell's kind
 pub mod price; // each cell's first premium
 pub mod settle; // the end of a call
+pub mod begin; // the position before any move as a whole

@@ -1,0 +1,16 @@
+-- The position before any move in the work area. Assumes nothing.
+use Prim.Native.Nat.{ℕ}
+use mathlib.Core.Path.{_≡_}
+use mathlib.Core.List.{List}
+use lib.IntN.{ℤ}
+use Rattle.game.specs.Grid.{Grid}
+use Rattle.game.specs.Openings.{threeBV}
+use Rattle.game.specs.Position.{untouched, closedSafe}
+use Rattle.area.specs.Stages.{held}
+use Rattle.start.specs.declared.begin.Counts.{Counts}
+
+-- the units and the safe cells are counted, and the work area stands for the untouched grid
+pub record Setting (g : Grid) (old : List ℤ) (r : Counts) (w : List ℤ) : Type 0 where
+  pub units : r .units ≡ threeBV g
+  pub safe : r .safe ≡ closedSafe g (untouched g)
+  pub work : w ≡ held g (untouched g) old

@@ -1,0 +1,45 @@
+// The position before any move: kinds, labels, first premiums; and the work area handed back.
+ghost use mathlib.Core.Path.{_≡_};
+ghost use mathlib.Core.List.{List};
+ghost use Prim.Native.Nat.{ℕ, _+_, _*_, _≤_};
+ghost use lib.IntN.{ℤ};
+ghost use lib.ListN.{length};
+ghost use Rattle.game.specs.Grid.{Grid, size};
+ghost use Rattle.game.specs.Position.{Position};
+ghost use Rattle.game.specs.Area.{areaOf};
+ghost use Rattle.area.specs.Numbers.{gridOf};
+ghost use Rattle.area.specs.Stages.{Shape, held};
+ghost use Rattle.start.specs.Setting.{Setting};
+
+// The units and the safe cells of a grid.
+pub struct Counts {
+    pub units: usize,
+    pub safe: usize,
+}
+
+// The work area stands for the position before any move. Answers the units and the safe cells.
+pub fn set_up(grid: &[i32], rows: usize, columns: usize, work: &mut [i32]) -> Counts
+    requires { ⌜ Shape rows columns ⌝ }
+    requires { ⌜ (length (now grid) ≡ rows * columns) × (5 * (rows * columns) ≤ length (now work)) ⌝ }
+    ensures { λ r. ⌜ Setting (gridOf rows columns (now (grid .entry))) (now (work .entry)) r (now (work .exit)) ⌝ }
+{
+    let cells = rows * columns;
+    crate::load::load(grid, rows, columns, work);
+    let openings = openings::label(work, rows, columns);
+    let bare = crate::price::count_bare(work, cells);
+    let safe = crate::price::count_safe(work, cells);
+    crate::price::price(work, rows, columns);
+    crate::price::swap(work, cells);
+    Counts {
+        units: openings + bare,
+        safe,
+    }
+}
+
+// The work area is handed back: it stands for a position as document 01 says.
+pub fn settle(work: &mut [i32], cells: usize)
+    requires { ⌜ 5 * cells ≤ length (now work) ⌝ }
+    ensures { λ _. ⌜ ((g : Grid) (s : Position) (old : List ℤ) → size g ≡ cells → 5 * size g ≤ length old → now (work .entry) ≡ held g s old → now (work .exit) ≡ areaOf g s old) ⌝ }
+{
+    crate::settle::settle_cells(work, cells);
+}
