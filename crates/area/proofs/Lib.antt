@@ -2,3 +2,4 @@ pub mod Signs
 pub mod Cells
 pub mod Tests
 pub mod Rows
+pub mod Held

@@ -1,48 +1,62 @@
+-- `zini::checks::check`: the tests in their order. Assumes nothing.
+use Prim.Native.Nat.{_*_}
+use native.Mathlib.Omega.{arith}
 use borrow.Author.Needs.{needs}
+use Rattle.area.specs.Numbers.{gridOf}
+use Rattle.area.proofs.Cells.{cells-few}
+use Rattle.zini.proofs.Verdict.{no-rows, many-rows, no-columns, many-columns, other-board, short-work, all-fine}
 use Rattle.zini.proofs.checks.check.Statement.{statement}
 use Rattle.zini.proofs.checks.check.Tie as tie
-use Rattle.zini.proofs.checks.check.Reads as reads
-use Rattle.zini.proofs.checks.check.Lts as lts
 
--- src/checks.rt:14:9
 returns : tie.Need-returns
-returns c = ?
+returns c =
+    let a = c .before .args in
+    no-rows (gridOf (a .rows) (a .columns) (a .grid .now)) (a .work .now) (c .if1 .taken)
 
--- src/checks.rt:17:9
 returns-2 : tie.Need-returns-2
-returns-2 c = ?
+returns-2 c =
+    let a = c .before .before .args in
+    many-rows (gridOf (a .rows) (a .columns) (a .grid .now)) (a .work .now) (c .before .if1 .left) (c .if2 .taken)
 
--- src/checks.rt:20:9
 returns-3 : tie.Need-returns-3
-returns-3 c = ?
+returns-3 c =
+    let a = c .before .before .before .args in
+    no-columns (gridOf (a .rows) (a .columns) (a .grid .now)) (a .work .now) (c .before .before .if1 .left) (c .before .if2 .left) (c .if3 .taken)
 
--- src/checks.rt:23:9
 returns-4 : tie.Need-returns-4
-returns-4 c = ?
+returns-4 c =
+    let a = c .before .before .before .before .args in
+    many-columns (gridOf (a .rows) (a .columns) (a .grid .now)) (a .work .now) (c .before .before .before .if1 .left) (c .before .before .if2 .left) (c .before .if3 .left) (c .if4 .taken)
 
--- src/checks.rt:25:22
 mul-if5 : tie.Need-mul-if5
-mul-if5 c = ?
+mul-if5 c =
+    let a = c .before .before .before .before .args in
+    omega (
+      arith,
+      cells-few (a .rows) (a .columns)
+          (record { some-rows = omega (arith, c .before .before .before .if1 .left); few-rows = c .before .before .if2 .left; some-columns = omega (arith, c .before .if3 .left); few-columns = c .if4 .left }),
+    )
 
--- src/checks.rt:26:9
 returns-5 : tie.Need-returns-5
-returns-5 c = ?
+returns-5 c =
+    let a = c .before .before .before .before .before .args in
+    other-board (gridOf (a .rows) (a .columns) (a .grid .now)) (a .work .now) (c .before .before .before .before .if1 .left) (c .before .before .before .if2 .left) (c .before .before .if3 .left) (c .before .if4 .left) (c .if5 .taken)
 
--- src/checks.rt:28:26
 mul-if6 : tie.Need-mul-if6
 mul-if6 c = search needs
 
--- src/checks.rt:28:21
 mul-if6-2 : tie.Need-mul-if6-2
 mul-if6-2 c = search needs
 
--- src/checks.rt:29:9
 returns-6 : tie.Need-returns-6
-returns-6 c = ?
+returns-6 c =
+    let a = c .before .before .before .before .before .before .args in
+    short-work (gridOf (a .rows) (a .columns) (a .grid .now)) (a .work .now) (c .before .before .before .before .before .if1 .left) (c .before .before .before .before .if2 .left) (c .before .before .before .if3 .left) (c .before .before .if4 .left) (c .before .if5 .left) (c .if6 .taken)
 
--- src/checks.rt:10:1
 returns-7 : tie.Need-returns-7
-returns-7 c = ?
+returns-7 c =
+    let a = c .before .before .before .before .before .before .args in
+    all-fine (gridOf (a .rows) (a .columns) (a .grid .now)) (a .work .now) (c .before .before .before .before .before .if1 .left) (c .before .before .before .before .if2 .left) (c .before .before .before .if3 .left) (c .before .before .if4 .left) (c .before .if5 .left) (c .if6 .left)
 
 pub check-spec : {M : Type 1} → statement M
 check-spec =

@@ -1,51 +1,70 @@
+-- `zini::count::three_bv`: refused as the checks say, else counted and settled. Assumes nothing.
+use Prim.Native.Nat.{ℕ, _*_}
+use native.Mathlib.Omega.{arith}
 use borrow.Author.Needs.{needs}
+use mathlib.Core.Path.{_≡_, ap, refl, sym, _∙_}
+use mathlib.Core.Option.{none}
+use Rattle.game.specs.Grid.{Grid}
+use Rattle.game.specs.Position.{untouched}
+use Rattle.game.specs.Calls.{firstGiven, gridChecks}
+use Rattle.area.specs.Numbers.{gridOf}
+use lib.ListN.{length}
+use Rattle.area.proofs.Held.{length-held}
+use Rattle.area.proofs.Cells.{cells-few}
+use Rattle.zini.specs.Answers.{named, refusalOf}
+use Rattle.zini.proofs.Verdict.{Passed, passed}
+use Rattle.zini.proofs.Counts.{count-refused, count-answered}
 use Rattle.zini.proofs.count.three_bv.Statement.{statement}
 use Rattle.zini.proofs.count.three_bv.Tie as tie
-use Rattle.zini.proofs.count.three_bv.Reads as reads
-use Rattle.zini.proofs.count.three_bv.Lts as lts
-use Rattle.start.proofs.begin.set_up.Reads as set-up-reads
-use Rattle.start.proofs.begin.settle.Reads as settle-reads
-use Rattle.zini.proofs.checks.check.Reads as check-reads
 
--- src/count.rt:12:9
 check-requires : tie.Need-check-requires
 check-requires c κs = search needs
 
--- src/count.rt:14:26
 enum-known-checked : tie.Need-enum-known-checked
 enum-known-checked c = search needs
 
--- src/count.rt:16:68
 enum-told : tie.Need-enum-told
 enum-told c = search needs
 
--- src/count.rt:16:17
+-- where nothing is refused
+verdict : (c : tie.After-enum-told)
+    → firstGiven (gridChecks (gridOf (c .before .before .before .before .args .rows) (c .before .before .before .before .args .columns) (c .before .before .before .before .args .grid .now)) (c .before .before .before .before .args .work .now)) ≡ none
+verdict c = sym (c .before .before .check .ensures) ∙ ap refusalOf (c .enum-told .given .1)
+
+fine : (c : tie.After-enum-told)
+    → Passed (gridOf (c .before .before .before .before .args .rows) (c .before .before .before .before .args .columns) (c .before .before .before .before .args .grid .now)) (c .before .before .before .before .args .work .now)
+fine c = passed _ _ (verdict c)
+
 set-up-requires : tie.Need-set-up-requires
-set-up-requires c κs = ?
+set-up-requires c κs = let p = fine (c .before) in (p .shaped, (p .whole, p .room))
 
--- src/count.rt:17:40
 mul-settle : tie.Need-mul-settle
-mul-settle c = ?
+mul-settle c = omega (arith, cells-few _ _ (fine (c .before .before .before .before) .shaped))
 
--- src/count.rt:17:13
 settle-requires : tie.Need-settle-requires
-settle-requires c κs = ?
+settle-requires c κs =
+    let a = c .before .before .before .before .before .before .before .before .args in
+    let p = fine (c .before .before .before .before) in
+    omega (arith, ap length (c .before .before .set-up .ensures .work) ∙ length-held (gridOf (a .rows) (a .columns) (a .grid .now)) (untouched (gridOf (a .rows) (a .columns) (a .grid .now))) (a .work .now) (p .room), p .room)
 
--- src/count.rt:9:1
 same-length : tie.Need-same-length
 same-length c = search needs
 
--- src/count.rt:9:1
 returns : tie.Need-returns
-returns c = ?
+returns c =
+    let a = c .before .before .before .before .before .args in
+    count-refused (gridOf (a .rows) (a .columns) (a .grid .now)) (a .work .now) _ (ap refusalOf (sym (c .before .checked .given .1)) ∙ c .before .before .before .check .ensures)
 
--- src/count.rt:9:1
 same-length-2 : tie.Need-same-length-2
 same-length-2 c = search needs
 
--- src/count.rt:9:1
 returns-2 : tie.Need-returns-2
-returns-2 c = ?
+returns-2 c =
+    let a = c .before .before .before .before .before .before .before .before .before .before .args in
+    let g = gridOf (a .rows) (a .columns) (a .grid .now) in
+    let s = c .before .before .before .before .set-up .ensures in
+    count-answered g (a .work .now) (c .before .settle .last .0) _ (sym (verdict (c .before .before .before .before .before .before))) (s .units)
+    (c .before .settle .ensures g (untouched g) (a .work .now) refl (fine (c .before .before .before .before .before .before) .room) (s .work))
 
 pub three-bv-spec : {M : Type 1} → statement M
 three-bv-spec =
