@@ -1,0 +1,5 @@
+-- Why the clicks of zini.rs are those of the defined rounds.
+pub mod Tables
+pub mod Built
+pub mod Numbers
+pub mod Spreads
