@@ -3,3 +3,4 @@ pub mod Tables
 pub mod Built
 pub mod Numbers
 pub mod Spreads
+pub mod Labelling
