@@ -4,3 +4,4 @@ pub mod Built
 pub mod Numbers
 pub mod Spreads
 pub mod Labelling
+pub mod Ready
