@@ -26,7 +26,8 @@ use Rattle.original.proofs.Tables.{Table, table-ext}
 
 -- ---- places of the openings that hold a cell
 
-places-from : (g : Grid) (i k : ℕ) (os : List (List ℕ)) → (x : ℕ) → T (has x (places g i k os)) → (k ≤ x) × (x < k + length os)
+-- a place lies between the first and the last
+pub places-from : (g : Grid) (i k : ℕ) (os : List (List ℕ)) → (x : ℕ) → T (has x (places g i k os)) → (k ≤ x) × (x < k + length os)
 places-from g i k [] x t = absurd t
 places-from g i k (o ∷ os) x t = go (holds g i o) t (places-from g i (suc k) os x)
   where

@@ -5,3 +5,4 @@ pub mod Numbers
 pub mod Spreads
 pub mod Labelling
 pub mod Ready
+pub mod Positions
