@@ -6,3 +6,4 @@ pub mod Spreads
 pub mod Labelling
 pub mod Ready
 pub mod Positions
+pub mod Sweeps

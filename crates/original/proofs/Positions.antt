@@ -40,7 +40,7 @@ pub board-around : (g : Grid) (op fl : ℕ → Bool) (P : ℕ → ℤ) (cs : Cel
 board-around g op fl P cs c h t =
     around-square g cs c h (reads-celled g (λ i. plain g i (op i) (fl i) (P i)) cs (λ i. record { keeps = refl }) t c h)
 
-board-premium : (g : Grid) (op fl : ℕ → Bool) (P : ℕ → ℤ) (cs : Cells) (c : ℕ) (d : ℤ) → Board g op fl P cs → Board g op fl (λ i. cond (eqb i c) (P i +ℤ d) (P i)) (add-premium d cs c)
+pub board-premium : (g : Grid) (op fl : ℕ → Bool) (P : ℕ → ℤ) (cs : Cells) (c : ℕ) (d : ℤ) → Board g op fl P cs → Board g op fl (λ i. cond (eqb i c) (P i +ℤ d) (P i)) (add-premium d cs c)
 board-premium g op fl P cs c d t =
     table-ext (size g) (λ i. cond (eqb i c) (plain g i (op i) (fl i) (P i +ℤ d)) (plain g i (op i) (fl i) (P i))) (λ i. plain g i (op i) (fl i) (cond (eqb i c) (P i +ℤ d) (P i)))
     (add-premium d cs c) (λ i h. out i (eqb i c)) (table-change (size g) (λ i. plain g i (op i) (fl i) (P i)) cs (λ z. with-premium (z .premium +ℤ d) z) c t)
@@ -88,14 +88,14 @@ board-flagged g op fl P cs c t =
 -- ---- open
 
 -- one more at a cell
-abbrev one-at : ℕ → (ℕ → ℤ) → ℕ → ℤ
+abbrev pub one-at : ℕ → (ℕ → ℤ) → ℕ → ℤ
 one-at c P i = cond (eqb i c) (P i +ℤ pos 1) (P i)
 
 -- one more at the cell, one less in its square if it has no label
-abbrev after-open : Grid → ℕ → (ℕ → ℤ) → ℕ → ℤ
+abbrev pub after-open : Grid → ℕ → (ℕ → ℤ) → ℕ → ℤ
 after-open g c P i = cond (eqb (firstLabel g c) 0 && has i (square g c)) (one-at c P i +ℤ negsuc 0) (one-at c P i)
 
-open-board : (g : Grid) (op fl : ℕ → Bool) (P : ℕ → ℤ) (st : State) (c : ℕ) → c < size g → Board g op fl P (st .cells)
+pub open-board : (g : Grid) (op fl : ℕ → Bool) (P : ℕ → ℤ) (st : State) (c : ℕ) → c < size g → Board g op fl P (st .cells)
     → Board g (λ i. eqb i c || op i) fl (after-open g c P) (open-cell (g .rows) st c .cells)
 unfolding open-cell
 open-board g op fl P st c h t =
@@ -125,7 +125,7 @@ pub record Stands (g : Grid) (s : Position) (n : ℕ) (st : State) : Type 0 wher
   pub left : st .closed-cells ≡ closedSafe g s + count (mine g) (cells g)
 
 -- one less and one more, in either order
-shift : (u e : Bool) (p : ℤ) → cond u (cond e (p +ℤ pos 1) p +ℤ negsuc 0) (cond e (p +ℤ pos 1) p) ≡ p -ℤ pos (bit u) +ℤ pos (bit e)
+pub shift : (u e : Bool) (p : ℤ) → cond u (cond e (p +ℤ pos 1) p +ℤ negsuc 0) (cond e (p +ℤ pos 1) p) ≡ p -ℤ pos (bit u) +ℤ pos (bit e)
 shift true true p = +ℤ-assoc p (pos 1) (negsuc 0) ∙ sym (+ℤ-assoc p (negsuc 0) (pos 1))
 shift true false p = sym (+ℤ-idr (p +ℤ negsuc 0))
 shift false true p = ap (λ (z : ℤ). z +ℤ pos 1) (sym (+ℤ-idr p))
@@ -138,12 +138,12 @@ square-sym g i j h k =
     (λ t. →square g j i k h (close-sym g i j (square→ g i j h t .1)))
 
 -- a state that is 0 or 1 is not 2
-not-two : (x : ℕ) → eqb x 1 ≡ not (eqb x 0) → eqb x 2 ≡ false
+pub not-two : (x : ℕ) → eqb x 1 ≡ not (eqb x 0) → eqb x 2 ≡ false
 not-two x e = no→false (eqb x 2) (λ t. subst T (sym (subst (λ (k : ℕ). eqb k 1 ≡ not (eqb k 0)) (eqb→eq x 2 t) e)) tt)
 
 -- ---- one cell is opened
 
-open-stands : (g : Grid) (s : Position) (n : ℕ) (st : State) (c : ℕ) → c < size g → Played g s → T (safe g c) → T (closed s c) → (T (zeroCell g c) → ⊥) → Stands g s n st
+pub open-stands : (g : Grid) (s : Position) (n : ℕ) (st : State) (c : ℕ) → c < size g → Played g s → T (safe g c) → T (closed s c) → (T (zeroCell g c) → ⊥) → Stands g s n st
     → Stands g (set s c 1) n (open-cell (g .rows) st c)
 unfolding open-cell closedSafe
 open-stands g s n st c h f t u z k =
