@@ -7,3 +7,4 @@ pub mod Labelling
 pub mod Ready
 pub mod Positions
 pub mod Sweeps
+pub mod Turns
