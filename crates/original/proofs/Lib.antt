@@ -8,3 +8,5 @@ pub mod Ready
 pub mod Positions
 pub mod Sweeps
 pub mod Turns
+pub mod Scans
+pub mod Choosing
