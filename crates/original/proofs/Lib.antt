@@ -10,3 +10,4 @@ pub mod Sweeps
 pub mod Turns
 pub mod Scans
 pub mod Choosing
+pub mod Loops
