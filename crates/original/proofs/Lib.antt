@@ -11,3 +11,4 @@ pub mod Turns
 pub mod Scans
 pub mod Choosing
 pub mod Loops
+pub mod Lowest

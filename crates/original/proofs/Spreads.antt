@@ -208,13 +208,14 @@ module _ (g : Grid) (op c : ℕ) (a b : ℕ → ℕ) (k : Begun g op c a b) wher
 
       go : (p : Bool) → zeroCell g x ≡ p → (m : Bool) → M x ≡ m → Done (eqb (at cs x .number) 0) (eqb (at cs x .opening) 0)
       go false e m q =
-          subst (λ (p : Bool). Done p (eqb (at cs x .opening) 0)) (sym (number-is false e))
-          (record {
-            now = with-cell x M;
-            table = mark-border M cs x t;
-            spread = border-more M i x j inside (square→ g i x (joined-last g c i j .inside) u .1) (λ v. subst T e v);
-          },
-          or-left (eqb x x) (M x) (eqb-refl x))
+          subst (λ (p : Bool). Done p (eqb (at cs x .opening) 0)) (sym (number-is false e)) (
+            record {
+              now = with-cell x M;
+              table = mark-border M cs x t;
+              spread = border-more M i x j inside (square→ g i x (joined-last g c i j .inside) u .1) (λ v. subst T e v);
+            },
+            or-left (eqb x x) (M x) (eqb-refl x),
+          )
       go true e true q =
           subst₂ Done (sym (number-is true e)) (sym (opening-is true q (rw e tt) ∙ eqb-no op 0 (λ f. absurd (omega (arith, k .some-op)))))
           (record { now = M; table = t; spread = no-more M }, rw q tt)
@@ -241,19 +242,20 @@ module _ (g : Grid) (op c : ℕ) (a b : ℕ → ℕ) (k : Begun g op c a b) wher
       let marked = change (with-opening op) cs x in
       let one = mark-zero M cs x j e t in
       let r = all-turns fuel (calls fuel) x j (square g x) (λ y u. u) (with-cell x M) marked (omega (arith, left-less M x z e)) one in
-      subst (λ (ys : List ℕ). (r : Spreads M (fold (turn fuel) marked ys)) × T (r .now x)) (sym (around-square g marked x (z .inside) (reads-celled g (met (with-cell x M)) marked (celled (with-cell x M)) one x (z .inside))))
-      (record {
-        now = r .0 .now;
-        table = r .0 .table;
-        spread = record {
-          more = λ y u. r .0 .spread .more y (or-right (eqb y x) (M y) u);
-          sound = λ y h u. ⊎-elim (λ v. ⊎-elim (λ f. inr (rw (eqb→eq y x f) (own-held z j))) (λ w. inl w) (or-cases (eqb y x) (M y) v)) (λ v. inr v) (r .0 .spread .sound y h u);
-          shut = λ y zy u.
-              ⊎-elim (λ v. ⊎-elim (λ f. inr (λ w h n. r .1 w (→square g x w (z .inside) h (subst (λ (v : ℕ). Close g v w) (eqb→eq y x f) n)))) (λ w. inl w) (or-cases (eqb y x) (M y) v))
-              (λ v. inr v) (r .0 .spread .shut y zy u);
-        };
-      },
-      r .0 .spread .more x (or-left (eqb x x) (M x) (eqb-refl x)))
+      subst (λ (ys : List ℕ). (r : Spreads M (fold (turn fuel) marked ys)) × T (r .now x)) (sym (around-square g marked x (z .inside) (reads-celled g (met (with-cell x M)) marked (celled (with-cell x M)) one x (z .inside)))) (
+        record {
+          now = r .0 .now;
+          table = r .0 .table;
+          spread = record {
+            more = λ y u. r .0 .spread .more y (or-right (eqb y x) (M y) u);
+            sound = λ y h u. ⊎-elim (λ v. ⊎-elim (λ f. inr (rw (eqb→eq y x f) (own-held z j))) (λ w. inl w) (or-cases (eqb y x) (M y) v)) (λ v. inr v) (r .0 .spread .sound y h u);
+            shut = λ y zy u.
+                ⊎-elim (λ v. ⊎-elim (λ f. inr (λ w h n. r .1 w (→square g x w (z .inside) h (subst (λ (v : ℕ). Close g v w) (eqb→eq y x f) n)))) (λ w. inl w) (or-cases (eqb y x) (M y) v))
+                (λ v. inr v) (r .0 .spread .shut y zy u);
+          };
+        },
+        r .0 .spread .more x (or-left (eqb x x) (M x) (eqb-refl x)),
+      )
     where
       own-held : Zero g x → Joined g c x → T (holds g x (joinedTo g c))
       own-held z j = some-yes (λ y. has y (joinedTo g c)) x (square g x) (in-own-square g x (z .inside)) (→joinedTo g c x j)
