@@ -27,4 +27,4 @@ pub record Equal (g : Grid) : Type 0 where
   pub greedy : cal-zini g ≡ length (movesOf (greedySteps g))
   pub openings-first : cal-hzini g ≡ length (movesOf (openingsFirstSteps g))
   pub random-search : (bytes : List ℕ) (rounds : ℕ) → Each (λ b. b < 256) bytes → 1 ≤ rounds
-      → cal-rzini g bytes rounds ≡ answered (randomSearch g bytes rounds)
+    → cal-rzini g bytes rounds ≡ answered (randomSearch g bytes rounds)
