@@ -12,3 +12,5 @@ pub mod Scans
 pub mod Choosing
 pub mod Loops
 pub mod Lowest
+pub mod Rolls
+pub mod Drawing
