@@ -14,3 +14,5 @@ pub mod Loops
 pub mod Lowest
 pub mod Rolls
 pub mod Drawing
+pub mod Randoms
+pub mod Equal
