@@ -25,7 +25,7 @@ use Rattle.game.proofs.Orders.{Ordered, ordered-keep, ordered-range}
 use Rattle.game.proofs.Played.{Played}
 use Rattle.game.proofs.Squares.{cells→, length-cells}
 use Rattle.game.proofs.Truth.{T→true, and-both, and-false, and-left, and-right, and-true}
-use Rattle.original.proofs.Positions.{Stands}
+use Rattle.original.proofs.Positions.{Stands, not-opened}
 use Rattle.original.proofs.Scans.{Scanned, fold-prefix, head-of, head-stays, leZ-same, leZ-trans, not-lt, reaches, scanned-higher, scanned-none, scanned-same}
 use Rattle.original.proofs.Turns.{click-stands, turn-stands}
 
@@ -100,7 +100,7 @@ module _ (human : Bool) (g : Grid) (s : Position) (n : ℕ) (st : State) (w : St
       go false e = ap (λ (b : Bool). b && (opened s x || not human)) (sym (and-false (ltZ m (w .kept x))))
 
   -- the premium of a cell that is looked at
-  pub premium-at : (x : ℕ) → x < size g → T (looks human g s x) → at (st .cells) x .premium ≡ premium g s x
+  premium-at : (x : ℕ) → x < size g → T (looks human g s x) → at (st .cells) x .premium ≡ premium g s x
   premium-at x h t = ap (λ (z : Zcell). z .premium) (w .board .reads x h) ∙ w .exact x h (and-left (safe g x) (opened s x || not human) t)
 
   record Bettered (ps : List ℕ) (b : Best) : Type 0 where
@@ -146,13 +146,9 @@ module _ (human : Bool) (g : Grid) (s : Position) (n : ℕ) (st : State) (w : St
       ap (λ (z : Zcell). not (z .opened) && not (z .mine) && (eqb (z .number) 0 || eqb (z .opening) 0)) (w .board .reads x h) ∙ go (safe g x) refl
       ∙ ap (λ (b : Bool). safe g x && closed s x && (zeroCell g x || b)) (sym (first-label g x))
     where
-      not-not : (b : Bool) → not (not b) ≡ b
-      not-not true = refl
-      not-not false = refl
-
       go : (b : Bool) → safe g x ≡ b → (not (opened s x) && b && (zeroCell g x || eqb (firstLabel g x) 0)) ≡ (b && closed s x && (zeroCell g x || (b && eqb (firstLabel g x) 0)))
       go true e =
-          ap (λ (c : Bool). c && true && (zeroCell g x || eqb (firstLabel g x) 0)) (ap not (f .safes x h (rw e tt)) ∙ not-not (closed s x))
+          ap (λ (c : Bool). c && true && (zeroCell g x || eqb (firstLabel g x) 0)) (not-opened g s x h (rw e tt) f)
           ∙ ap (λ (c : Bool). c && (zeroCell g x || eqb (firstLabel g x) 0)) (sym (and-true (closed s x)))
       go false e = ap (λ (c : Bool). c && (zeroCell g x || eqb (firstLabel g x) 0)) (sym (and-false (not (opened s x))))
 

@@ -7,7 +7,7 @@ use mathlib.Core.Bool.{Bool, _&&_, false, not, true}
 use mathlib.Core.List.{List, [], _∷_}
 use mathlib.Core.Option.{none}
 use lib.Dec.{T, eqb}
-use lib.ListN.{getD, getD-replicate, length, length-append}
+use lib.ListN.{length, length-append}
 use Rattle.game.specs.Calls.{board}
 use Rattle.game.specs.Grid.{Grid, cells, mine, safe, size, zeroCell}
 use Rattle.game.specs.Lists.{bit, count, fold, has, range}
@@ -29,8 +29,8 @@ use Rattle.game.proofs.Squares.{cells→, length-cells}
 use Rattle.game.proofs.Truth.{T→true, and-false, and-left, and-true}
 use Rattle.game.proofs.Units.{units-at-most-cells, units-untouched}
 use Rattle.original.proofs.Loops.{loop-clicks}
-use Rattle.original.proofs.Positions.{Stands, board-ext}
-use Rattle.original.proofs.Ready.{prepared-table}
+use Rattle.original.proofs.Positions.{Stands, board-ext, not-opened}
+use Rattle.original.proofs.Ready.{prepared-table, untouched-at}
 use Rattle.original.proofs.Turns.{click-stands}
 
 -- ---- before any move
@@ -49,7 +49,7 @@ begin-stands g =
     record {
       kept = premium g (untouched g);
       board = board-ext g (λ i. false) (opened (untouched g)) (λ i. false) (flagged (untouched g)) (premium g (untouched g)) (premium g (untouched g)) (prepared g)
-          (λ i h. sym (ap (λ (x : ℕ). eqb x 1) (zero-at i h))) (λ i h. sym (ap (λ (x : ℕ). eqb x 2) (zero-at i h))) (λ i h. refl) (prepared-table g);
+          (λ i h. sym (ap (λ (x : ℕ). eqb x 1) (untouched-at g i h))) (λ i h. sym (ap (λ (x : ℕ). eqb x 2) (untouched-at g i h))) (λ i h. refl) (prepared-table g);
       exact = λ i h t. refl;
       clicks = refl;
       left = omega (
@@ -57,12 +57,9 @@ begin-stands g =
         mul-comm (g .columns) (g .rows),
         count-not (mine g) (cells g),
         length-cells g,
-        count-ext (λ i. safe g i && closed (untouched g) i) (safe g) (cells g) (λ i t. ap (λ (x : ℕ). safe g i && eqb x 0) (zero-at i (cells→ g i t)) ∙ sym (and-true (safe g i))),
+        count-ext (λ i. safe g i && closed (untouched g) i) (safe g) (cells g) (λ i t. ap (λ (x : ℕ). safe g i && eqb x 0) (untouched-at g i (cells→ g i t)) ∙ sym (and-true (safe g i))),
       );
     }
-  where
-    zero-at : (i : ℕ) → i < size g → getD (untouched g) i 0 ≡ 0
-    zero-at i h = getD-replicate (size g) i 0 0 h
 
 pub mines-counted : (g : Grid) → mines-of (prepared g) ≡ count (mine g) (cells g)
 mines-counted g =
@@ -103,17 +100,13 @@ hit-stands g (x ∷ xs) s n st h f w =
     by : Bool → State
     by b = elim b [ true ↦ click (g .rows) st x | false ↦ st ]
 
-    not-not : (b : Bool) → not (not b) ≡ b
-    not-not true = refl
-    not-not false = refl
-
     test : (not (at (st .cells) x .mine) && eqb (at (st .cells) x .number) 0 && not (at (st .cells) x .opened)) ≡ (zeroCell g x && closed s x)
     test = ap (λ (z : Zcell). not (z .mine) && eqb (z .number) 0 && not (z .opened)) (w .board .reads x hx) ∙ one (zeroCell g x) refl
       where
         one : (b : Bool) → zeroCell g x ≡ b → (safe g x && b && not (opened s x)) ≡ (b && closed s x)
         one true e =
             let t = zero-safe g x (record { inside = hx; none = rw e tt }) in
-            ap₂ (λ a c. a && true && not c) (T→true (safe g x) t) (f .safes x hx t) ∙ not-not (closed s x)
+            ap₂ (λ a c. a && true && c) (T→true (safe g x) t) (not-opened g s x hx t f)
         one false e = ap (λ (a : Bool). a && not (opened s x)) (sym (and-false (safe g x)))
 
     more : (m : ℕ) → n + 1 + m ≡ n + suc m

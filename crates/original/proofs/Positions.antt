@@ -141,6 +141,14 @@ square-sym g i j h k =
 pub not-two : (x : ℕ) → eqb x 1 ≡ not (eqb x 0) → eqb x 2 ≡ false
 not-two x e = no→false (eqb x 2) (λ t. subst T (sym (subst (λ (k : ℕ). eqb k 1 ≡ not (eqb k 0)) (eqb→eq x 2 t) e)) tt)
 
+-- a safe cell that is not opened is closed
+pub not-opened : (g : Grid) (s : Position) (i : ℕ) → i < size g → T (safe g i) → Played g s → not (opened s i) ≡ closed s i
+not-opened g s i h t f = ap not (f .safes i h t) ∙ not-not (closed s i)
+  where
+    not-not : (b : Bool) → not (not b) ≡ b
+    not-not true = refl
+    not-not false = refl
+
 -- ---- one cell is opened
 
 pub open-stands : (g : Grid) (s : Position) (n : ℕ) (st : State) (c : ℕ) → c < size g → Played g s → T (safe g c) → T (closed s c) → (T (zeroCell g c) → ⊥) → Stands g s n st

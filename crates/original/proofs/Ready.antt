@@ -40,7 +40,8 @@ adjacent g i =
 
 -- ---- it is what a cell gains before any move
 
-untouched-at : (g : Grid) (j : ℕ) → j < size g → getD (untouched g) j 0 ≡ 0
+-- all cells are closed before any move
+pub untouched-at : (g : Grid) (j : ℕ) → j < size g → getD (untouched g) j 0 ≡ 0
 untouched-at g j h = getD-replicate (size g) j 0 0 h
 
 held-count : (g : Grid) (i k : ℕ) (os : List (List ℕ)) → count (holds g i) os ≡ length (places g i k os)
@@ -105,7 +106,7 @@ premium-untouched g i h =
 
 -- ---- the third loop
 
-pub ready-table : (g : Grid) (cs : Cells) → Table (size g) (λ i. lined g i (firstLabel g i) (secondLabel g i)) cs
+ready-table : (g : Grid) (cs : Cells) → Table (size g) (λ i. lined g i (firstLabel g i) (secondLabel g i)) cs
     → Table (size g) (λ i. plain g i false false (premium g (untouched g) i)) (fold (λ cs i. add-premium (pos (getadj3bv cs (g .rows) i)) cs i) cs (range 0 (size g)))
 unfolding getadj3bv adjacent
 ready-table g cs t =

@@ -30,7 +30,7 @@ use Rattle.game.proofs.Squares.{cells→, once-cells, →cells}
 use Rattle.game.proofs.Truth.{T→true, and-false, and-inside, and-true, and-under, eqb-no, eqb-yes, iff, no→false, or-cases, or-left, or-right}
 use Rattle.game.proofs.Zeros.{Zero}
 use Rattle.original.proofs.Labelling.{places-from}
-use Rattle.original.proofs.Positions.{Board, Stands, after-open, board-ext, board-premium, not-two, one-at, open-board, open-stands, shift}
+use Rattle.original.proofs.Positions.{Board, Stands, after-open, board-ext, board-premium, not-opened, not-two, one-at, open-board, open-stands, shift}
 
 -- ---- the label of a 0-cell stands at what its opening holds
 
@@ -322,12 +322,8 @@ sweep-stands g s n st c f z u k =
         shut true x = and-false (eqb x 0)
         shut false x = and-true (eqb x 0)
 
-        twice : (b : Bool) → b ≡ not (not b)
-        twice true = refl
-        twice false = refl
-
         open-closed : (j : ℕ) → j < size g → T (safe g j) → (safe g j && closed s j) ≡ not (opened s j)
-        open-closed j h t = ap (λ (a : Bool). a && closed s j) (T→true (safe g j) t) ∙ twice (closed s j) ∙ ap not (sym (f .safes j h t))
+        open-closed j h t = ap (λ (a : Bool). a && closed s j) (T→true (safe g j) t) ∙ sym (not-opened g s j h t f)
 
 -- ---- reveal
 

@@ -29,7 +29,7 @@ use Rattle.game.proofs.Runs.{moves-cost}
 use Rattle.game.proofs.Squares.{once-square, square→}
 use Rattle.game.proofs.Truth.{T→true, and-left, and-right, and-under, no→false}
 use Rattle.game.proofs.Units.{after-moves}
-use Rattle.original.proofs.Positions.{Stands, board-around, flag-stands}
+use Rattle.original.proofs.Positions.{Stands, board-around, flag-stands, not-opened}
 use Rattle.original.proofs.Sweeps.{reveal-stands}
 
 -- ---- click
@@ -209,12 +209,8 @@ turn-stands g s n st i h t f k =
     same-square : (p : Position) (m : ℕ) (d : State) → Stands g p m d → around (d .cells) (g .rows) i ≡ square g i
     same-square p m d q = board-around g (opened p) (flagged p) (q .kept) (d .cells) i h (q .board)
 
-    not-not : (b : Bool) → not (not b) ≡ b
-    not-not true = refl
-    not-not false = refl
-
     closed-yet : not (at (st .cells) i .opened) ≡ closed s i
-    closed-yet = ap (λ (z : Zcell). not (z .opened)) (k .board .reads i h) ∙ ap not (f .safes i h t) ∙ not-not (closed s i)
+    closed-yet = ap (λ (z : Zcell). not (z .opened)) (k .board .reads i h) ∙ not-opened g s i h t f
 
     first : (b : Bool) → Stands g (after g s (cond b (left i ∷ []) [])) (n + bit b) (by b) × Played g (after g s (cond b (left i ∷ []) []))
     first true = (click-stands g s n st i h t f k, reveal-played g s i h f)
