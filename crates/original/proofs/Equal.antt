@@ -2,7 +2,6 @@
 use Prim.Native.Nat.{_≤_}
 use native.Mathlib.Omega.{arith}
 use native.Mathlib.Nat.{mul-le-mul-right}
-use Rattle.game.specs.Calls.{rounds}
 use Rattle.game.specs.Grid.{Grid, size}
 use Rattle.original.specs.Equal.{Equal, Within}
 use Rattle.original.proofs.Lowest.{greedy-equal, openings-first-equal}

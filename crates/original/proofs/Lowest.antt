@@ -8,13 +8,12 @@ use mathlib.Core.List.{List, [], _∷_}
 use mathlib.Core.Option.{none}
 use lib.Dec.{T, eqb}
 use lib.ListN.{length, length-append}
-use Rattle.game.specs.Calls.{board}
 use Rattle.game.specs.Grid.{Grid, cells, mine, safe, size, zeroCell}
 use Rattle.game.specs.Lists.{bit, count, fold, has, range}
-use Rattle.game.specs.Moves.{after, left, play, reveal}
+use Rattle.game.specs.Moves.{after, play, reveal}
 use Rattle.game.specs.Openings.{threeBV}
 use Rattle.game.specs.Position.{Position, closed, closedSafe, closedUnits, flagged, opened, premium, untouched}
-use Rattle.game.specs.Rounds.{Step, clickStep, clicks, firstClicks, greedySteps, movesOf, openingClicks, openingsFirstSteps, stepsFrom}
+use Rattle.game.specs.Rounds.{Step, clickStep, firstClicks, greedySteps, movesOf, openingClicks, openingsFirstSteps, stepsFrom}
 use Rattle.original.specs.Cells.{Zcell, at}
 use Rattle.original.specs.Entries.{cal-hzini, cal-zini, prepared}
 use Rattle.original.specs.Play.{State, click, hitopenings}

@@ -8,13 +8,12 @@ use mathlib.Core.List.{List, [], _++_}
 use mathlib.Core.Option.{Option, none, some}
 use lib.Dec.{ltb, ltb→lt, nltb→le}
 use lib.ListN.{length, length-append, length-replicate, replicate}
-use Rattle.game.specs.Calls.{rounds}
 use Rattle.game.specs.Draws.{Drawn, draw}
 use Rattle.game.specs.Grid.{Grid, cells, mine, size}
 use Rattle.game.specs.Lists.{Each, count}
 use Rattle.game.specs.Openings.{threeBV}
 use Rattle.game.specs.Position.{Position, closedSafe, closedUnits, untouched}
-use Rattle.game.specs.Rounds.{Choice, Round, Searched, Step, afterStep, before, choice, clicks, movesOf, randomFrom, randomRound, randomSearch, searchFrom, stepOf, width}
+use Rattle.game.specs.Rounds.{Choice, Round, Searched, Step, afterStep, before, choice, movesOf, randomFrom, randomRound, randomSearch, searchFrom, stepOf, width}
 use Rattle.original.specs.Entries.{cal-rzini, prepared, rzini-loop}
 use Rattle.original.specs.Equal.{answered}
 use Rattle.original.specs.Play.{State}

@@ -13,7 +13,7 @@ use lib.IntN.{_+ℤ_, _-ℤ_, negsuc, pos, ℤ}
 use lib.ListN.{getD, length, set}
 use Rattle.game.specs.Grid.{Grid, cells, mine, safe, size, square, zeroCell}
 use Rattle.game.specs.Lists.{bit, count, fold, has, range}
-use Rattle.game.specs.Moves.{left, reveal, sweep}
+use Rattle.game.specs.Moves.{reveal, sweep}
 use Rattle.game.specs.Openings.{firstLabel, holds, joinedTo, labels, openings, places, secondLabel}
 use Rattle.game.specs.Position.{Position, closed, closedSafe, flagged, opened, premium}
 use Rattle.original.specs.Cells.{Zcell, add-premium}

@@ -9,9 +9,8 @@ use lib.Dec.{T, eqb, ltb, ltb→lt, nltb→le}
 use lib.IntN.{ℤ}
 use lib.ListN.{length, length-set}
 use lib.Seq.{getD-set-other, getD-set-same}
-use Rattle.game.specs.Grid.{Grid, columnOf, mine, near, number, rowOf, size, square}
+use Rattle.game.specs.Grid.{Grid, columnOf, mine, near, rowOf, size, square}
 use Rattle.game.specs.Lists.{concat-map, count, fold, has, range}
-use Rattle.game.specs.Position.{flagged, opened, premium}
 use Rattle.original.specs.Cells.{Cells, Zcell, around, at, change, nought}
 use Rattle.game.proofs.Counts.{Once, count-ext}
 use Rattle.game.proofs.Members.{has-head, has-tail}

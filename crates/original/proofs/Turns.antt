@@ -11,13 +11,12 @@ use lib.Dec.{T, T-not, eqb}
 use lib.IntN.{pos}
 use lib.ListN.{getD, length, set}
 use lib.Seq.{getD-set-other, getD-set-same}
-use Rattle.game.specs.Calls.{board}
 use Rattle.game.specs.Grid.{Grid, mine, safe, size, square}
 use Rattle.game.specs.Lists.{bit, fold, has, keep}
 use Rattle.game.specs.Moves.{after, flag, left, play, reveal}
 use Rattle.game.specs.Openings.{holds, joinedTo}
 use Rattle.game.specs.Position.{Position, closed, cost, flagged, opened, unflagged}
-use Rattle.game.specs.Rounds.{clicks, movesAt}
+use Rattle.game.specs.Rounds.{movesAt}
 use Rattle.original.specs.Cells.{Zcell, around, at, change, with-flagged}
 use Rattle.original.specs.Play.{State, add-around, click, flag-cell, flagaround, one-click, reveal-cell, with-cells}
 use Rattle.original.specs.Rounds.{play-at}
