@@ -1,0 +1,30 @@
+-- Demand 2 as statements: the clicks of zini.rs are those of the defined rounds. Assumes nothing.
+use Prim.Native.Nat.{ℕ, _≤_, _<_}
+use mathlib.Core.Path.{_≡_}
+use mathlib.Core.List.{List}
+use mathlib.Core.Option.{Option, none, some}
+use lib.ListN.{length}
+use Rattle.game.specs.Lists.{Each}
+use Rattle.game.specs.Grid.{Grid, size}
+use Rattle.game.specs.Rounds.{movesOf, greedySteps, openingsFirstSteps, Searched, randomSearch}
+use Rattle.original.specs.Rounds.{Rolled}
+use Rattle.original.specs.Entries.{cal-zini, cal-hzini, cal-rzini}
+
+-- what cal_rzini answers for a search: the least clicks and the bytes consumed, none where the draws run out
+abbrev pub answered : Option Searched → Option Rolled
+answered none = none
+answered (some r) = some (record { clicks = r .least; next = r .next })
+
+-- a grid within the limits
+pub record Within (g : Grid) : Type 0 where
+  pub some-rows : 1 ≤ g .rows
+  pub few-rows : g .rows ≤ 255
+  pub some-columns : 1 ≤ g .columns
+  pub few-columns : g .columns ≤ 255
+
+-- the three entries of zini.rs, on a grid within the limits
+pub record Equal (g : Grid) : Type 0 where
+  pub greedy : cal-zini g ≡ length (movesOf (greedySteps g))
+  pub openings-first : cal-hzini g ≡ length (movesOf (openingsFirstSteps g))
+  pub random-search : (bytes : List ℕ) (rounds : ℕ) → Each (λ b. b < 256) bytes → 1 ≤ rounds
+      → cal-rzini g bytes rounds ≡ answered (randomSearch g bytes rounds)
