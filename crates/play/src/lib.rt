@@ -1,0 +1,135 @@
+// L, F and C on a work area that stands for a position; one replayed move, and the replay of a list.
+ghost use mathlib.Core.Path.{_≡_};
+ghost use Prim.Native.Nat.{ℕ, _+_, _*_, _-_, _<_, _≤_};
+ghost use mathlib.Core.List.{List};
+ghost use lib.Dec.{T};
+ghost use lib.IntN.{ℤ};
+ghost use lib.ListN.{length};
+ghost use Rattle.game.specs.Lists.{bit, fold, range};
+ghost use Rattle.game.specs.Grid.{Grid, mine};
+ghost use Rattle.game.specs.Position.{Position, closed};
+ghost use Rattle.game.specs.Moves.{play, flag as flagMove};
+ghost use Rattle.area.specs.Stages.{Shape, Stands};
+ghost use Rattle.play.specs.Walks.{Around, shifted, rowCells, squareOf, openedOne, labelledAt, sweptCell, opensAt, Swept, sweptOn};
+ghost use Rattle.play.specs.Promises.{Revealing, RevealingAll, Chording};
+
+// a less b, or 0.
+fn less(a: usize, b: usize) -> usize
+    ensures { λ r. ⌜ r ≡ a - b ⌝ }
+{
+    if a < b { 0 } else { a - b }
+}
+
+// The sides of a square: its rows from `first` to before `last`, its columns from `from` to before `to`.
+pub struct Sides {
+    pub first: usize,
+    pub last: usize,
+    pub from: usize,
+    pub to: usize,
+}
+
+// The sides of a cell's square.
+fn around(rows: usize, columns: usize, index: usize) -> Sides
+    requires { ⌜ index < rows * columns ⌝ }
+    ensures { λ r. ⌜ Around rows columns index (r .first) (r .last) (r .from) (r .to) ⌝ }
+{
+    let row = index % rows;
+    let column = index / rows;
+    Sides { first: area::lower(row), last: area::upper(row, rows), from: area::lower(column), to: area::upper(column, columns) }
+}
+
+// A safe cell's premium, so much up and so much down.
+fn shift(work: &mut [i32], index: usize, up: usize, down: usize)
+    requires { ⌜ (5 * index + 5 ≤ length (now work)) × (up ≤ 1) ⌝ }
+    ensures { λ _. ⌜ now (work .exit) ≡ shifted up down (now (work .entry)) index ⌝ }
+{
+    let kind = area::get(work, 5 * index + 4);
+    if kind == 0 {
+        return;
+    }
+    let premium = area::get(work, 5 * index + 2);
+    area::put(work, 5 * index + 2, less(premium + up, down));
+}
+
+// The safe cells of one row, in the columns given.
+fn shift_row(work: &mut [i32], rows: usize, columns: usize, row: usize, from: usize, to: usize, up: usize, down: usize)
+    requires { ⌜ (5 * (rows * columns) ≤ length (now work)) × (row < rows) × (from ≤ to) × (to ≤ columns) × (up ≤ 1) ⌝ }
+    ensures { λ _. ⌜ now (work .exit) ≡ fold (shifted up down) (now (work .entry)) (rowCells rows row from to) ⌝ }
+{
+    for column in from..to {
+        shift(work, column * rows + row, up, down);
+    }
+}
+
+// The safe cells of a square.
+fn shift_square(work: &mut [i32], rows: usize, columns: usize, index: usize, up: usize, down: usize)
+    requires { ⌜ (5 * (rows * columns) ≤ length (now work)) × (index < rows * columns) × (up ≤ 1) ⌝ }
+    ensures { λ _. ⌜ now (work .exit) ≡ fold (shifted up down) (now (work .entry)) (squareOf rows columns index) ⌝ }
+{
+    let sides = around(rows, columns, index);
+    let first = sides.first;
+    let last = sides.last;
+    let from = sides.from;
+    let to = sides.to;
+    for row in first..last {
+        shift_row(work, rows, columns, row, from, to, up, down);
+    }
+}
+
+// Opens a closed cell of number 1 or more.
+fn open_one(work: &mut [i32], rows: usize, columns: usize, index: usize)
+    requires { ⌜ (5 * (rows * columns) ≤ length (now work)) × (index < rows * columns) ⌝ }
+    ensures { λ _. ⌜ now (work .exit) ≡ openedOne rows columns (now (work .entry)) index ⌝ }
+{
+    area::put(work, 5 * index + 3, 1);
+    shift(work, index, 1, 0);
+    let label = area::get(work, 5 * index);
+    if label != 0 {
+        return;
+    }
+    shift_square(work, rows, columns, index, 0, 1);
+}
+
+// Whether the cell has the label.
+fn labelled(work: &[i32], index: usize, label: usize) -> bool
+    requires { ⌜ 5 * index + 5 ≤ length (now work) ⌝ }
+    ensures { λ r. ⌜ r ≡ labelledAt label (now (work .entry)) index ⌝ }
+{
+    let first = area::get(work, 5 * index);
+    if first == label {
+        return true;
+    }
+    let second = area::get(work, 5 * index + 1);
+    second == label
+}
+
+// One cell of a sweep: opened, or one opening less. Answers 1 if it was opened.
+fn sweep_cell(work: &mut [i32], index: usize, label: usize) -> usize
+    requires { ⌜ 5 * index + 5 ≤ length (now work) ⌝ }
+    ensures { λ r. ⌜ (now (work .exit) ≡ sweptCell label (now (work .entry)) index) × (r ≡ bit (opensAt label (now (work .entry)) index)) ⌝ }
+{
+    if !labelled(work, index, label) {
+        return 0;
+    }
+    let state = area::get(work, 5 * index + 3);
+    if state == 0 {
+        area::put(work, 5 * index + 3, 1);
+        return 1;
+    }
+    let premium = area::get(work, 5 * index + 2);
+    area::put(work, 5 * index + 2, less(premium, 1));
+    0
+}
+
+// Every cell of the opening of a label. Answers how many were opened.
+fn sweep(work: &mut [i32], cells: usize, label: usize) -> usize
+    requires { ⌜ 5 * cells ≤ length (now work) ⌝ }
+    ensures { λ r. ⌜ (r ≤ cells) × (record { area = now (work .exit); opened = r }
+        ≡ fold (sweptOn label) (record { area = now (work .entry); opened = 0 }) (range 0 cells)) ⌝ }
+{
+    let mut opened: usize = 0;
+    for index in 0..cells {
+        opened += sweep_cell(work, index, label);
+    }
+    opened
+}
