@@ -4,3 +4,5 @@ pub mod Cells
 pub mod Marks
 pub mod Held
 pub mod Changes
+pub mod Reveals
+pub mod Chords

@@ -19,6 +19,10 @@ pub record RevealingAll (rows columns : ℕ) (g : Grid) (s : Position) (old : Li
   pub stands : Stands rows columns g (fold (reveal g) s cells) old w
   pub opened-cells : r + closedSafe g (fold (reveal g) s cells) ≡ closedSafe g s
 
+-- the cells were revealed one after the other, whatever position w stood for
+pub record Opens (rows columns : ℕ) (w : List ℤ) (cells : List ℕ) (r : ℕ) (v : List ℤ) : Type 0 where
+  pub revealing : (g : Grid) (s : Position) (old : List ℤ) → Stands rows columns g s old w → RevealingAll rows columns g s old cells r v
+
 -- r safe cells were opened, and w stands for the position after C
 pub record Chording (rows columns : ℕ) (g : Grid) (s : Position) (old : List ℤ) (index r : ℕ) (w : List ℤ) : Type 0 where
   pub stands : Stands rows columns g (play g s (chord index)) old w

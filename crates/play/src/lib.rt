@@ -11,7 +11,7 @@ ghost use Rattle.game.specs.Position.{Position, closed};
 ghost use Rattle.game.specs.Moves.{play, flag as flagMove};
 ghost use Rattle.area.specs.Stages.{Shape, Stands};
 ghost use Rattle.play.specs.Walks.{Around, shifted, rowCells, squareOf, openedOne, labelledAt, sweptCell, opensAt, Swept, sweptOn};
-ghost use Rattle.play.specs.Promises.{Revealing, RevealingAll, Chording};
+ghost use Rattle.play.specs.Promises.{Revealing, Opens, Chording};
 
 // a less b, or 0.
 fn less(a: usize, b: usize) -> usize
@@ -130,6 +130,82 @@ fn sweep(work: &mut [i32], cells: usize, label: usize) -> usize
     let mut opened: usize = 0;
     for index in 0..cells {
         opened += sweep_cell(work, index, label);
+    }
+    opened
+}
+
+// A reveal, with how many cells it can open at most.
+fn uncover(work: &mut [i32], rows: usize, columns: usize, index: usize) -> usize
+    requires { ⌜ Shape rows columns ⌝ }
+    requires { ⌜ (5 * (rows * columns) ≤ length (now work)) × (index < rows * columns) ⌝ }
+    ensures { λ r. ⌜ (r ≤ 65025) × ((g : Grid) (s : Position) (old : List ℤ) → Stands rows columns g s old (now (work .entry))
+        → Revealing rows columns g s old index r (now (work .exit))) ⌝ }
+{
+    let kind = area::get(work, 5 * index + 4);
+    if kind == 0 {
+        return 0;
+    }
+    let state = area::get(work, 5 * index + 3);
+    if state != 0 {
+        return 0;
+    }
+    if kind == 1 {
+        let label = area::get(work, 5 * index);
+        return sweep(work, rows * columns, label);
+    }
+    open_one(work, rows, columns, index);
+    1
+}
+
+// L, or nothing unless the cell is closed and safe. Answers how many cells were opened.
+pub fn reveal(work: &mut [i32], rows: usize, columns: usize, index: usize) -> usize
+    requires { ⌜ Shape rows columns ⌝ }
+    requires { ⌜ (5 * (rows * columns) ≤ length (now work)) × (index < rows * columns) ⌝ }
+    ensures { λ r. ⌜ ((g : Grid) (s : Position) (old : List ℤ) → Stands rows columns g s old (now (work .entry))
+        → Revealing rows columns g s old index r (now (work .exit))) ⌝ }
+{
+    uncover(work, rows, columns, index)
+}
+
+// F on a closed mine.
+pub fn flag(work: &mut [i32], rows: usize, columns: usize, index: usize)
+    requires { ⌜ Shape rows columns ⌝ }
+    requires { ⌜ (5 * (rows * columns) ≤ length (now work)) × (index < rows * columns) ⌝ }
+    ensures { λ _. ⌜ ((g : Grid) (s : Position) (old : List ℤ) → Stands rows columns g s old (now (work .entry))
+        → T (mine g index) → T (closed s index) → Stands rows columns g (play g s (flagMove index)) old (now (work .exit))) ⌝ }
+{
+    area::put(work, 5 * index + 3, 2);
+    shift_square(work, rows, columns, index, 1, 0);
+}
+
+// A reveal of each cell of one row, in the columns given.
+fn reveal_row(work: &mut [i32], rows: usize, columns: usize, row: usize, from: usize, to: usize) -> usize
+    requires { ⌜ Shape rows columns ⌝ }
+    requires { ⌜ (5 * (rows * columns) ≤ length (now work)) × (row < rows) × (from ≤ to) × (to ≤ columns) ⌝ }
+    ensures { λ r. ⌜ (r ≤ 65025 * (to - from)) × Opens rows columns (now (work .entry)) (rowCells rows row from to) r (now (work .exit)) ⌝ }
+{
+    let mut opened: usize = 0;
+    for column in from..to {
+        opened += uncover(work, rows, columns, column * rows + row);
+    }
+    opened
+}
+
+// C: a reveal of each cell of the square, by row, then column. Answers how many cells were opened.
+pub fn chord(work: &mut [i32], rows: usize, columns: usize, index: usize) -> usize
+    requires { ⌜ Shape rows columns ⌝ }
+    requires { ⌜ (5 * (rows * columns) ≤ length (now work)) × (index < rows * columns) ⌝ }
+    ensures { λ r. ⌜ ((g : Grid) (s : Position) (old : List ℤ) → Stands rows columns g s old (now (work .entry))
+        → Chording rows columns g s old index r (now (work .exit))) ⌝ }
+{
+    let sides = around(rows, columns, index);
+    let first = sides.first;
+    let last = sides.last;
+    let from = sides.from;
+    let to = sides.to;
+    let mut opened: usize = 0;
+    for row in first..last {
+        opened += reveal_row(work, rows, columns, row, from, to);
     }
     opened
 }
