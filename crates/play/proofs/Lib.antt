@@ -6,3 +6,4 @@ pub mod Held
 pub mod Changes
 pub mod Reveals
 pub mod Chords
+pub mod Makes

@@ -153,15 +153,15 @@ module _ (rows columns : ℕ) (g : Grid) (s : Position) (old w : List ℤ) (i : 
   flag-legal t u =
       and-both (ltb i (size g) && mine g i) (closed s i) (and-both (ltb i (size g)) (mine g i) (lt→ltb i (size g) inside) t) u
 
-  pub flag-stands : (v : List ℤ) → v ≡ fold (shifted 1 0) (putAt w (5 * i + 3) 2) (squareOf rows columns i) → T (mine g i) → T (closed s i)
+  pub flag-stands : (u v : List ℤ) → u ≡ putAt w (5 * i + 3) 2 → v ≡ fold (shifted 1 0) u (squareOf rows columns i) → T (mine g i) → T (closed s i)
       → Stands rows columns g (play g s (flag i)) old v
   unfolding play
-  flag-stands v e t u =
+  flag-stands u v d e t k =
       record {
         rows-are = st .rows-are;
         columns-are = st .columns-are;
         shape = st .shape;
         room = st .room;
-        reached = reached-after g s (flag i ∷ []) (st .reached) (flag-legal t u, tt);
-        holds-it = e ∙ rw (← st .rows-are, ← st .columns-are, st .holds-it) (flag-area g s old i (st .room) inside played t u);
+        reached = reached-after g s (flag i ∷ []) (st .reached) (flag-legal t k, tt);
+        holds-it = e ∙ rw (d, ← st .rows-are, ← st .columns-are, st .holds-it) (flag-area g s old i (st .room) inside played t k);
       }

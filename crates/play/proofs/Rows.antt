@@ -90,3 +90,15 @@ pub block-on : {S : Type 0} (f : S → ℕ → S) (s t u : S) (rows y k a b : �
 block-on f s t u rows y k a b h e q =
     q ∙ ap (λ x. fold f x (rowCells rows k a b)) e ∙ sym (fold-append f s (blockCells rows y k a b) (rowCells rows k a b))
     ∙ sym (ap (fold f s) (block-more rows y k a b h))
+
+-- ---- what is counted
+
+pub count-row : (f : ℕ → Bool) (rows row a k n b : ℕ) → a ≤ k → n ≡ count f (rowCells rows row a k) → b ≡ bit (f (k * rows + row))
+    → n + b ≡ count f (rowCells rows row a (k + 1))
+count-row f rows row a k n b h e q =
+    omega (arith, ap (count f) (row-more rows row a k h), count-append f (rowCells rows row a k) ((k * rows + row) ∷ []))
+
+pub count-block : (f : ℕ → Bool) (rows y k a b n m : ℕ) → y ≤ k → n ≡ count f (blockCells rows y k a b) → m ≡ count f (rowCells rows k a b)
+    → n + m ≡ count f (blockCells rows y (k + 1) a b)
+count-block f rows y k a b n m h e q =
+    omega (arith, ap (count f) (block-more rows y k a b h), count-append f (blockCells rows y k a b) (rowCells rows k a b))

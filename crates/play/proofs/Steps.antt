@@ -11,7 +11,7 @@ use Rattle.game.proofs.Counts.{bit-le}
 use Rattle.game.proofs.Members.{fold-more}
 use Rattle.game.proofs.Truth.{eqb-no, eqb-yes}
 use Rattle.area.specs.Numbers.{numberAt, putAt}
-use Rattle.play.specs.Walks.{firstAt, kindAt, labelledAt, openedOne, opensAt, premiumAt, secondAt, shifted, squareOf, stateAt, sweptCell, sweptOn, Swept}
+use Rattle.play.specs.Walks.{bareAt, firstAt, kindAt, labelledAt, openedOne, opensAt, premiumAt, secondAt, shifted, squareOf, stateAt, sweptCell, sweptOn, Swept}
 
 -- ---- a premium shifts
 
@@ -78,3 +78,18 @@ module _ (rows columns : ℕ) (w u v : List ℤ) (i k : ℕ) (p : u ≡ putAt w 
   pub open-bare : (z : List ℤ) → k ≡ 0 → z ≡ fold (shifted 0 1) v (squareOf rows columns i) → z ≡ openedOne rows columns w i
   unfolding openedOne
   open-bare z t s = s ∙ rw (← p, ← q, ← e, t)
+
+-- ---- a mine without flag
+
+module _ (w : List ℤ) (i k : ℕ) (e : k ≡ kindAt w i) where
+  pub bare-safe : (k ≡ 0 → ⊥) → 0 ≡ bit (bareAt w i)
+  unfolding bareAt
+  bare-safe n = rw (← e, eqb-no k 0 n)
+
+  pub bare-flagged : (m : ℕ) → m ≡ stateAt w i → k ≡ 0 → m ≡ 2 → 0 ≡ bit (bareAt w i)
+  unfolding bareAt
+  bare-flagged m f z t = rw (← e, z, ← f, t)
+
+  pub bare-mine : (m : ℕ) → m ≡ stateAt w i → k ≡ 0 → (m ≡ 2 → ⊥) → 1 ≡ bit (bareAt w i)
+  unfolding bareAt
+  bare-mine m f z n = rw (← e, z, ← f, eqb-no m 2 n)

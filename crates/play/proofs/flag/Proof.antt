@@ -1,9 +1,4 @@
 -- `play::flag`: the mine is marked, and its square's premiums go up. Assumes nothing.
-use mathlib.Core.Path.{_∙_, ap}
-use mathlib.Core.List.{List}
-use lib.IntN.{ℤ}
-use Rattle.game.specs.Lists.{fold}
-use Rattle.play.specs.Walks.{shifted, squareOf}
 use Rattle.play.proofs.Reveals.{flag-stands}
 use borrow.Author.Needs.{needs}
 use Rattle.play.proofs.flag.Statement.{statement}
@@ -33,8 +28,8 @@ returns c =     let q = c .before in
     let p = q .before .before .before in
     let b = p .before .before in
     let a = b .args in
-    λ g s old t m u. flag-stands (a .rows) (a .columns) g s old (a .work .now) (a .index) (b .pre .1 .1) t (q .shift-square .last .0)
-    (q .shift-square .ensures ∙ ap (λ (w : List ℤ). fold (shifted 1 0) w (squareOf (a .rows) (a .columns) (a .index))) (p .put .ensures)) m u
+    λ g s old t m u. flag-stands (a .rows) (a .columns) g s old (a .work .now) (a .index) (b .pre .1 .1) t (p .put .last .0) (q .shift-square .last .0)
+    (p .put .ensures) (q .shift-square .ensures) m u
 
 pub flag-spec : {M : Type 1} → statement M
 flag-spec =
