@@ -1,7 +1,7 @@
 -- One replayed move by its branches: what is read of the cell, and the mines counted, say whether it is legal. Assumes nothing.
 use Prim.Native.Nat.{ℕ, _+_, _*_, _<_, _≤_, _/_, _%_}
 use native.Mathlib.Omega.{arith}
-use mathlib.Core.Path.{_∙_, _≡_, ap, refl, subst, sym}
+use mathlib.Core.Path.{_∙_, _≡_, ap, ap₂, refl, subst, sym}
 use mathlib.Core.Bool.{Bool, _&&_, _||_, cond, false, not, true}
 use mathlib.Core.List.{List, [], _∷_}
 use mathlib.Core.Option.{Option, none, some}
@@ -10,7 +10,7 @@ use lib.IntN.{ℤ}
 use lib.ListN.{getD}
 use Rattle.game.specs.Grid.{Grid, mine, safe, size, square, zeroCell}
 use Rattle.game.specs.Lists.{all-of, bit, count, has}
-use Rattle.game.specs.Moves.{Move, chord, chordable, flag, left, legal, legalRead, moveOf, play, readMove}
+use Rattle.game.specs.Moves.{Move, cellOf, chord, chordable, flag, left, legal, legalRead, moveOf, play, readMove}
 use Rattle.game.specs.Position.{Position, closed, closedSafe, flagged, opened, unflagged}
 use Rattle.game.proofs.Counts.{count-ext}
 use Rattle.game.proofs.Members.{first-of, rest-of}
@@ -155,3 +155,52 @@ module _ (rows columns : ℕ) (g : Grid) (s : Position) (old w : List ℤ) (i : 
   unfolding legal
   chord-played b r v e f q =
       legal-played (chord i) r v (and-both (ltb i (size g)) (chordable g s i) (lt→ltb i (size g) at-i) (subst T (sym (sym e ∙ f)) tt)) (q .stands) (q .opened-cells)
+
+-- ---- a word
+
+module _ (rows columns : ℕ) (g : Grid) (s : Position) (old w : List ℤ) (word : ℕ) (st : Stands rows columns g s old w) where
+  -- what the word reads as is not legal
+  refused : (legalRead g s (readMove word) ≡ false) → Making rows columns g s old (legalRead g s (readMove word)) (readMove word) Illegal w w
+  refused e = rw e (record { answer = refl; unchanged = refl })
+
+  -- an index past the grid
+  pub past : rows * columns ≤ word % 65536 → Making rows columns g s old (legalRead g s (readMove word)) (readMove word) Illegal w w
+  unfolding readMove
+  past b = refused (go (eqb (word / 65536) 1) (eqb (word / 65536) 2) (eqb (word / 65536) 3))
+    where
+      i : ℕ
+      i = word % 65536
+
+      off : (m : Move) → cellOf m ≡ i → legal g s m ≡ false
+      off m e = no→false (legal g s m) (λ t. absurd (omega (arith, legal-inside g s m t, ap₂ _*_ (st .rows-are) (st .columns-are))))
+
+      go : (a b c : Bool) → legalRead g s (cond a (some (left i)) (cond b (some (flag i)) (cond c (some (chord i)) none))) ≡ false
+      go true b c = off (left i) refl
+      go false true c = off (flag i) refl
+      go false false true = off (chord i) refl
+      go false false false = refl
+
+  -- another kind
+  pub other-kind : (word / 65536 ≡ 1 → ⊥) → (word / 65536 ≡ 2 → ⊥) → (word / 65536 ≡ 3 → ⊥)
+      → Making rows columns g s old (legalRead g s (readMove word)) (readMove word) Illegal w w
+  unfolding readMove
+  other-kind a b c =
+      refused (rw (eqb-no (word / 65536) 1 a, eqb-no (word / 65536) 2 b, eqb-no (word / 65536) 3 c))
+
+  -- the move that was read
+  pub as-read : (m : Move) (r : Made) (v : List ℤ) → readMove word ≡ some m → Making rows columns g s old (legal g s m) (some m) r w v
+      → Making rows columns g s old (legalRead g s (readMove word)) (readMove word) r w v
+  as-read m r v e q = rw e q
+
+-- the kinds 1 to 3
+pub read-left : (word : ℕ) → word / 65536 ≡ 1 → readMove word ≡ some (left (word % 65536))
+unfolding readMove
+read-left word e = rw e
+
+pub read-flag : (word : ℕ) → word / 65536 ≡ 2 → readMove word ≡ some (flag (word % 65536))
+unfolding readMove
+read-flag word e = rw e
+
+pub read-chord : (word : ℕ) → word / 65536 ≡ 3 → readMove word ≡ some (chord (word % 65536))
+unfolding readMove
+read-chord word e = rw e

@@ -5,15 +5,15 @@ ghost use mathlib.Core.List.{List};
 ghost use mathlib.Core.Option.{some};
 ghost use lib.Dec.{T};
 ghost use lib.IntN.{ℤ};
-ghost use lib.ListN.{length};
-ghost use Rattle.game.specs.Lists.{bit, count, fold, range};
+ghost use lib.ListN.{length, take};
+ghost use Rattle.game.specs.Lists.{bit, count as countOf, fold, range};
 ghost use Rattle.game.specs.Grid.{Grid, mine};
-ghost use Rattle.game.specs.Position.{Position, closed};
-ghost use Rattle.game.specs.Moves.{play, legal, legalRead, readMove, chordable as mayChord, left as leftMove, flag as flagMove, chord as chordMove};
+ghost use Rattle.game.specs.Position.{Position, closed as isClosed, closedSafe};
+ghost use Rattle.game.specs.Moves.{play, legal, legalRead, readMove, replayFrom, chordable as mayChord, left as leftMove, flag as flagMove, chord as chordMove};
 ghost use Rattle.area.specs.Stages.{Shape, Stands};
 ghost use Rattle.play.specs.Walks.{Around, shifted, rowCells, squareOf, openedOne, labelledAt, sweptCell, opensAt, Swept, sweptOn, bareAt};
 ghost use Rattle.play.specs.Promises.{Revealing, Opens, Chording};
-ghost use Rattle.play.specs.Replays.{Making};
+ghost use Rattle.play.specs.Replays.{Making, Replaying};
 
 // a less b, or 0.
 fn less(a: usize, b: usize) -> usize
@@ -174,7 +174,7 @@ pub fn flag(work: &mut [i32], rows: usize, columns: usize, index: usize)
     requires { ⌜ Shape rows columns ⌝ }
     requires { ⌜ (5 * (rows * columns) ≤ length (now work)) × (index < rows * columns) ⌝ }
     ensures { λ _. ⌜ ((g : Grid) (s : Position) (old : List ℤ) → Stands rows columns g s old (now (work .entry))
-        → T (mine g index) → T (closed s index) → Stands rows columns g (play g s (flagMove index)) old (now (work .exit))) ⌝ }
+        → T (mine g index) → T (isClosed s index) → Stands rows columns g (play g s (flagMove index)) old (now (work .exit))) ⌝ }
 {
     area::put(work, 5 * index + 3, 2);
     shift_square(work, rows, columns, index, 1, 0);
@@ -243,7 +243,7 @@ fn unflagged(work: &[i32], index: usize) -> usize
 // The mines without flag in one row, in the columns given.
 fn unflagged_row(work: &[i32], rows: usize, columns: usize, row: usize, from: usize, to: usize) -> usize
     requires { ⌜ (5 * (rows * columns) ≤ length (now work)) × (row < rows) × (from ≤ to) × (to ≤ columns) ⌝ }
-    ensures { λ r. ⌜ (r ≤ to - from) × (r ≡ count (bareAt (now (work .entry))) (rowCells rows row from to)) ⌝ }
+    ensures { λ r. ⌜ (r ≤ to - from) × (r ≡ countOf (bareAt (now (work .entry))) (rowCells rows row from to)) ⌝ }
 {
     let mut mines: usize = 0;
     for column in from..to {
@@ -256,7 +256,7 @@ fn unflagged_row(work: &[i32], rows: usize, columns: usize, row: usize, from: us
 fn unflagged_square(work: &[i32], rows: usize, columns: usize, index: usize) -> usize
     requires { ⌜ Shape rows columns ⌝ }
     requires { ⌜ (5 * (rows * columns) ≤ length (now work)) × (index < rows * columns) ⌝ }
-    ensures { λ r. ⌜ r ≡ count (bareAt (now (work .entry))) (squareOf rows columns index) ⌝ }
+    ensures { λ r. ⌜ r ≡ countOf (bareAt (now (work .entry))) (squareOf rows columns index) ⌝ }
 {
     let sides = around(rows, columns, index);
     let first = sides.first;
@@ -357,4 +357,22 @@ pub fn make(work: &mut [i32], rows: usize, columns: usize, word: u32) -> Made
         3 => make_chord(work, rows, columns, index),
         _ => Made::Illegal,
     }
+}
+
+// The first moves of a list, one after the other, from a position with so many safe cells closed. Stops at the first that isn't legal.
+pub fn run(work: &mut [i32], rows: usize, columns: usize, list: &[u32], count: usize, safe: usize) -> Replay
+    requires { ⌜ Shape rows columns ⌝ }
+    requires { ⌜ (5 * (rows * columns) ≤ length (now work)) × (count ≤ length (now list)) ⌝ }
+    ensures { λ r. ⌜ ((g : Grid) (s : Position) (old : List ℤ) → Stands rows columns g s old (now (work .entry)) → safe ≡ closedSafe g s
+        → Replaying rows columns g old (replayFrom g 0 s (take count (now (list .entry)))) r (now (work .exit))) ⌝ }
+{
+    let mut closed = safe;
+    for place in 0..count {
+        let made = make(work, rows, columns, list[place]);
+        let Made::Opened(opened) = made else {
+            return Replay::Stopped(place);
+        };
+        closed = less(closed, opened);
+    }
+    Replay::Whole(closed)
 }
