@@ -7,3 +7,4 @@ pub mod Changes
 pub mod Reveals
 pub mod Chords
 pub mod Makes
+pub mod Runs

@@ -1,3 +1,10 @@
+-- `play::run`: so far the list was played as its replay goes; a refused move stops both. Assumes nothing.
+use Prim.Native.Nat.{ℕ, _≤_, _-_}
+use native.Mathlib.Omega.{arith}
+use mathlib.Core.Path.{_≡_, refl}
+use lib.ListN.{length, take}
+use borrow.Author.Needs.{needs}
+use Rattle.play.proofs.Runs.{Midway, begins, ends, goes-on, stops}
 use Rattle.play.proofs.run.Statement.{statement}
 use Rattle.play.proofs.run.Tie as tie
 use Rattle.play.proofs.run.Reads as reads
@@ -6,66 +13,68 @@ use Rattle.play.proofs.less.Reads as less-reads
 use Rattle.play.proofs.make.Reads as make-reads
 
 abbrev Inv-loop : tie.InvT-loop
-Inv-loop work₀ rows columns list count safe closed₀ place₀ work closed place = ?
+Inv-loop work₀ rows columns list count safe closed₀ place₀ work closed place =     (place ≤ count) × (length work ≡ length work₀) × Midway rows columns work₀ (take count list) safe place closed work
 
 abbrev μ-loop : tie.MeasureT-loop
-μ-loop work₀ rows columns list count safe closed₀ place₀ work closed place = ?
+μ-loop work₀ rows columns list count safe closed₀ place₀ work closed place = count - place
 
--- src/lib.rt:370:5
 loop-holds : tie.Need-loop-holds Inv-loop μ-loop
-loop-holds c = ?
+loop-holds c =     let a = c .before .args in
+    (omega arith, refl, begins (a .rows) (a .columns) (a .work .now) (take (a .count) (a .list .now)) (a .safe))
 
--- src/lib.rt:371:46
 mul-make : tie.Need-mul-make Inv-loop μ-loop
-mul-make c = ?
+mul-make c = omega arith
 
--- src/lib.rt:371:46
 shared-slice-read-make : tie.Need-shared-slice-read-make Inv-loop μ-loop
-shared-slice-read-make c = ?
+shared-slice-read-make c = omega arith
 
--- src/lib.rt:371:13
 make-requires : tie.Need-make-requires Inv-loop μ-loop
-make-requires c κs = ?
+make-requires c κs = (c .before .before .before .before .before .pre .0, omega arith)
 
--- src/lib.rt:372:26
 enum-known-made : tie.Need-enum-known-made Inv-loop μ-loop
-enum-known-made c = ?
+enum-known-made c = search needs
 
--- src/lib.rt:373:13
 enum-told : tie.Need-enum-told Inv-loop μ-loop
-enum-told c = ?
+enum-told c = search needs
 
--- src/lib.rt:373:13
 same-length : tie.Need-same-length Inv-loop μ-loop
-same-length c = ?
+same-length c = search needs
 
--- src/lib.rt:373:13
 returns : tie.Need-returns Inv-loop μ-loop
-returns c = ?
+returns c =     let k = c .before .before .before in
+    let l = k .before .before .before .before in
+    let b = l .before .before in
+    let a = b .args in
+    stops (a .rows) (a .columns) (a .work .now) (a .list .now) (a .count) (a .safe) (l .loop .place) (l .loop .closed) (l .loop .work) (l .loop .inv .2)
+    (b .pre .1 .1) (omega arith) (k .make .result) (k .make .last .0) (k .make .ensures) (c .enum-told .given .1)
 
--- src/lib.rt:375:9
 less-requires : tie.Need-less-requires Inv-loop μ-loop
-less-requires c κs = ?
+less-requires c κs = search needs
 
--- src/lib.rt:370:9
 add-place : tie.Need-add-place Inv-loop μ-loop
-add-place c = ?
+add-place c = omega arith
 
--- src/lib.rt:370:5
 loop-less : tie.Need-loop-less Inv-loop μ-loop
-loop-less c = ?
+loop-less c = omega arith
 
--- src/lib.rt:370:5
 loop-again : tie.Need-loop-again Inv-loop μ-loop
-loop-again c = ?
+loop-again c =     let d = c .before .before in
+    let k = d .before .before .before in
+    let l = k .before .before .before .before in
+    let b = l .before .before in
+    let a = b .args in
+    (omega arith, search needs,
+    goes-on (a .rows) (a .columns) (a .work .now) (a .list .now) (a .count) (a .safe) (l .loop .place) (l .loop .closed) (l .loop .work) (l .loop .inv .2)
+    (b .pre .1 .1) (omega arith) (k .make .result) (k .make .last .0) (k .make .ensures) (c .before .before .made .given .0 .0) (c .less .result) (c .before .before .made .given .1) (c .less .ensures))
 
--- src/lib.rt:363:1
 same-length-2 : tie.Need-same-length-2 Inv-loop μ-loop
-same-length-2 c = ?
+same-length-2 c = search needs
 
--- src/lib.rt:363:1
 returns-2 : tie.Need-returns-2 Inv-loop μ-loop
-returns-2 c = ?
+returns-2 c =     let l = c .before in
+    let b = l .before .before in
+    let a = b .args in
+    ends (a .rows) (a .columns) (a .work .now) (a .list .now) (a .count) (a .safe) (l .loop .place) (l .loop .closed) (l .loop .work) (l .loop .inv .2) (omega arith)
 
 pub run-spec : {M : Type 1} → statement M
 run-spec =
