@@ -301,10 +301,9 @@ module _ (g : Grid) (s : Position) (old : List ℤ) (i : ℕ) (room : 5 * size g
         → (w ≡ held g (reveal g s i) old) × (r + closedSafe g (reveal g s i) ≡ closedSafe g s)
     sweep-area w r e =
         let q = e ∙ ap (λ (v : List ℤ). fold (sweptOn (firstLabel g i)) (record { area = v; opened = 0 }) (cells g)) (held-cells g s old)
-        ∙ fold-sweep (size g) old room (firstLabel g i) (cells g) (heldCell g s) 0 (once-cells g) (λ x t. cells→ g x t) in
-        (
+        ∙ fold-sweep (size g) old room (firstLabel g i) (cells g) (heldCell g s) 0 (once-cells g) (λ x t. cells→ g x t) in (
           ap (λ (t : Swept). t .area) q ∙ same-area (size g) old room (made (sweepCell (firstLabel g i)) (cells g) (heldCell g s)) (heldCell g (reveal g s i)) (λ x h.
               ap (λ (b : Bool). cond b (sweepCell (firstLabel g i) (heldCell g s x)) (heldCell g s x)) (T→true (has x (cells g)) (→cells g x h)) ∙ sweep-each x h)
               ∙ sym (held-cells g (reveal g s i) old),
-          omega (arith, ap (λ (t : Swept). t .opened) q, sweep-count)
+          omega (arith, ap (λ (t : Swept). t .opened) q, sweep-count),
         )

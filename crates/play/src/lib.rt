@@ -37,7 +37,12 @@ fn around(rows: usize, columns: usize, index: usize) -> Sides
 {
     let row = index % rows;
     let column = index / rows;
-    Sides { first: area::lower(row), last: area::upper(row, rows), from: area::lower(column), to: area::upper(column, columns) }
+    Sides {
+        first: area::lower(row),
+        last: area::upper(row, rows),
+        from: area::lower(column),
+        to: area::upper(column, columns),
+    }
 }
 
 // A safe cell's premium, so much up and so much down.
@@ -54,7 +59,16 @@ fn shift(work: &mut [i32], index: usize, up: usize, down: usize)
 }
 
 // The safe cells of one row, in the columns given.
-fn shift_row(work: &mut [i32], rows: usize, columns: usize, row: usize, from: usize, to: usize, up: usize, down: usize)
+fn shift_row(
+    work: &mut [i32],
+    rows: usize,
+    columns: usize,
+    row: usize,
+    from: usize,
+    to: usize,
+    up: usize,
+    down: usize,
+)
     requires { ⌜ (5 * (rows * columns) ≤ length (now work)) × (row < rows) × (from ≤ to) × (to ≤ columns) × (up ≤ 1) ⌝ }
     ensures { λ _. ⌜ now (work .exit) ≡ fold (shifted up down) (now (work .entry)) (rowCells rows row from to) ⌝ }
 {
@@ -181,7 +195,14 @@ pub fn flag(work: &mut [i32], rows: usize, columns: usize, index: usize)
 }
 
 // A reveal of each cell of one row, in the columns given.
-fn reveal_row(work: &mut [i32], rows: usize, columns: usize, row: usize, from: usize, to: usize) -> usize
+fn reveal_row(
+    work: &mut [i32],
+    rows: usize,
+    columns: usize,
+    row: usize,
+    from: usize,
+    to: usize,
+) -> usize
     requires { ⌜ Shape rows columns ⌝ }
     requires { ⌜ (5 * (rows * columns) ≤ length (now work)) × (row < rows) × (from ≤ to) × (to ≤ columns) ⌝ }
     ensures { λ r. ⌜ (r ≤ 65025 * (to - from)) × Opens rows columns (now (work .entry)) (rowCells rows row from to) r (now (work .exit)) ⌝ }
@@ -241,7 +262,14 @@ fn unflagged(work: &[i32], index: usize) -> usize
 }
 
 // The mines without flag in one row, in the columns given.
-fn unflagged_row(work: &[i32], rows: usize, columns: usize, row: usize, from: usize, to: usize) -> usize
+fn unflagged_row(
+    work: &[i32],
+    rows: usize,
+    columns: usize,
+    row: usize,
+    from: usize,
+    to: usize,
+) -> usize
     requires { ⌜ (5 * (rows * columns) ≤ length (now work)) × (row < rows) × (from ≤ to) × (to ≤ columns) ⌝ }
     ensures { λ r. ⌜ (r ≤ to - from) × (r ≡ countOf (bareAt (now (work .entry))) (rowCells rows row from to)) ⌝ }
 {
@@ -360,7 +388,14 @@ pub fn make(work: &mut [i32], rows: usize, columns: usize, word: u32) -> Made
 }
 
 // The first moves of a list, one after the other, from a position with so many safe cells closed. Stops at the first that isn't legal.
-pub fn run(work: &mut [i32], rows: usize, columns: usize, list: &[u32], count: usize, safe: usize) -> Replay
+pub fn run(
+    work: &mut [i32],
+    rows: usize,
+    columns: usize,
+    list: &[u32],
+    count: usize,
+    safe: usize,
+) -> Replay
     requires { ⌜ Shape rows columns ⌝ }
     requires { ⌜ (5 * (rows * columns) ≤ length (now work)) × (count ≤ length (now list)) ⌝ }
     ensures { λ r. ⌜ ((g : Grid) (s : Position) (old : List ℤ) → Stands rows columns g s old (now (work .entry)) → safe ≡ closedSafe g s

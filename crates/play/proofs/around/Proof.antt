@@ -25,11 +25,11 @@ lower-requires-2 : tie.Need-lower-requires-2
 lower-requires-2 c κs = search needs
 
 upper-requires-2 : tie.Need-upper-requires-2
-upper-requires-2 c κs =     let s = c .before .before .before in
+upper-requires-2 c κs = let s = c .before .before .before in
     column-inside (s .args .rows) (s .args .columns) (s .args .index) (s .pre)
 
 returns : tie.Need-returns
-returns c =     let s = c .before .before .before .before in
+returns c = let s = c .before .before .before .before in
     let a = s .args in
     rw (c .before .before .before .lower .ensures, c .before .before .upper .ensures, c .before .lower2 .ensures, c .upper2 .ensures)
     (sides-around (a .rows) (a .columns) (a .index) (s .pre))

@@ -16,7 +16,7 @@ use Rattle.play.proofs.around.Reads as around-reads
 use Rattle.play.proofs.reveal_row.Reads as reveal-row-reads
 
 abbrev Inv-loop : tie.InvT-loop
-Inv-loop work₀ rows columns index first last from to opened₀ row₀ work opened row =     (first ≤ row) × (row ≤ last) × (length work ≡ length work₀) × (opened ≤ 16581375 * (row - first))
+Inv-loop work₀ rows columns index first last from to opened₀ row₀ work opened row = (first ≤ row) × (row ≤ last) × (length work ≡ length work₀) × (opened ≤ 16581375 * (row - first))
     × Opens rows columns work₀ (blockCells rows first row from to) opened work
 
 abbrev μ-loop : tie.MeasureT-loop
@@ -26,10 +26,14 @@ around-requires : tie.Need-around-requires Inv-loop μ-loop
 around-requires c κs = omega arith
 
 loop-holds : tie.Need-loop-holds Inv-loop μ-loop
-loop-holds c =     let a = c .before .args in
-    let q = c .around .result in
-    (omega arith, omega arith, refl, omega arith,
-    rw (block-none (a .rows) (q .first) (q .from) (q .to)) (opens-none (a .rows) (a .columns) (a .work .now)))
+loop-holds c = let a = c .before .args in
+    let q = c .around .result in (
+      omega arith,
+      omega arith,
+      refl,
+      omega arith,
+      rw (block-none (a .rows) (q .first) (q .from) (q .to)) (opens-none (a .rows) (a .columns) (a .work .now)),
+    )
 
 reveal-row-requires : tie.Need-reveal-row-requires Inv-loop μ-loop
 reveal-row-requires c κs = (c .before .before .before .before .pre .0, omega arith)
@@ -44,20 +48,24 @@ loop-less : tie.Need-loop-less Inv-loop μ-loop
 loop-less c = omega arith
 
 loop-again : tie.Need-loop-again Inv-loop μ-loop
-loop-again c =     let l = c .before .before .before .before in
+loop-again c = let l = c .before .before .before .before in
     let q = l .before .around .result in
     let a = l .before .before .args in
-    let u = c .before .reveal-row in
-    (omega arith, omega arith, search needs, omega arith,
-    rw (block-more (a .rows) (q .first) (l .loop .row) (q .from) (q .to) (l .loop .inv .0))
-    (opens-both (a .rows) (a .columns) (a .work .now) (blockCells (a .rows) (q .first) (l .loop .row) (q .from) (q .to)) (rowCells (a .rows) (l .loop .row) (q .from) (q .to))
-    (l .loop .opened) (u .result) (l .loop .work) (u .last .0) (l .loop .inv .4) (u .ensures .1)))
+    let u = c .before .reveal-row in (
+      omega arith,
+      omega arith,
+      search needs,
+      omega arith,
+      rw (block-more (a .rows) (q .first) (l .loop .row) (q .from) (q .to) (l .loop .inv .0))
+          (opens-both (a .rows) (a .columns) (a .work .now) (blockCells (a .rows) (q .first) (l .loop .row) (q .from) (q .to)) (rowCells (a .rows) (l .loop .row) (q .from) (q .to))
+          (l .loop .opened) (u .result) (l .loop .work) (u .last .0) (l .loop .inv .4) (u .ensures .1)),
+    )
 
 same-length : tie.Need-same-length Inv-loop μ-loop
 same-length c = search needs
 
 returns : tie.Need-returns Inv-loop μ-loop
-returns c =     let a = c .before .before .before .args in
+returns c = let a = c .before .before .before .args in
     let h = c .before .before .around .ensures in
     let e : c .before .loop .row ≡ c .before .before .around .result .last = omega arith in
     opens-chord (a .rows) (a .columns) (a .work .now) (a .index) (c .before .loop .opened) (c .before .loop .work)

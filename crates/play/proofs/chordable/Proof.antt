@@ -18,7 +18,7 @@ get-requires : tie.Need-get-requires
 get-requires c κs = search needs
 
 returns : tie.Need-returns
-returns c =     let m = c .before in
+returns c = let m = c .before in
     let b = m .before in
     let a = b .args in
     λ g s old t. not-opened (a .rows) (a .columns) g s old (a .work .now) (a .index) (b .pre .1 .1) t (m .get .result) (m .get .ensures .0) (c .if1 .taken)
@@ -33,7 +33,7 @@ get-requires-2 : tie.Need-get-requires-2
 get-requires-2 c κs = search needs
 
 returns-2 : tie.Need-returns-2
-returns-2 c =     let k = c .before in
+returns-2 c = let k = c .before in
     let m = k .before .before in
     let b = m .before in
     let a = b .args in
@@ -44,7 +44,7 @@ unflagged-square-requires : tie.Need-unflagged-square-requires
 unflagged-square-requires c κs = search needs
 
 returns-3 : tie.Need-returns-3
-returns-3 c =     let k = c .before .before in
+returns-3 c = let k = c .before .before in
     let m = k .before .before in
     let b = m .before in
     let a = b .args in

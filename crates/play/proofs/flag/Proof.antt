@@ -24,7 +24,7 @@ same-length : tie.Need-same-length
 same-length c = search needs
 
 returns : tie.Need-returns
-returns c =     let q = c .before in
+returns c = let q = c .before in
     let p = q .before .before .before in
     let b = p .before .before in
     let a = b .args in

@@ -14,7 +14,7 @@ get-requires : tie.Need-get-requires
 get-requires c κs = search needs
 
 returns : tie.Need-returns
-returns c =     let a = c .before .before .args in
+returns c = let a = c .before .before .args in
     label-first (a .label) (a .work .now) (a .index) (c .before .get .result) (c .before .get .ensures .0) (c .if1 .taken)
 
 mul-get-2 : tie.Need-mul-get-2
@@ -27,7 +27,7 @@ get-requires-2 : tie.Need-get-requires-2
 get-requires-2 c κs = search needs
 
 returns-2 : tie.Need-returns-2
-returns-2 c =     let a = c .before .before .before .args in
+returns-2 c = let a = c .before .before .before .args in
     label-second (a .label) (a .work .now) (a .index) (c .before .before .get .result) (c .before .before .get .ensures .0) (c .get2 .result) (c .before .if1 .left) (c .get2 .ensures .0)
 
 pub labelled-spec : {M : Type 1} → statement M

@@ -18,7 +18,7 @@ mul-if1 : tie.Need-mul-if1
 mul-if1 c = search needs
 
 returns : tie.Need-returns
-returns c =     let b = c .before in
+returns c = let b = c .before in
     let a = b .args in
     λ g s old t. past (a .rows) (a .columns) g s old (a .work .now) (a .word) t (c .if1 .taken)
 
@@ -35,7 +35,7 @@ same-length : tie.Need-same-length
 same-length c = search needs
 
 returns-2 : tie.Need-returns-2
-returns-2 c =     let q = c .before in
+returns-2 c = let q = c .before in
     let m = q .before .before in
     let b = m .before .before in
     let a = b .args in
@@ -46,7 +46,7 @@ same-length-2 : tie.Need-same-length-2
 same-length-2 c = search needs
 
 returns-3 : tie.Need-returns-3
-returns-3 c =     let q = c .before in
+returns-3 c = let q = c .before in
     let m = q .before .before in
     let b = m .before .before in
     let a = b .args in
@@ -57,7 +57,7 @@ same-length-3 : tie.Need-same-length-3
 same-length-3 c = search needs
 
 returns-4 : tie.Need-returns-4
-returns-4 c =     let q = c .before in
+returns-4 c = let q = c .before in
     let m = q .before .before in
     let b = m .before .before in
     let a = b .args in
@@ -65,7 +65,7 @@ returns-4 c =     let q = c .before in
     (read-chord (a .word) (m .match .keys3)) (q .make-chord .ensures g s old t)
 
 returns-5 : tie.Need-returns-5
-returns-5 c =     let b = c .before .before in
+returns-5 c = let b = c .before .before in
     let a = b .args in
     let r = c .match .rest in
     λ g s old t. other-kind (a .rows) (a .columns) g s old (a .work .now) (a .word) t (r .0 .0 .1) (r .0 .1) (r .1)

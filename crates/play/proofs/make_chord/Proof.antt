@@ -16,7 +16,7 @@ same-length : tie.Need-same-length
 same-length c = search needs
 
 returns : tie.Need-returns
-returns c =     let q = c .before in
+returns c = let q = c .before in
     let b = q .before .before in
     let a = b .args in
     λ g s old t. chord-refused (a .rows) (a .columns) g s old (a .work .now) (a .index) (b .pre .1 .1) t (q .chordable .result) (q .chordable .ensures g s old t)
@@ -29,7 +29,7 @@ same-length-2 : tie.Need-same-length-2
 same-length-2 c = search needs
 
 returns-2 : tie.Need-returns-2
-returns-2 c =     let r = c .before in
+returns-2 c = let r = c .before in
     let z = r .before .before in
     let q = z .before in
     let b = q .before .before in

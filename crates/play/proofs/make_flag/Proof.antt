@@ -21,7 +21,7 @@ same-length : tie.Need-same-length
 same-length c = search needs
 
 returns : tie.Need-returns
-returns c =     let k = c .before in
+returns c = let k = c .before in
     let b = k .before .before in
     let a = b .args in
     λ g s old t. flag-safe (a .rows) (a .columns) g s old (a .work .now) (a .index) (b .pre .1 .1) t (k .get .result) (k .get .ensures .0) (c .if1 .taken)
@@ -39,7 +39,7 @@ same-length-2 : tie.Need-same-length-2
 same-length-2 c = search needs
 
 returns-2 : tie.Need-returns-2
-returns-2 c =     let m = c .before in
+returns-2 c = let m = c .before in
     let b = m .before .before .before .before .before in
     let a = b .args in
     λ g s old t. flag-state (a .rows) (a .columns) g s old (a .work .now) (a .index) (b .pre .1 .1) t (m .get2 .result) (m .get2 .ensures .0) (c .if2 .taken)
@@ -51,7 +51,7 @@ same-length-3 : tie.Need-same-length-3
 same-length-3 c = search needs
 
 returns-3 : tie.Need-returns-3
-returns-3 c =     let q = c .before in
+returns-3 c = let q = c .before in
     let z = q .before .before in
     let m = z .before in
     let k = m .before .before .before in

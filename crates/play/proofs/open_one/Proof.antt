@@ -32,7 +32,7 @@ same-length : tie.Need-same-length
 same-length c = search needs
 
 returns : tie.Need-returns
-returns c =     let g = c .before in
+returns c = let g = c .before in
     let h = g .before .before .before in
     let p = h .before .before .before in
     let a = p .before .before .args in
@@ -46,7 +46,7 @@ same-length-2 : tie.Need-same-length-2
 same-length-2 c = search needs
 
 returns-2 : tie.Need-returns-2
-returns-2 c =     let q = c .before in
+returns-2 c = let q = c .before in
     let g = q .before .before .before in
     let h = g .before .before .before in
     let p = h .before .before .before in

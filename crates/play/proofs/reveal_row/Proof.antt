@@ -16,14 +16,14 @@ use Rattle.play.proofs.reveal_row.Lts as lts
 use Rattle.play.proofs.uncover.Reads as uncover-reads
 
 abbrev Inv-loop : tie.InvT-loop
-Inv-loop work₀ rows columns row from to opened₀ column₀ work opened column =     (from ≤ column) × (column ≤ to) × (length work ≡ length work₀) × (opened ≤ 65025 * (column - from))
+Inv-loop work₀ rows columns row from to opened₀ column₀ work opened column = (from ≤ column) × (column ≤ to) × (length work ≡ length work₀) × (opened ≤ 65025 * (column - from))
     × Opens rows columns work₀ (rowCells rows row from column) opened work
 
 abbrev μ-loop : tie.MeasureT-loop
 μ-loop work₀ rows columns row from to opened₀ column₀ work opened column = to - column
 
 loop-holds : tie.Need-loop-holds Inv-loop μ-loop
-loop-holds c =     let a = c .args in
+loop-holds c = let a = c .args in
     (omega arith, omega arith, refl, omega arith, rw (row-none (a .rows) (a .row) (a .from)) (opens-none (a .rows) (a .columns) (a .work .now)))
 
 -- the cell of this turn lies on the grid
@@ -52,20 +52,24 @@ loop-less : tie.Need-loop-less Inv-loop μ-loop
 loop-less c = omega arith
 
 loop-again : tie.Need-loop-again Inv-loop μ-loop
-loop-again c =     let l = c .before .before .before .before in
+loop-again c = let l = c .before .before .before .before in
     let a = l .before .args in
-    let u = c .before .uncover in
-    (omega arith, omega arith, search needs, omega arith,
-    rw (row-more (a .rows) (a .row) (a .from) (l .loop .column) (l .loop .inv .0))
-    (opens-both (a .rows) (a .columns) (a .work .now) (rowCells (a .rows) (a .row) (a .from) (l .loop .column)) ((l .loop .column * a .rows + a .row) ∷ [])
-    (l .loop .opened) (u .result) (l .loop .work) (u .last .0) (l .loop .inv .4)
-    (opens-one (a .rows) (a .columns) (l .loop .work) (l .loop .column * a .rows + a .row) (u .result) (u .last .0) (u .ensures .1))))
+    let u = c .before .uncover in (
+      omega arith,
+      omega arith,
+      search needs,
+      omega arith,
+      rw (row-more (a .rows) (a .row) (a .from) (l .loop .column) (l .loop .inv .0))
+          (opens-both (a .rows) (a .columns) (a .work .now) (rowCells (a .rows) (a .row) (a .from) (l .loop .column)) ((l .loop .column * a .rows + a .row) ∷ [])
+          (l .loop .opened) (u .result) (l .loop .work) (u .last .0) (l .loop .inv .4)
+          (opens-one (a .rows) (a .columns) (l .loop .work) (l .loop .column * a .rows + a .row) (u .result) (u .last .0) (u .ensures .1))),
+    )
 
 same-length : tie.Need-same-length Inv-loop μ-loop
 same-length c = search needs
 
 returns : tie.Need-returns Inv-loop μ-loop
-returns c =     let a = c .before .before .args in
+returns c = let a = c .before .before .args in
     let e : c .before .loop .column ≡ a .to = omega arith in
     (omega arith, rw e at (c .before .loop .inv .4))
 

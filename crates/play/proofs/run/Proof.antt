@@ -13,13 +13,13 @@ use Rattle.play.proofs.less.Reads as less-reads
 use Rattle.play.proofs.make.Reads as make-reads
 
 abbrev Inv-loop : tie.InvT-loop
-Inv-loop work₀ rows columns list count safe closed₀ place₀ work closed place =     (place ≤ count) × (length work ≡ length work₀) × Midway rows columns work₀ (take count list) safe place closed work
+Inv-loop work₀ rows columns list count safe closed₀ place₀ work closed place = (place ≤ count) × (length work ≡ length work₀) × Midway rows columns work₀ (take count list) safe place closed work
 
 abbrev μ-loop : tie.MeasureT-loop
 μ-loop work₀ rows columns list count safe closed₀ place₀ work closed place = count - place
 
 loop-holds : tie.Need-loop-holds Inv-loop μ-loop
-loop-holds c =     let a = c .before .args in
+loop-holds c = let a = c .before .args in
     (omega arith, refl, begins (a .rows) (a .columns) (a .work .now) (take (a .count) (a .list .now)) (a .safe))
 
 mul-make : tie.Need-mul-make Inv-loop μ-loop
@@ -41,7 +41,7 @@ same-length : tie.Need-same-length Inv-loop μ-loop
 same-length c = search needs
 
 returns : tie.Need-returns Inv-loop μ-loop
-returns c =     let k = c .before .before .before in
+returns c = let k = c .before .before .before in
     let l = k .before .before .before .before in
     let b = l .before .before in
     let a = b .args in
@@ -58,20 +58,22 @@ loop-less : tie.Need-loop-less Inv-loop μ-loop
 loop-less c = omega arith
 
 loop-again : tie.Need-loop-again Inv-loop μ-loop
-loop-again c =     let d = c .before .before in
+loop-again c = let d = c .before .before in
     let k = d .before .before .before in
     let l = k .before .before .before .before in
     let b = l .before .before in
-    let a = b .args in
-    (omega arith, search needs,
-    goes-on (a .rows) (a .columns) (a .work .now) (a .list .now) (a .count) (a .safe) (l .loop .place) (l .loop .closed) (l .loop .work) (l .loop .inv .2)
-    (b .pre .1 .1) (omega arith) (k .make .result) (k .make .last .0) (k .make .ensures) (c .before .before .made .given .0 .0) (c .less .result) (c .before .before .made .given .1) (c .less .ensures))
+    let a = b .args in (
+      omega arith,
+      search needs,
+      goes-on (a .rows) (a .columns) (a .work .now) (a .list .now) (a .count) (a .safe) (l .loop .place) (l .loop .closed) (l .loop .work) (l .loop .inv .2)
+          (b .pre .1 .1) (omega arith) (k .make .result) (k .make .last .0) (k .make .ensures) (c .before .before .made .given .0 .0) (c .less .result) (c .before .before .made .given .1) (c .less .ensures),
+    )
 
 same-length-2 : tie.Need-same-length-2 Inv-loop μ-loop
 same-length-2 c = search needs
 
 returns-2 : tie.Need-returns-2 Inv-loop μ-loop
-returns-2 c =     let l = c .before in
+returns-2 c = let l = c .before in
     let b = l .before .before in
     let a = b .args in
     ends (a .rows) (a .columns) (a .work .now) (a .list .now) (a .count) (a .safe) (l .loop .place) (l .loop .closed) (l .loop .work) (l .loop .inv .2) (omega arith)

@@ -22,7 +22,7 @@ same-length : tie.Need-same-length
 same-length c = search needs
 
 returns : tie.Need-returns
-returns c =     let a = c .before .before .before .args in
+returns c = let a = c .before .before .before .args in
     shift-mine (a .up) (a .down) (a .work .now) (a .index) (c .before .get .result) (c .before .get .ensures .0) (c .if1 .taken)
 
 mul-get-2 : tie.Need-mul-get-2
@@ -53,7 +53,7 @@ same-length-2 : tie.Need-same-length-2
 same-length-2 c = search needs
 
 returns-2 : tie.Need-returns-2
-returns-2 c =     let p = c .before in
+returns-2 c = let p = c .before in
     let q = p .before in
     let g = q .before .before in
     let e = g .before .before in

@@ -48,17 +48,20 @@ loop-less : tie.Need-loop-less Inv-loop μ-loop
 loop-less c = omega arith
 
 loop-again : tie.Need-loop-again Inv-loop μ-loop
-loop-again c =     let l = c .before .before .before .before in
-    let a = l .before .args in
-    (omega arith, omega arith, search needs,
-    row-on (shifted (a .up) (a .down)) (a .work .now) (l .loop .work) (c .before .shift .last .0) (a .rows) (a .row) (a .from) (l .loop .column) (l .loop .inv .0)
-    (l .loop .inv .3) (c .before .shift .ensures))
+loop-again c = let l = c .before .before .before .before in
+    let a = l .before .args in (
+      omega arith,
+      omega arith,
+      search needs,
+      row-on (shifted (a .up) (a .down)) (a .work .now) (l .loop .work) (c .before .shift .last .0) (a .rows) (a .row) (a .from) (l .loop .column) (l .loop .inv .0)
+          (l .loop .inv .3) (c .before .shift .ensures),
+    )
 
 same-length : tie.Need-same-length Inv-loop μ-loop
 same-length c = search needs
 
 returns : tie.Need-returns Inv-loop μ-loop
-returns c =     let a = c .before .before .args in
+returns c = let a = c .before .before .args in
     let e : c .before .loop .column ≡ a .to = omega arith in
     rw e at (c .before .loop .inv .3)
 

@@ -15,7 +15,7 @@ use Rattle.play.proofs.around.Reads as around-reads
 use Rattle.play.proofs.shift_row.Reads as shift-row-reads
 
 abbrev Inv-loop : tie.InvT-loop
-Inv-loop work₀ rows columns index up down first last from to row₀ work row =     (first ≤ row) × (row ≤ last) × (length work ≡ length work₀) × (work ≡ fold (shifted up down) work₀ (blockCells rows first row from to))
+Inv-loop work₀ rows columns index up down first last from to row₀ work row = (first ≤ row) × (row ≤ last) × (length work ≡ length work₀) × (work ≡ fold (shifted up down) work₀ (blockCells rows first row from to))
 
 abbrev μ-loop : tie.MeasureT-loop
 μ-loop work₀ rows columns index up down first last from to row₀ work row = last - row
@@ -36,18 +36,21 @@ loop-less : tie.Need-loop-less Inv-loop μ-loop
 loop-less c = omega arith
 
 loop-again : tie.Need-loop-again Inv-loop μ-loop
-loop-again c =     let l = c .before .before .before .before in
+loop-again c = let l = c .before .before .before .before in
     let q = l .before .around .result in
-    let a = l .before .before .args in
-    (omega arith, omega arith, search needs,
-    block-on (shifted (a .up) (a .down)) (a .work .now) (l .loop .work) (c .before .shift-row .last .0) (a .rows) (q .first) (l .loop .row) (q .from) (q .to)
-    (l .loop .inv .0) (l .loop .inv .3) (c .before .shift-row .ensures))
+    let a = l .before .before .args in (
+      omega arith,
+      omega arith,
+      search needs,
+      block-on (shifted (a .up) (a .down)) (a .work .now) (l .loop .work) (c .before .shift-row .last .0) (a .rows) (q .first) (l .loop .row) (q .from) (q .to)
+          (l .loop .inv .0) (l .loop .inv .3) (c .before .shift-row .ensures),
+    )
 
 same-length : tie.Need-same-length Inv-loop μ-loop
 same-length c = search needs
 
 returns : tie.Need-returns Inv-loop μ-loop
-returns c =     let h = c .before .before .around .ensures in
+returns c = let h = c .before .before .around .ensures in
     let e : c .before .loop .row ≡ c .before .before .around .result .last = omega arith in
     rw (h .cells) (rw e at (c .before .loop .inv .3))
 

@@ -47,18 +47,21 @@ loop-less : tie.Need-loop-less Inv-loop μ-loop
 loop-less c = omega arith
 
 loop-again : tie.Need-loop-again Inv-loop μ-loop
-loop-again c =     let l = c .before .before .before .before in
+loop-again c = let l = c .before .before .before .before in
     let a = l .before .args in
-    let e = c .before .sweep-cell .ensures in
-    (omega arith, omega (arith, one c), search needs,
-    sweep-on (a .label) (a .work .now) (l .loop .work) (c .before .sweep-cell .last .0) (l .loop .index) (l .loop .opened) (c .before .sweep-cell .result) (l .loop .inv .3)
-    (record { area = e .0; answer = e .1 }))
+    let e = c .before .sweep-cell .ensures in (
+      omega arith,
+      omega (arith, one c),
+      search needs,
+      sweep-on (a .label) (a .work .now) (l .loop .work) (c .before .sweep-cell .last .0) (l .loop .index) (l .loop .opened) (c .before .sweep-cell .result) (l .loop .inv .3)
+          (record { area = e .0; answer = e .1 }),
+    )
 
 same-length : tie.Need-same-length Inv-loop μ-loop
 same-length c = search needs
 
 returns : tie.Need-returns Inv-loop μ-loop
-returns c =     let a = c .before .before .args in
+returns c = let a = c .before .before .args in
     let e : c .before .loop .index ≡ a .cells = omega arith in
     (omega arith, rw e at (c .before .loop .inv .3))
 

@@ -18,7 +18,7 @@ same-length : tie.Need-same-length
 same-length c = search needs
 
 returns : tie.Need-returns
-returns c =     let l = c .before in
+returns c = let l = c .before in
     let a = l .before .before .args in
     let r = sweep-other (a .label) (a .work .now) (a .index) (l .labelled .result) (l .labelled .ensures) (not-true (l .labelled .result) (c .if1 .taken)) in
     (r .area, r .answer)
@@ -45,7 +45,7 @@ same-length-2 : tie.Need-same-length-2
 same-length-2 c = search needs
 
 returns-2 : tie.Need-returns-2
-returns-2 c =     let p = c .before in
+returns-2 c = let p = c .before in
     let t = p .before .before in
     let g = t .before in
     let l = g .before .before .before in
@@ -79,7 +79,7 @@ same-length-3 : tie.Need-same-length-3
 same-length-3 c = search needs
 
 returns-3 : tie.Need-returns-3
-returns-3 c =     let p = c .before in
+returns-3 c = let p = c .before in
     let d = p .before in
     let h = d .before .before in
     let t = h .before .before in

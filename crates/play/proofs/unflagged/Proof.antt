@@ -17,7 +17,7 @@ get-requires : tie.Need-get-requires
 get-requires c κs = search needs
 
 returns : tie.Need-returns
-returns c =     let a = c .before .before .args in
+returns c = let a = c .before .before .args in
     bare-safe (a .work .now) (a .index) (c .before .get .result) (c .before .get .ensures .0) (c .if1 .taken)
 
 mul-get-2 : tie.Need-mul-get-2
@@ -30,13 +30,13 @@ get-requires-2 : tie.Need-get-requires-2
 get-requires-2 c κs = search needs
 
 returns-2 : tie.Need-returns-2
-returns-2 c =     let m = c .before in
+returns-2 c = let m = c .before in
     let k = m .before .before in
     let a = k .before .args in
     bare-flagged (a .work .now) (a .index) (k .get .result) (k .get .ensures .0) (m .get2 .result) (m .get2 .ensures .0) (m .before .if1 .left) (c .if2 .taken)
 
 returns-3 : tie.Need-returns-3
-returns-3 c =     let m = c .before in
+returns-3 c = let m = c .before in
     let k = m .before .before in
     let a = k .before .args in
     bare-mine (a .work .now) (a .index) (k .get .result) (k .get .ensures .0) (m .get2 .result) (m .get2 .ensures .0) (m .before .if1 .left) (c .if2 .left)

@@ -13,13 +13,13 @@ use Rattle.play.proofs.unflagged_row.Lts as lts
 use Rattle.play.proofs.unflagged.Reads as unflagged-reads
 
 abbrev Inv-loop : tie.InvT-loop
-Inv-loop work rows columns row from to mines₀ column₀ mines column =     (from ≤ column) × (column ≤ to) × (mines ≤ column - from) × (mines ≡ count (bareAt work) (rowCells rows row from column))
+Inv-loop work rows columns row from to mines₀ column₀ mines column = (from ≤ column) × (column ≤ to) × (mines ≤ column - from) × (mines ≡ count (bareAt work) (rowCells rows row from column))
 
 abbrev μ-loop : tie.MeasureT-loop
 μ-loop work rows columns row from to mines₀ column₀ mines column = to - column
 
 loop-holds : tie.Need-loop-holds Inv-loop μ-loop
-loop-holds c =     let a = c .args in
+loop-holds c = let a = c .args in
     (omega arith, omega arith, omega arith, rw (row-none (a .rows) (a .row) (a .from)))
 
 -- the cell of this turn lies on the grid
@@ -55,13 +55,16 @@ loop-less : tie.Need-loop-less Inv-loop μ-loop
 loop-less c = omega arith
 
 loop-again : tie.Need-loop-again Inv-loop μ-loop
-loop-again c =     let l = c .before .before in
-    let a = l .before .args in
-    (omega arith, omega arith, omega (arith, one c),
-    count-row (bareAt (a .work .now)) (a .rows) (a .row) (a .from) (l .loop .column) (l .loop .mines) (c .unflagged .result) (l .loop .inv .0) (l .loop .inv .3) (c .unflagged .ensures))
+loop-again c = let l = c .before .before in
+    let a = l .before .args in (
+      omega arith,
+      omega arith,
+      omega (arith, one c),
+      count-row (bareAt (a .work .now)) (a .rows) (a .row) (a .from) (l .loop .column) (l .loop .mines) (c .unflagged .result) (l .loop .inv .0) (l .loop .inv .3) (c .unflagged .ensures),
+    )
 
 returns : tie.Need-returns Inv-loop μ-loop
-returns c =     let a = c .before .before .args in
+returns c = let a = c .before .before .args in
     let e : c .before .loop .column ≡ a .to = omega arith in
     (omega arith, rw e at (c .before .loop .inv .3))
 

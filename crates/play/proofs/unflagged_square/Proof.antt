@@ -13,7 +13,7 @@ use Rattle.play.proofs.around.Reads as around-reads
 use Rattle.play.proofs.unflagged_row.Reads as unflagged-row-reads
 
 abbrev Inv-loop : tie.InvT-loop
-Inv-loop work rows columns index first last from to mines₀ row₀ mines row =     (first ≤ row) × (row ≤ last) × (mines ≤ 255 * (row - first)) × (mines ≡ count (bareAt work) (blockCells rows first row from to))
+Inv-loop work rows columns index first last from to mines₀ row₀ mines row = (first ≤ row) × (row ≤ last) × (mines ≤ 255 * (row - first)) × (mines ≡ count (bareAt work) (blockCells rows first row from to))
 
 abbrev μ-loop : tie.MeasureT-loop
 μ-loop work rows columns index first last from to mines₀ row₀ mines row = last - row
@@ -22,7 +22,7 @@ around-requires : tie.Need-around-requires Inv-loop μ-loop
 around-requires c κs = omega arith
 
 loop-holds : tie.Need-loop-holds Inv-loop μ-loop
-loop-holds c =     let q = c .around .result in
+loop-holds c = let q = c .around .result in
     (omega arith, omega arith, omega arith, rw (block-none (c .before .args .rows) (q .first) (q .from) (q .to)))
 
 unflagged-row-requires : tie.Need-unflagged-row-requires Inv-loop μ-loop
@@ -38,15 +38,18 @@ loop-less : tie.Need-loop-less Inv-loop μ-loop
 loop-less c = omega arith
 
 loop-again : tie.Need-loop-again Inv-loop μ-loop
-loop-again c =     let l = c .before .before in
+loop-again c = let l = c .before .before in
     let q = l .before .around .result in
-    let a = l .before .before .args in
-    (omega arith, omega arith, omega arith,
-    count-block (bareAt (a .work .now)) (a .rows) (q .first) (l .loop .row) (q .from) (q .to) (l .loop .mines) (c .unflagged-row .result)
-    (l .loop .inv .0) (l .loop .inv .3) (c .unflagged-row .ensures .1))
+    let a = l .before .before .args in (
+      omega arith,
+      omega arith,
+      omega arith,
+      count-block (bareAt (a .work .now)) (a .rows) (q .first) (l .loop .row) (q .from) (q .to) (l .loop .mines) (c .unflagged-row .result)
+          (l .loop .inv .0) (l .loop .inv .3) (c .unflagged-row .ensures .1),
+    )
 
 returns : tie.Need-returns Inv-loop μ-loop
-returns c =     let h = c .before .before .around .ensures in
+returns c = let h = c .before .before .around .ensures in
     let e : c .before .loop .row ≡ c .before .before .around .result .last = omega arith in
     rw (h .cells) (rw e at (c .before .loop .inv .3))
 
