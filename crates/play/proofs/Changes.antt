@@ -2,26 +2,25 @@
 use Prim.Native.Nat.{ℕ, _*_, _+_, _-_, _<_, _≤_}
 use native.Mathlib.Omega.{arith}
 use native.Mathlib.Decide.{ℕ-discrete}
-use mathlib.Core.Path.{_∙_, _≡_, ap, refl, subst, sym}
-use mathlib.Core.Bool.{Bool, _&&_, _||_, cond, false, not, true}
+use mathlib.Core.Path.{_∙_, _≡_, ap, refl, sym}
+use mathlib.Core.Bool.{Bool, _&&_, cond, false, not, true}
 use mathlib.Core.List.{List}
 use lib.Dec.{T, T-not, not-T, eqb, eqb→eq}
 use lib.IntN.{ℤ}
 use lib.ListN.{getD, length, set}
 use lib.Seq.{getD-set-other, getD-set-same}
 use Rattle.game.specs.Grid.{Grid, cells, mine, safe, size, square, zeroCell}
-use Rattle.game.specs.Lists.{bit, count, fold, has, range}
+use Rattle.game.specs.Lists.{bit, count, fold, has}
 use Rattle.game.specs.Moves.{reveal}
 use Rattle.game.specs.Openings.{firstLabel, holds, joinedTo, unlabelled}
 use Rattle.game.specs.Position.{Position, closed, closedSafe, cost, gain, opened}
 use Rattle.game.proofs.Counts.{bit-yes, count-drop, count-ext, count-split}
 use Rattle.game.proofs.Labels.{first-label}
-use Rattle.game.proofs.Members.{range-has}
 use Rattle.game.proofs.Played.{Played, played-even}
 use Rattle.game.proofs.Premiums.{flag-cost, flag-gain, open-cost, open-gain, reveal-sweep, sweep-cost, sweep-gain}
-use Rattle.game.proofs.Reveal.{getD-sweep, mine-off, zero-safe}
+use Rattle.game.proofs.Reveal.{getD-sweep, mine-off}
 use Rattle.game.proofs.Squares.{cells→, close-sym, in-own-square, once-cells, once-square, square→, →cells, →square}
-use Rattle.game.proofs.Truth.{T→false, T→true, and-both, and-false, and-true, and-under, eqb-no, eqb-yes, iff, no→false}
+use Rattle.game.proofs.Truth.{T→false, T→true, and-both, and-false, and-true, and-under, eqb-no, eqb-yes, iff}
 use Rattle.game.proofs.Zeros.{Zero}
 use Rattle.area.specs.Numbers.{putAt}
 use Rattle.area.specs.Stages.{held, kind, raised}
@@ -45,9 +44,6 @@ at-again C i c d x = go (eqb x i)
     go false = refl
 
 module _ (g : Grid) (s : Position) (old : List ℤ) (i : ℕ) (room : 5 * size g ≤ length old) (inside : i < size g) (f : Played g s) where
-  C : ℕ → Cell
-  C = heldCell g s
-
   -- a cell that keeps its state
   stays : (t : Position) (x : ℕ) → getD t x 0 ≡ getD s x 0 → restated (getD t x 0) (heldCell g s x) ≡ heldCell g s x
   stays t x e = ap (λ (k : ℕ). restated k (heldCell g s x)) e

@@ -1,12 +1,12 @@
 -- Reveals one after the other: nothing, one cell, two lists; a chord is the reveals of its square. Assumes nothing.
 use Prim.Native.Nat.{ℕ, _+_}
 use native.Mathlib.Omega.{arith}
-use mathlib.Core.Path.{_≡_, ap, sym}
+use mathlib.Core.Path.{_≡_, ap}
 use mathlib.Core.List.{List, [], _∷_, _++_}
 use lib.IntN.{ℤ}
 use Rattle.game.specs.Grid.{Grid, square}
 use Rattle.game.specs.Lists.{fold}
-use Rattle.game.specs.Moves.{chord, play, reveal}
+use Rattle.game.specs.Moves.{play, reveal}
 use Rattle.game.specs.Position.{Position, closedSafe}
 use Rattle.game.proofs.Members.{fold-append}
 use Rattle.area.specs.Stages.{Stands}

@@ -1,19 +1,19 @@
 -- The cells of a position, and how a move shifts each: by what its gain and its cost lose. Assumes nothing.
-use Prim.Native.Nat.{ℕ, _%_, _*_, _+_, _-_, _<_, _≤_}
+use Prim.Native.Nat.{ℕ, _%_, _+_, _-_, _<_, _≤_}
 use native.Mathlib.Omega.{arith}
-use mathlib.Core.Path.{_∙_, _≡_, ap, refl, sym}
-use mathlib.Core.Bool.{Bool, cond, false, not, true}
+use mathlib.Core.Path.{_∙_, _≡_, ap, refl}
+use mathlib.Core.Bool.{Bool, cond, false, true}
 use mathlib.Core.List.{List}
-use lib.Dec.{T, eqb, not-T}
+use lib.Dec.{T, eqb}
 use lib.IntN.{ℤ}
-use lib.ListN.{getD, length}
+use lib.ListN.{getD}
 use Rattle.game.specs.Grid.{Grid, mine, number, safe, size}
 use Rattle.game.specs.Openings.{firstLabel, secondLabel}
 use Rattle.game.specs.Position.{Position, cost, gain}
 use Rattle.game.proofs.Ranges.{cost-range, gain-range}
 use Rattle.game.proofs.Truth.{eqb-no}
 use Rattle.area.specs.Stages.{held, heldFive, kind, raised}
-use Rattle.play.proofs.Cells.{Cell, cellArea, marked, priced, shiftCell}
+use Rattle.play.proofs.Cells.{Cell, cellArea, priced, shiftCell}
 
 -- a cell of a position
 abbrev pub heldCell : Grid → Position → ℕ → Cell

@@ -4,19 +4,18 @@ use native.Mathlib.Omega.{arith}
 use mathlib.Core.Path.{_∙_, _≡_, ap, ap₂, refl, subst, sym}
 use mathlib.Core.Bool.{Bool, _&&_, _||_, cond, false, not, true}
 use mathlib.Core.List.{List, [], _∷_}
-use mathlib.Core.Option.{Option, none, some}
+use mathlib.Core.Option.{none, some}
 use lib.Dec.{T, T-not, eqb, eqb→eq, lt→ltb, ltb}
 use lib.IntN.{ℤ}
 use lib.ListN.{getD}
 use Rattle.game.specs.Grid.{Grid, mine, safe, size, square, zeroCell}
-use Rattle.game.specs.Lists.{all-of, bit, count, has}
-use Rattle.game.specs.Moves.{Move, cellOf, chord, chordable, flag, left, legal, legalRead, moveOf, play, readMove}
+use Rattle.game.specs.Lists.{all-of, bit, count}
+use Rattle.game.specs.Moves.{Move, cellOf, chord, chordable, flag, left, legal, legalRead, play, readMove}
 use Rattle.game.specs.Position.{Position, closed, closedSafe, flagged, opened, unflagged}
 use Rattle.game.proofs.Counts.{count-ext}
-use Rattle.game.proofs.Members.{first-of, rest-of}
 use Rattle.game.proofs.Played.{legal-inside}
 use Rattle.game.proofs.Squares.{square→}
-use Rattle.game.proofs.Truth.{T→false, T→true, and-both, and-false, and-left, and-right, eqb-no, eqb-yes, no→false}
+use Rattle.game.proofs.Truth.{T→true, and-both, and-left, and-right, eqb-no, eqb-yes, no→false}
 use Rattle.area.specs.Stages.{Stands}
 use Rattle.play.specs.Promises.{Chording, Revealing}
 use Rattle.play.specs.Replays.{Making}

@@ -1,7 +1,7 @@
 -- A label marks exactly the cells that its opening holds: the label of a 0-cell is the place of its opening. Assumes nothing.
 use Prim.Native.Nat.{ℕ, _+_, _<_, _≤_, suc, zero}
 use native.Mathlib.Omega.{arith}
-use mathlib.Core.Path.{_∙_, _≡_, ap, refl, subst, sym}
+use mathlib.Core.Path.{_∙_, _≡_, ap, refl, sym}
 use mathlib.Core.Logic.{⊎-elim}
 use mathlib.Core.Bool.{Bool, false, true, _||_}
 use mathlib.Core.List.{List, [], _∷_}

@@ -7,8 +7,8 @@ use mathlib.Core.Bool.{Bool, _&&_, cond}
 use mathlib.Core.List.{List, [], _∷_}
 use lib.Dec.{T, T-not, eqb, eqb→eq, lt→ltb, ltb, not-T}
 use lib.IntN.{ℤ}
-use lib.ListN.{getD, length, set}
-use Rattle.game.specs.Grid.{Grid, cells, mine, number, safe, size, zeroCell}
+use lib.ListN.{getD, set}
+use Rattle.game.specs.Grid.{Grid, mine, number, safe, size, zeroCell}
 use Rattle.game.specs.Lists.{fold, range}
 use Rattle.game.specs.Moves.{flag, legal, play, reveal}
 use Rattle.game.specs.Openings.{firstLabel}

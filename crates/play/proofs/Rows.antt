@@ -3,7 +3,7 @@ use Prim.Native.Nat.{ℕ, _%_, _*_, _+_, _-_, _/_, _<_, _≤_, min}
 use native.Mathlib.Omega.{arith}
 use mathlib.Core.Path.{_≡_, _∙_, ap, refl, sym}
 use mathlib.Core.Bool.{Bool}
-use mathlib.Core.List.{List, [], _∷_, _++_, map}
+use mathlib.Core.List.{List, [], _∷_, _++_, append-assoc, append-nil, map, map-append}
 use Rattle.game.specs.Grid.{square}
 use Rattle.game.specs.Lists.{bit, concat-map, count, fold, range}
 use Rattle.game.proofs.Counts.{count-append}
@@ -29,10 +29,6 @@ pub row-none : (rows row a : ℕ) → rowCells rows row a a ≡ []
 unfolding rowCells
 row-none rows row a = ap (map (λ column. column * rows + row)) (range-none a)
 
-map-append : (f : ℕ → ℕ) (xs ys : List ℕ) → map f (xs ++ ys) ≡ map f xs ++ map f ys
-map-append f [] ys = refl
-map-append f (x ∷ xs) ys = ap (λ (l : List ℕ). f x ∷ l) (map-append f xs ys)
-
 pub row-more : (rows row a k : ℕ) → a ≤ k → rowCells rows row a (k + 1) ≡ rowCells rows row a k ++ ((k * rows + row) ∷ [])
 unfolding rowCells
 row-more rows row a k h =
@@ -46,16 +42,8 @@ block-none rows y a b = ap (concat-map (λ row. rowCells rows row a b)) (range-n
 
 concat-map-last : (f : ℕ → List ℕ) (xs : List ℕ) (y : ℕ) → concat-map f (xs ++ (y ∷ [])) ≡ concat-map f xs ++ f y
 concat-map-last f [] y = append-nil (f y)
-  where
-    append-nil : (l : List ℕ) → l ++ [] ≡ l
-    append-nil [] = refl
-    append-nil (x ∷ l) = ap (λ (m : List ℕ). x ∷ m) (append-nil l)
 concat-map-last f (x ∷ xs) y =
-    ap (λ (l : List ℕ). f x ++ l) (concat-map-last f xs y) ∙ sym (assoc (f x) (concat-map f xs) (f y))
-  where
-    assoc : (l m n : List ℕ) → (l ++ m) ++ n ≡ l ++ (m ++ n)
-    assoc [] m n = refl
-    assoc (z ∷ l) m n = ap (λ (k : List ℕ). z ∷ k) (assoc l m n)
+    ap (λ (l : List ℕ). f x ++ l) (concat-map-last f xs y) ∙ sym (append-assoc (f x) (concat-map f xs) (f y))
 
 pub block-more : (rows y k a b : ℕ) → y ≤ k → blockCells rows y (k + 1) a b ≡ blockCells rows y k a b ++ rowCells rows k a b
 unfolding blockCells

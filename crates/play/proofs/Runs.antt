@@ -4,18 +4,17 @@ use native.Mathlib.Numerals.{add-one}
 use native.Mathlib.Omega.{arith}
 use mathlib.Core.Path.{_∙_, _≡_, ap, refl, sym}
 use mathlib.Core.Bool.{Bool, false, true}
-use mathlib.Core.List.{List, [], _∷_}
+use mathlib.Core.List.{List, _∷_}
 use lib.IntN.{ℤ}
 use lib.ListN.{drop, drop-of-length-le, getD, length, length-take, take}
 use lib.Seq.{drop-cons, getD-take}
 use Rattle.game.specs.Grid.{Grid}
-use Rattle.game.specs.Moves.{Replayed, legalRead, playRead, readMove, replayFrom, stopped, whole}
+use Rattle.game.specs.Moves.{Replayed, legalRead, playRead, readMove, replayFrom, stopped}
 use Rattle.game.specs.Position.{Position, closedSafe}
 use Rattle.area.specs.Stages.{Stands}
 use Rattle.play.specs.Replays.{Making, Replaying}
 use Rattle.play.specs.declared.Made.{Made}
 use Rattle.play.specs.declared.Made.the-variants.{Illegal, Opened}
-use Rattle.play.specs.declared.Replay.{Replay}
 use Rattle.play.specs.declared.Replay.the-variants.{Stopped, Whole}
 
 -- so many moves of a list were played: w stands for a position with so many safe cells closed, and the replay goes on from there

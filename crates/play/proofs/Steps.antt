@@ -1,8 +1,8 @@
 -- The small functions by their branches: each branch is what the definition gives where its tests hold. Assumes nothing.
 use Prim.Native.Nat.{ℕ, _*_, _+_, _-_, _≤_}
 use native.Mathlib.Omega.{arith}
-use mathlib.Core.Path.{_≡_, _∙_, ap, refl, sym}
-use mathlib.Core.Bool.{Bool, cond, false, not, true, _&&_, _||_}
+use mathlib.Core.Path.{_≡_, _∙_, ap, sym}
+use mathlib.Core.Bool.{Bool, false, true}
 use mathlib.Core.List.{List}
 use lib.Dec.{eqb}
 use lib.IntN.{ℤ}
@@ -10,7 +10,7 @@ use Rattle.game.specs.Lists.{bit, fold, range}
 use Rattle.game.proofs.Counts.{bit-le}
 use Rattle.game.proofs.Members.{fold-more}
 use Rattle.game.proofs.Truth.{eqb-no, eqb-yes}
-use Rattle.area.specs.Numbers.{numberAt, putAt}
+use Rattle.area.specs.Numbers.{putAt}
 use Rattle.play.specs.Walks.{bareAt, firstAt, kindAt, labelledAt, openedOne, opensAt, premiumAt, secondAt, shifted, squareOf, stateAt, sweptCell, sweptOn, Swept}
 
 -- ---- a premium shifts

@@ -251,7 +251,7 @@ fn unflagged(work: &[i32], index: usize) -> usize
     ensures { λ r. ⌜ r ≡ bit (bareAt (now (work .entry)) index) ⌝ }
 {
     let kind = area::get(work, 5 * index + 4);
-    if kind != 0 {
+    if kind > 0 {
         return 0;
     }
     let state = area::get(work, 5 * index + 3);

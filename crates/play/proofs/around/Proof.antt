@@ -4,10 +4,6 @@ use Rattle.play.proofs.Rows.{column-inside, row-inside, sides-around}
 use borrow.Author.Needs.{needs}
 use Rattle.play.proofs.around.Statement.{statement}
 use Rattle.play.proofs.around.Tie as tie
-use Rattle.play.proofs.around.Reads as reads
-use Rattle.play.proofs.around.Lts as lts
-use Rattle.area.proofs.lower.Reads as lower-reads
-use Rattle.area.proofs.upper.Reads as upper-reads
 
 rem-row : tie.Need-rem-row
 rem-row c = omega (arith, row-inside (c .args .rows) (c .args .columns) (c .args .index) (c .pre))

@@ -1,5 +1,5 @@
 -- `play::chord`: the rows passed were revealed one after the other; all rows are the square. Assumes nothing.
-use Prim.Native.Nat.{ℕ, _≤_, _*_, _-_}
+use Prim.Native.Nat.{_≤_, _*_, _-_}
 use native.Mathlib.Omega.{arith}
 use mathlib.Core.Path.{_≡_, refl}
 use lib.ListN.{length}
@@ -10,10 +10,6 @@ use Rattle.play.proofs.Chords.{opens-both, opens-chord, opens-none}
 use Rattle.play.proofs.Rows.{block-more, block-none}
 use Rattle.play.proofs.chord.Statement.{statement}
 use Rattle.play.proofs.chord.Tie as tie
-use Rattle.play.proofs.chord.Reads as reads
-use Rattle.play.proofs.chord.Lts as lts
-use Rattle.play.proofs.around.Reads as around-reads
-use Rattle.play.proofs.reveal_row.Reads as reveal-row-reads
 
 abbrev Inv-loop : tie.InvT-loop
 Inv-loop work₀ rows columns index first last from to opened₀ row₀ work opened row = (first ≤ row) × (row ≤ last) × (length work ≡ length work₀) × (opened ≤ 16581375 * (row - first))

@@ -3,10 +3,6 @@ use Rattle.play.proofs.Makes.{mines-decide, not-opened, zero-opened}
 use borrow.Author.Needs.{needs}
 use Rattle.play.proofs.chordable.Statement.{statement}
 use Rattle.play.proofs.chordable.Tie as tie
-use Rattle.play.proofs.chordable.Reads as reads
-use Rattle.play.proofs.chordable.Lts as lts
-use Rattle.area.proofs.get.Reads as get-reads
-use Rattle.play.proofs.unflagged_square.Reads as unflagged-square-reads
 
 mul-get : tie.Need-mul-get
 mul-get c = search needs

@@ -3,10 +3,6 @@ use Rattle.play.proofs.Reveals.{flag-stands}
 use borrow.Author.Needs.{needs}
 use Rattle.play.proofs.flag.Statement.{statement}
 use Rattle.play.proofs.flag.Tie as tie
-use Rattle.play.proofs.flag.Reads as reads
-use Rattle.play.proofs.flag.Lts as lts
-use Rattle.area.proofs.put.Reads as put-reads
-use Rattle.play.proofs.shift_square.Reads as shift-square-reads
 
 mul-put : tie.Need-mul-put
 mul-put c = search needs

@@ -3,9 +3,6 @@ use Rattle.play.proofs.Steps.{label-first, label-second}
 use borrow.Author.Needs.{needs}
 use Rattle.play.proofs.labelled.Statement.{statement}
 use Rattle.play.proofs.labelled.Tie as tie
-use Rattle.play.proofs.labelled.Reads as reads
-use Rattle.play.proofs.labelled.Lts as lts
-use Rattle.area.proofs.get.Reads as get-reads
 
 mul-get : tie.Need-mul-get
 mul-get c = search needs

@@ -5,11 +5,6 @@ use Rattle.play.proofs.Makes.{as-read, other-kind, past, read-chord, re
 use borrow.Author.Needs.{needs}
 use Rattle.play.proofs.make.Statement.{statement}
 use Rattle.play.proofs.make.Tie as tie
-use Rattle.play.proofs.make.Reads as reads
-use Rattle.play.proofs.make.Lts as lts
-use Rattle.play.proofs.make_chord.Reads as make-chord-reads
-use Rattle.play.proofs.make_flag.Reads as make-flag-reads
-use Rattle.play.proofs.make_left.Reads as make-left-reads
 
 cast-index : tie.Need-cast-index
 cast-index c = search needs

@@ -4,10 +4,6 @@ use Rattle.play.proofs.Makes.{chord-played, chord-refused}
 use borrow.Author.Needs.{needs}
 use Rattle.play.proofs.make_chord.Statement.{statement}
 use Rattle.play.proofs.make_chord.Tie as tie
-use Rattle.play.proofs.make_chord.Reads as reads
-use Rattle.play.proofs.make_chord.Lts as lts
-use Rattle.play.proofs.chord.Reads as chord-reads
-use Rattle.play.proofs.chordable.Reads as chordable-reads
 
 chordable-requires : tie.Need-chordable-requires
 chordable-requires c κs = search needs

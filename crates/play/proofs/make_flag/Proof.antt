@@ -3,10 +3,6 @@ use Rattle.play.proofs.Makes.{flag-safe, flag-state, flag-played}
 use borrow.Author.Needs.{needs}
 use Rattle.play.proofs.make_flag.Statement.{statement}
 use Rattle.play.proofs.make_flag.Tie as tie
-use Rattle.play.proofs.make_flag.Reads as reads
-use Rattle.play.proofs.make_flag.Lts as lts
-use Rattle.area.proofs.get.Reads as get-reads
-use Rattle.play.proofs.flag.Reads as flag-reads
 
 mul-get : tie.Need-mul-get
 mul-get c = search needs

@@ -3,10 +3,6 @@ use Rattle.play.proofs.Makes.{left-mine, left-state, left-played}
 use borrow.Author.Needs.{needs}
 use Rattle.play.proofs.make_left.Statement.{statement}
 use Rattle.play.proofs.make_left.Tie as tie
-use Rattle.play.proofs.make_left.Reads as reads
-use Rattle.play.proofs.make_left.Lts as lts
-use Rattle.area.proofs.get.Reads as get-reads
-use Rattle.play.proofs.reveal.Reads as reveal-reads
 
 mul-get : tie.Need-mul-get
 mul-get c = search needs

@@ -3,12 +3,6 @@ use Rattle.play.proofs.Steps.{open-bare, open-labelled}
 use borrow.Author.Needs.{needs}
 use Rattle.play.proofs.open_one.Statement.{statement}
 use Rattle.play.proofs.open_one.Tie as tie
-use Rattle.play.proofs.open_one.Reads as reads
-use Rattle.play.proofs.open_one.Lts as lts
-use Rattle.area.proofs.get.Reads as get-reads
-use Rattle.area.proofs.put.Reads as put-reads
-use Rattle.play.proofs.shift.Reads as shift-reads
-use Rattle.play.proofs.shift_square.Reads as shift-square-reads
 
 mul-put : tie.Need-mul-put
 mul-put c = search needs

@@ -1,5 +1,5 @@
 -- `play::reveal_row`: the cells passed were revealed one after the other. Assumes nothing.
-use Prim.Native.Nat.{ℕ, _≤_, _<_, _+_, _*_, _-_}
+use Prim.Native.Nat.{_≤_, _<_, _+_, _*_, _-_}
 use native.Mathlib.Omega.{arith}
 use mathlib.Core.Path.{_≡_, refl}
 use mathlib.Core.List.{[], _∷_}
@@ -11,9 +11,6 @@ use Rattle.play.proofs.Chords.{opens-both, opens-none, opens-one}
 use Rattle.play.proofs.Rows.{inside, row-more, row-none}
 use Rattle.play.proofs.reveal_row.Statement.{statement}
 use Rattle.play.proofs.reveal_row.Tie as tie
-use Rattle.play.proofs.reveal_row.Reads as reads
-use Rattle.play.proofs.reveal_row.Lts as lts
-use Rattle.play.proofs.uncover.Reads as uncover-reads
 
 abbrev Inv-loop : tie.InvT-loop
 Inv-loop work₀ rows columns row from to opened₀ column₀ work opened column = (from ≤ column) × (column ≤ to) × (length work ≡ length work₀) × (opened ≤ 65025 * (column - from))

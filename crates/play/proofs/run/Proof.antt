@@ -1,5 +1,5 @@
 -- `play::run`: so far the list was played as its replay goes; a refused move stops both. Assumes nothing.
-use Prim.Native.Nat.{ℕ, _≤_, _-_}
+use Prim.Native.Nat.{_≤_, _-_}
 use native.Mathlib.Omega.{arith}
 use mathlib.Core.Path.{_≡_, refl}
 use lib.ListN.{length, take}
@@ -7,10 +7,6 @@ use borrow.Author.Needs.{needs}
 use Rattle.play.proofs.Runs.{Midway, begins, ends, goes-on, stops}
 use Rattle.play.proofs.run.Statement.{statement}
 use Rattle.play.proofs.run.Tie as tie
-use Rattle.play.proofs.run.Reads as reads
-use Rattle.play.proofs.run.Lts as lts
-use Rattle.play.proofs.less.Reads as less-reads
-use Rattle.play.proofs.make.Reads as make-reads
 
 abbrev Inv-loop : tie.InvT-loop
 Inv-loop work₀ rows columns list count safe closed₀ place₀ work closed place = (place ≤ count) × (length work ≡ length work₀) × Midway rows columns work₀ (take count list) safe place closed work

@@ -3,11 +3,6 @@ use Rattle.play.proofs.Steps.{shift-mine, shift-safe}
 use borrow.Author.Needs.{needs}
 use Rattle.play.proofs.shift.Statement.{statement}
 use Rattle.play.proofs.shift.Tie as tie
-use Rattle.play.proofs.shift.Reads as reads
-use Rattle.play.proofs.shift.Lts as lts
-use Rattle.area.proofs.get.Reads as get-reads
-use Rattle.area.proofs.put.Reads as put-reads
-use Rattle.play.proofs.less.Reads as less-reads
 
 mul-get : tie.Need-mul-get
 mul-get c = search needs

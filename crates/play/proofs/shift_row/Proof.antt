@@ -1,19 +1,14 @@
 -- `play::shift_row`: the run up to the column is the fold over the columns passed. Assumes nothing.
-use Prim.Native.Nat.{ℕ, _≤_, _<_, _+_, _*_, _-_}
+use Prim.Native.Nat.{_≤_, _<_, _+_, _*_, _-_}
 use native.Mathlib.Omega.{arith}
-use mathlib.Core.Path.{_≡_, _∙_, ap, refl}
-use mathlib.Core.List.{List, map}
-use lib.IntN.{ℤ}
+use mathlib.Core.Path.{_≡_, refl}
 use lib.ListN.{length}
 use borrow.Author.Needs.{needs}
-use Rattle.game.specs.Lists.{fold, range}
+use Rattle.game.specs.Lists.{fold}
 use Rattle.play.specs.Walks.{rowCells, shifted}
 use Rattle.play.proofs.Rows.{inside, row-begin, row-on}
 use Rattle.play.proofs.shift_row.Statement.{statement}
 use Rattle.play.proofs.shift_row.Tie as tie
-use Rattle.play.proofs.shift_row.Reads as reads
-use Rattle.play.proofs.shift_row.Lts as lts
-use Rattle.play.proofs.shift.Reads as shift-reads
 
 abbrev Inv-loop : tie.InvT-loop
 Inv-loop work₀ rows columns row from to up down column₀ work column =

@@ -1,5 +1,5 @@
 -- `play::shift_square`: the run up to the row is the fold over the rows passed. Assumes nothing.
-use Prim.Native.Nat.{ℕ, _≤_, _-_}
+use Prim.Native.Nat.{_≤_, _-_}
 use native.Mathlib.Omega.{arith}
 use mathlib.Core.Path.{_≡_, refl}
 use lib.ListN.{length}
@@ -9,10 +9,6 @@ use Rattle.play.specs.Walks.{blockCells, shifted}
 use Rattle.play.proofs.Rows.{block-begin, block-on}
 use Rattle.play.proofs.shift_square.Statement.{statement}
 use Rattle.play.proofs.shift_square.Tie as tie
-use Rattle.play.proofs.shift_square.Reads as reads
-use Rattle.play.proofs.shift_square.Lts as lts
-use Rattle.play.proofs.around.Reads as around-reads
-use Rattle.play.proofs.shift_row.Reads as shift-row-reads
 
 abbrev Inv-loop : tie.InvT-loop
 Inv-loop work₀ rows columns index up down first last from to row₀ work row = (first ≤ row) × (row ≤ last) × (length work ≡ length work₀) × (work ≡ fold (shifted up down) work₀ (blockCells rows first row from to))

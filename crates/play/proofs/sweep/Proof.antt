@@ -1,20 +1,15 @@
 -- `play::sweep`: what stands after so many cells is the fold over them. Assumes nothing.
 use Rattle.play.proofs.Steps.{sweep-on, bit-small}
 use Rattle.play.specs.Walks.{opensAt}
-use Prim.Native.Nat.{ℕ, _≤_, _+_, _*_, _-_}
+use Prim.Native.Nat.{_≤_, _-_}
 use native.Mathlib.Omega.{arith}
-use mathlib.Core.Path.{_≡_, _∙_, ap, refl}
-use mathlib.Core.List.{List, map}
-use lib.IntN.{ℤ}
+use mathlib.Core.Path.{_≡_, refl}
 use lib.ListN.{length}
 use borrow.Author.Needs.{needs}
 use Rattle.game.specs.Lists.{fold, range}
 use Rattle.play.specs.Walks.{Swept, sweptOn}
 use Rattle.play.proofs.sweep.Statement.{statement}
 use Rattle.play.proofs.sweep.Tie as tie
-use Rattle.play.proofs.sweep.Reads as reads
-use Rattle.play.proofs.sweep.Lts as lts
-use Rattle.play.proofs.sweep_cell.Reads as sweep-cell-reads
 
 abbrev Inv-loop : tie.InvT-loop
 Inv-loop work₀ cells label opened₀ index₀ work opened index =

@@ -4,12 +4,6 @@ use borrow.Author.Needs.{needs}
 use borrow.Author.Tests.{not-false, not-true}
 use Rattle.play.proofs.sweep_cell.Statement.{statement}
 use Rattle.play.proofs.sweep_cell.Tie as tie
-use Rattle.play.proofs.sweep_cell.Reads as reads
-use Rattle.play.proofs.sweep_cell.Lts as lts
-use Rattle.area.proofs.get.Reads as get-reads
-use Rattle.area.proofs.put.Reads as put-reads
-use Rattle.play.proofs.labelled.Reads as labelled-reads
-use Rattle.play.proofs.less.Reads as less-reads
 
 labelled-requires : tie.Need-labelled-requires
 labelled-requires c κs = search needs

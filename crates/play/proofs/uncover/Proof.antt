@@ -4,11 +4,6 @@ use Rattle.play.proofs.Reveals.{by-mine, by-one, by-state, by-zero, few
 use borrow.Author.Needs.{needs}
 use Rattle.play.proofs.uncover.Statement.{statement}
 use Rattle.play.proofs.uncover.Tie as tie
-use Rattle.play.proofs.uncover.Reads as reads
-use Rattle.play.proofs.uncover.Lts as lts
-use Rattle.area.proofs.get.Reads as get-reads
-use Rattle.play.proofs.open_one.Reads as open-one-reads
-use Rattle.play.proofs.sweep.Reads as sweep-reads
 
 mul-get : tie.Need-mul-get
 mul-get c = search needs

@@ -1,5 +1,5 @@
 -- `play::unflagged_row`: the mines of the cells passed are counted. Assumes nothing.
-use Prim.Native.Nat.{ℕ, _≤_, _<_, _+_, _*_, _-_}
+use Prim.Native.Nat.{_≤_, _<_, _+_, _*_, _-_}
 use native.Mathlib.Omega.{arith}
 use mathlib.Core.Path.{_≡_}
 use Rattle.game.specs.Lists.{count}
@@ -8,9 +8,6 @@ use Rattle.play.proofs.Rows.{count-row, inside, row-none}
 use Rattle.play.proofs.Steps.{bit-small}
 use Rattle.play.proofs.unflagged_row.Statement.{statement}
 use Rattle.play.proofs.unflagged_row.Tie as tie
-use Rattle.play.proofs.unflagged_row.Reads as reads
-use Rattle.play.proofs.unflagged_row.Lts as lts
-use Rattle.play.proofs.unflagged.Reads as unflagged-reads
 
 abbrev Inv-loop : tie.InvT-loop
 Inv-loop work rows columns row from to mines₀ column₀ mines column = (from ≤ column) × (column ≤ to) × (mines ≤ column - from) × (mines ≡ count (bareAt work) (rowCells rows row from column))
