@@ -1,0 +1,305 @@
+-- One cell opened, one mine flagged, one opening swept: the work area then stands for the position after it. Assumes nothing.
+use Prim.Native.Nat.{ℕ, _*_, _+_, _-_, _<_, _≤_}
+use native.Mathlib.Omega.{arith}
+use native.Mathlib.Decide.{ℕ-discrete}
+use mathlib.Core.Path.{_∙_, _≡_, ap, refl, sym}
+use mathlib.Core.Bool.{Bool, _&&_, cond, false, not, true}
+use mathlib.Core.List.{List}
+use lib.Dec.{T, T-not, not-T, eqb, eqb→eq}
+use lib.IntN.{ℤ}
+use lib.ListN.{getD, length, set}
+use lib.Seq.{getD-set-other, getD-set-same}
+use Rattle.game.specs.Grid.{Grid, cells, mine, safe, size, square, zeroCell}
+use Rattle.game.specs.Lists.{bit, count, fold, has}
+use Rattle.game.specs.Moves.{reveal}
+use Rattle.game.specs.Openings.{firstLabel, holds, joinedTo, unlabelled}
+use Rattle.game.specs.Position.{Position, closed, closedSafe, cost, gain, opened}
+use Rattle.game.proofs.Counts.{bit-yes, count-drop, count-ext, count-split}
+use Rattle.game.proofs.Labels.{first-label}
+use Rattle.game.proofs.Played.{Played, played-even}
+use Rattle.game.proofs.Premiums.{flag-cost, flag-gain, open-cost, open-gain, reveal-sweep, sweep-cost, sweep-gain}
+use Rattle.game.proofs.Reveal.{getD-sweep, mine-off}
+use Rattle.game.proofs.Squares.{cells→, close-sym, in-own-square, once-cells, once-square, square→, →cells, →square}
+use Rattle.game.proofs.Truth.{T→false, T→true, and-both, and-false, and-true, and-under, eqb-no, eqb-yes, iff}
+use Rattle.game.proofs.Zeros.{Zero}
+use Rattle.area.specs.Numbers.{putAt}
+use Rattle.area.specs.Stages.{held, kind, raised}
+use Rattle.play.specs.Walks.{Swept, openedOne, shifted, squareOf, sweptOn}
+use Rattle.play.proofs.Cells.{Cell, at, at-here, at-other, cellArea, fold-acts, fold-sweep, labelledCell, made, marked, opensCell, priced, put-area, read-first, same-area, shift-acts, shiftCell, sweepCell}
+use Rattle.play.proofs.Held.{heldCell, held-cells, kind-mine, level, moved, raised-small, restated, up-down}
+use Rattle.play.proofs.Marks.{marked-held}
+
+-- two cells are in each other's squares, or not
+near-sym : (g : Grid) (i x : ℕ) → i < size g → x < size g → has i (square g x) ≡ has x (square g i)
+near-sym g i x h k =
+    iff (has i (square g x)) (has x (square g i)) (λ t. →square g i x h k (close-sym g x i (square→ g x i k t .1)))
+    (λ t. →square g x i k h (close-sym g i x (square→ g i x h t .1)))
+
+-- two changes of one cell: the later stands
+at-again : (C : ℕ → Cell) (i : ℕ) (c d : Cell) (x : ℕ) → at (at C i c) i d x ≡ at C i d x
+at-again C i c d x = go (eqb x i)
+  where
+    go : (b : Bool) → cond b d (cond b c (C x)) ≡ cond b d (C x)
+    go true = refl
+    go false = refl
+
+module _ (g : Grid) (s : Position) (old : List ℤ) (i : ℕ) (room : 5 * size g ≤ length old) (inside : i < size g) (f : Played g s) where
+  -- a cell that keeps its state
+  stays : (t : Position) (x : ℕ) → getD t x 0 ≡ getD s x 0 → restated (getD t x 0) (heldCell g s x) ≡ heldCell g s x
+  stays t x e = ap (λ (k : ℕ). restated k (heldCell g s x)) e
+
+  -- as much up as down leaves it
+  even-cell : (k x m : ℕ) → k ≤ 1 → x < size g → shiftCell k k (restated m (heldCell g s x)) ≡ restated m (heldCell g s x)
+  even-cell k x m b h = level k (restated m (heldCell g s x)) (omega (arith, raised-small g s x h))
+
+  -- ---- a cell of number 1 or more is opened
+
+  module _ (is-safe : T (safe g i)) (shut : T (closed s i)) (nonzero : T (zeroCell g i) → ⊥) where
+    open-cell : Cell
+    open-cell = shiftCell 1 0 (marked 1 (heldCell g s i))
+
+    -- whether it has no label
+    abbrev bare : Bool
+    bare = eqb (firstLabel g i) 0
+
+    gain-falls : (x : ℕ) → x < size g → gain g s x ≡ gain g (set s i 1) x + bit (has x (square g i) && bare)
+    gain-falls x h =
+        open-gain g s i inside (f .long) shut nonzero x
+        ∙ ap (λ (b : Bool). gain g (set s i 1) x + bit (b && unlabelled g i)) (near-sym g i x inside h)
+        ∙ ap (λ (b : Bool). gain g (set s i 1) x + bit (has x (square g i) && b))
+        (first-label g i ∙ ap (λ (b : Bool). b && eqb (firstLabel g i) 0) (T→true (safe g i) is-safe))
+
+    cost-falls : (x : ℕ) → cost g s x ≡ cost g (set s i 1) x + bit (eqb x i)
+    cost-falls x = open-cost g s i inside (f .long) shut nonzero x
+
+    open-other : (x : ℕ) → x < size g → (x ≡ i → ⊥) → (b : Bool) → (has x (square g i) && bare) ≡ b
+        → cond b (shiftCell 0 1 (heldCell g s x)) (heldCell g s x) ≡ heldCell g (set s i 1) x
+    open-other x h n b e = go b e (ap bit e)
+      where
+        kept : getD (set s i 1) x 0 ≡ getD s x 0
+        kept = getD-set-other s i x 1 0 n
+
+        none : bit (eqb x i) ≡ 0
+        none = ap bit (eqb-no x i n)
+
+        by : (p : ℕ) → bit (has x (square g i) && bare) ≡ p → p ≤ 1 → shiftCell 0 p (heldCell g s x) ≡ heldCell g (set s i 1) x
+        by p q l =
+            ap (shiftCell 0 p) (sym (stays (set s i 1) x kept))
+            ∙ moved g s (set s i 1) x p 0 h l (omega arith) (λ u. omega (arith, gain-falls x h)) (λ u. omega (arith, cost-falls x, none))
+
+        go : (b : Bool) → (has x (square g i) && bare) ≡ b → bit (has x (square g i) && bare) ≡ bit b
+            → cond b (shiftCell 0 1 (heldCell g s x)) (heldCell g s x) ≡ heldCell g (set s i 1) x
+        go true q r = by 1 r (omega arith)
+        go false q r = sym (even-cell 0 x (getD s x 0) (omega arith) h) ∙ by 0 r (omega arith)
+
+    open-own : (b : Bool) → bare ≡ b → cond b (shiftCell 0 1 open-cell) open-cell ≡ heldCell g (set s i 1) i
+    unfolding open-cell
+    open-own b e = go b e
+      where
+        now-open : getD (set s i 1) i 0 ≡ 1
+        now-open = getD-set-same s i 1 0 (omega (arith, f .long))
+
+        one : bit (eqb i i) ≡ 1
+        one = ap bit (eqb-yes i i refl)
+
+        by : (p : ℕ) → bit bare ≡ p → p ≤ 1 → shiftCell 1 p (marked 1 (heldCell g s i)) ≡ heldCell g (set s i 1) i
+        by p q l =
+            ap (λ (k : ℕ). shiftCell 1 p (restated k (heldCell g s i))) (sym now-open)
+            ∙ moved g s (set s i 1) i p 1 inside l (omega arith)
+            (λ u. omega (arith, gain-falls i inside, ap (λ (b : Bool). bit (b && bare)) (T→true (has i (square g i)) (in-own-square g i inside))))
+            (λ u. omega (arith, cost-falls i, one))
+
+        go : (b : Bool) → bare ≡ b → cond b (shiftCell 0 1 (shiftCell 1 0 (marked 1 (heldCell g s i)))) (shiftCell 1 0 (marked 1 (heldCell g s i))) ≡ heldCell g (set s i 1) i
+        go true q =
+            up-down (marked 1 (heldCell g s i)) (omega (arith, raised-small g s i inside))
+            ∙ sym (even-cell 1 i 1 (omega arith) inside) ∙ by 1 (ap bit q) (omega arith)
+        go false q = by 0 (ap bit q) (omega arith)
+
+    -- the work area with the cell marked and its premium up
+    open-marked : shifted 1 0 (putAt (held g s old) (5 * i + 3) 1) i ≡ cellArea (at (heldCell g s) i open-cell) (size g) old
+    unfolding open-cell
+    open-marked =
+        ap (λ (w : List ℤ). shifted 1 0 (putAt w (5 * i + 3) 1) i) (held-cells g s old)
+        ∙ ap (λ (w : List ℤ). shifted 1 0 w i) (put-area (size g) old room (heldCell g s) i 3 1 (marked 1 (heldCell g s i)) inside (omega arith) refl)
+        ∙ shift-acts (size g) old room 1 0 (at (heldCell g s) i (marked 1 (heldCell g s i))) i inside
+        ∙ ap (λ (c : Cell). cellArea (at (at (heldCell g s) i (marked 1 (heldCell g s i))) i (shiftCell 1 0 c)) (size g) old)
+        (at-here (heldCell g s) i (marked 1 (heldCell g s i)) i refl)
+        ∙ same-area (size g) old room (at (at (heldCell g s) i (marked 1 (heldCell g s i))) i (shiftCell 1 0 (marked 1 (heldCell g s i))))
+        (at (heldCell g s) i (shiftCell 1 0 (marked 1 (heldCell g s i))))
+        (λ x _. at-again (heldCell g s) i (marked 1 (heldCell g s i)) (shiftCell 1 0 (marked 1 (heldCell g s i))) x)
+
+    own-label : at (heldCell g s) i open-cell i .first ≡ firstLabel g i
+    unfolding open-cell
+    own-label = ap (λ (c : Cell). c .first) (at-here (heldCell g s) i open-cell i refl) ∙ go (eqb (marked 1 (heldCell g s i) .kind) 0)
+      where
+        go : (b : Bool) → cond b (marked 1 (heldCell g s i)) (priced (raised g s i + 1 - 0) (marked 1 (heldCell g s i))) .first ≡ firstLabel g i
+        go true = refl
+        go false = refl
+
+    pub open-area : openedOne (g .rows) (g .columns) (held g s old) i ≡ held g (set s i 1) old
+    unfolding openedOne square
+    open-area =
+        rw (open-marked, read-first (size g) old room (at (heldCell g s) i open-cell) i inside, own-label) (go bare refl)
+        ∙ sym (held-cells g (set s i 1) old)
+      where
+        E : ℕ → Cell
+        E = at (heldCell g s) i open-cell
+
+        each : (b : Bool) → bare ≡ b → (x : ℕ) → x < size g → cond (has x (square g i) && b) (shiftCell 0 1 (E x)) (E x) ≡ heldCell g (set s i 1) x
+        each b e x h =
+            elim (ℕ-discrete x i) [
+              | yes q ↦ rw (q, T→true (has i (square g i)) (in-own-square g i inside), at-here (heldCell g s) i open-cell i refl) (open-own b e)
+              | no n ↦ rw (at-other (heldCell g s) i open-cell x n)
+                  (open-other x h n (has x (square g i) && b) (ap (λ (c : Bool). has x (square g i) && c) e))
+            ]
+
+        go : (b : Bool) → bare ≡ b
+            → cond b (fold (shifted 0 1) (cellArea E (size g) old) (square g i)) (cellArea E (size g) old)
+            ≡ cellArea (heldCell g (set s i 1)) (size g) old
+        go true e =
+            fold-acts (size g) old room (shifted 0 1) (shiftCell 0 1) (λ D j h. shift-acts (size g) old room 0 1 D j h) (square g i) E (once-square g i) (λ x t. square→ g i x inside t .0)
+            ∙ same-area (size g) old room (made (shiftCell 0 1) (square g i) E) (heldCell g (set s i 1)) (λ x h.
+            ap (λ (b : Bool). cond b (shiftCell 0 1 (E x)) (E x)) (and-true (has x (square g i))) ∙ each true e x h)
+        go false e =
+            same-area (size g) old room E (heldCell g (set s i 1)) (λ x h.
+            ap (λ (b : Bool). cond b (shiftCell 0 1 (E x)) (E x)) (and-false (has x (square g i))) ∙ each false e x h)
+
+    pub open-count : closedSafe g s ≡ 1 + closedSafe g (set s i 1)
+    unfolding closedSafe
+    open-count =
+        let a = count-drop (λ x. safe g x && closed s x) (λ x. safe g x && closed (set s i 1) x) i (cells g) (once-cells g)
+        (λ x n. ap (λ (k : ℕ). safe g x && eqb k 0) (sym (getD-set-other s i x 1 0 n)))
+        (ap (λ (k : ℕ). safe g i && eqb k 0) (getD-set-same s i 1 0 (omega (arith, f .long))) ∙ sym (and-false (safe g i))) in
+        let b = bit-yes (has i (cells g) && (safe g i && closed s i))
+        (and-both (has i (cells g)) (safe g i && closed s i) (→cells g i inside) (and-both (safe g i) (closed s i) is-safe shut)) in
+        omega arith
+
+  -- ---- a mine is flagged
+
+  module _ (is-mine : T (mine g i)) (shut : T (closed s i)) where
+    flag-other : (x : ℕ) → x < size g → (x ≡ i → ⊥) → (b : Bool) → has x (square g i) ≡ b
+        → cond b (shiftCell 1 0 (heldCell g s x)) (heldCell g s x) ≡ heldCell g (set s i 2) x
+    flag-other x h n b e = go b (ap bit (near-sym g i x inside h ∙ e))
+      where
+        by : (q : ℕ) → bit (has i (square g x)) ≡ q → q ≤ 1 → shiftCell q 0 (heldCell g s x) ≡ heldCell g (set s i 2) x
+        by q r l =
+            ap (shiftCell q 0) (sym (stays (set s i 2) x (getD-set-other s i x 2 0 n)))
+            ∙ moved g s (set s i 2) x 0 q h (omega arith) l (λ u. flag-gain g s i inside (f .long) shut is-mine x)
+            (λ u. omega (arith, flag-cost g s i inside (f .long) shut is-mine x u))
+
+        go : (b : Bool) → bit (has i (square g x)) ≡ bit b → cond b (shiftCell 1 0 (heldCell g s x)) (heldCell g s x) ≡ heldCell g (set s i 2) x
+        go true r = by 1 r (omega arith)
+        go false r = sym (even-cell 0 x (getD s x 0) (omega arith) h) ∙ by 0 r (omega arith)
+
+    flag-own : shiftCell 1 0 (marked 2 (heldCell g s i)) ≡ heldCell g (set s i 2) i
+    flag-own =
+        ap (λ (k : ℕ). shiftCell 1 0 (restated k (heldCell g s i))) (sym (getD-set-same s i 2 0 (omega (arith, f .long))))
+        ∙ moved g s (set s i 2) i 0 1 inside (omega arith) (omega arith) (λ u. absurd (T-not (mine g i) u is-mine)) (λ u. absurd (T-not (mine g i) u is-mine))
+
+    pub flag-area : fold (shifted 1 0) (putAt (held g s old) (5 * i + 3) 2) (squareOf (g .rows) (g .columns) i) ≡ held g (set s i 2) old
+    unfolding square
+    flag-area =
+        ap (λ (w : List ℤ). fold (shifted 1 0) (putAt w (5 * i + 3) 2) (square g i)) (held-cells g s old)
+        ∙ ap (λ (w : List ℤ). fold (shifted 1 0) w (square g i)) (put-area (size g) old room (heldCell g s) i 3 2 (marked 2 (heldCell g s i)) inside (omega arith) refl)
+        ∙ fold-acts (size g) old room (shifted 1 0) (shiftCell 1 0) (λ D j h. shift-acts (size g) old room 1 0 D j h) (square g i) E (once-square g i) (λ x t. square→ g i x inside t .0)
+        ∙ same-area (size g) old room (made (shiftCell 1 0) (square g i) E) (heldCell g (set s i 2)) each
+        ∙ sym (held-cells g (set s i 2) old)
+      where
+        E : ℕ → Cell
+        E = at (heldCell g s) i (marked 2 (heldCell g s i))
+
+        each : (x : ℕ) → x < size g → made (shiftCell 1 0) (square g i) E x ≡ heldCell g (set s i 2) x
+        each x h =
+            elim (ℕ-discrete x i) [
+              | yes q ↦ rw (q, T→true (has i (square g i)) (in-own-square g i inside), at-here (heldCell g s) i (marked 2 (heldCell g s i)) i refl) flag-own
+              | no n ↦ rw (at-other (heldCell g s) i (marked 2 (heldCell g s i)) x n) (flag-other x h n (has x (square g i)) refl)
+            ]
+
+    pub flag-count : closedSafe g (set s i 2) ≡ closedSafe g s
+    unfolding closedSafe
+    flag-count =
+        count-ext (λ x. safe g x && closed (set s i 2) x) (λ x. safe g x && closed s x) (cells g) (λ x t.
+        and-under (safe g x) (closed (set s i 2) x) (closed s x) (λ u.
+        ap (λ (k : ℕ). eqb k 0) (getD-set-other s i x 2 0 (λ e. T-not (mine g x) u (rw e is-mine)))))
+
+  -- ---- an opening is swept
+
+  module _ (none : T (zeroCell g i)) (shut : T (closed s i)) where
+    z : Zero g i
+    z = record { inside = inside; none = none }
+
+    -- whether the opening holds the cell
+    abbrev in-it : ℕ → Bool
+    in-it x = holds g x (joinedTo g i)
+
+    marks : (x : ℕ) → x < size g → labelledCell (firstLabel g i) (heldCell g s x) ≡ in-it x
+    marks x h = marked-held g i x z h
+
+    after-state : (x : ℕ) → x < size g → getD (reveal g s i) x 0 ≡ cond (in-it x) 1 (getD s x 0)
+    after-state x h = ap (λ (t : Position). getD t x 0) (reveal-sweep g s i z shut) ∙ getD-sweep g s i x h
+
+    sweep-each : (x : ℕ) → x < size g → sweepCell (firstLabel g i) (heldCell g s x) ≡ heldCell g (reveal g s i) x
+    sweep-each x h =
+        ap (λ (b : Bool). cond b (cond (closed s x) (marked 1 (heldCell g s x)) (priced (raised g s x - 1) (heldCell g s x))) (heldCell g s x)) (marks x h)
+        ∙ go (in-it x) refl (closed s x) refl
+      where
+        by : (p q : ℕ) → bit (in-it x) ≡ p → bit (in-it x && closed s x) ≡ q → p ≤ 1 → q ≤ 1 → (k : ℕ) → getD (reveal g s i) x 0 ≡ k
+            → shiftCell q p (restated k (heldCell g s x)) ≡ heldCell g (reveal g s i) x
+        by p q r u l m k e =
+            ap (λ (v : ℕ). shiftCell q p (restated v (heldCell g s x))) (sym e)
+            ∙ moved g s (reveal g s i) x p q h l m (λ t. omega (arith, sweep-gain g s i z shut x (f .long) (played-even g s f) h)) (λ t. omega (arith, sweep-cost g s i z shut x h))
+
+        down : raised g s x - 1 ≡ raised g s x + 0 - 1
+        down = omega arith
+
+        go : (b : Bool) → in-it x ≡ b → (c : Bool) → closed s x ≡ c
+            → cond b (cond c (marked 1 (heldCell g s x)) (priced (raised g s x - 1) (heldCell g s x))) (heldCell g s x) ≡ heldCell g (reveal g s i) x
+        go true e true d =
+            sym (even-cell 1 x 1 (omega arith) h)
+            ∙ by 1 1 (ap bit e) (rw (e, d)) (omega arith) (omega arith) 1 (after-state x h ∙ ap (λ (b : Bool). cond b 1 (getD s x 0)) e)
+        go true e false d =
+            let u : T (safe g x) = not-T (mine g x) (λ m. mine-off g i x z h m (rw e tt)) in
+            let open-before : getD s x 0 ≡ 1 = eqb→eq (getD s x 0) 1 (rw (f .safes x h u, d) tt) in
+            ap (λ (p : ℕ). priced p (heldCell g s x)) down
+            ∙ sym (ap (λ (b : Bool). cond b (heldCell g s x) (priced (raised g s x + 0 - 1) (heldCell g s x))) (kind-mine g x ∙ T→false (mine g x) u))
+            ∙ by 1 0 (ap bit e) (rw (e, d)) (omega arith) (omega arith) (getD s x 0) (after-state x h ∙ ap (λ (b : Bool). cond b 1 (getD s x 0)) e ∙ sym open-before)
+        go false e c d =
+            sym (even-cell 0 x (getD s x 0) (omega arith) h)
+            ∙ by 0 0 (ap bit e) (ap (λ (b : Bool). bit (b && closed s x)) e) (omega arith) (omega arith) (getD s x 0) (after-state x h ∙ ap (λ (b : Bool). cond b 1 (getD s x 0)) e)
+
+    sweep-count : closedSafe g s ≡ closedSafe g (reveal g s i) + count (λ x. opensCell (firstLabel g i) (heldCell g s x)) (cells g)
+    unfolding closedSafe
+    sweep-count =
+        let a = count-split (λ x. safe g x && closed s x) in-it (cells g) in
+        let b = count-ext (λ x. (safe g x && closed s x) && not (in-it x)) (λ x. safe g x && closed (reveal g s i) x) (cells g) (λ x t. left-closed x (cells→ g x t)) in
+        let c = count-ext (λ x. in-it x && (safe g x && closed s x)) (λ x. opensCell (firstLabel g i) (heldCell g s x)) (cells g) (λ x t. now-opened x (cells→ g x t)) in
+        omega arith
+      where
+        left-closed : (x : ℕ) → x < size g → ((safe g x && closed s x) && not (in-it x)) ≡ (safe g x && closed (reveal g s i) x)
+        left-closed x h =
+            go (safe g x) (closed s x) (in-it x) (getD s x 0) refl
+            ∙ ap (λ (k : ℕ). safe g x && eqb k 0) (sym (after-state x h))
+          where
+            go : (a b c : Bool) (k : ℕ) → eqb k 0 ≡ b → ((a && b) && not c) ≡ (a && eqb (cond c 1 k) 0)
+            go true b true k e = sym (and-false b)
+            go true b false k e = sym (and-true b) ∙ sym e
+            go false b c k e = refl
+
+        now-opened : (x : ℕ) → x < size g → (in-it x && (safe g x && closed s x)) ≡ opensCell (firstLabel g i) (heldCell g s x)
+        now-opened x h =
+            and-under (in-it x) (safe g x && closed s x) (closed s x)
+            (λ t. ap (λ (b : Bool). b && closed s x) (T→true (safe g x) (not-T (mine g x) (λ m. mine-off g i x z h m t))))
+            ∙ ap (λ (b : Bool). b && closed s x) (sym (marks x h))
+
+    -- what the sweep comes to
+    pub sweep-area : (w : List ℤ) (r : ℕ)
+        → _≡_ {A = Swept} (record { area = w; opened = r }) (fold (sweptOn (firstLabel g i)) (record { area = held g s old; opened = 0 }) (cells g))
+        → (w ≡ held g (reveal g s i) old) × (r + closedSafe g (reveal g s i) ≡ closedSafe g s)
+    sweep-area w r e =
+        let q = e ∙ ap (λ (v : List ℤ). fold (sweptOn (firstLabel g i)) (record { area = v; opened = 0 }) (cells g)) (held-cells g s old)
+        ∙ fold-sweep (size g) old room (firstLabel g i) (cells g) (heldCell g s) 0 (once-cells g) (λ x t. cells→ g x t) in (
+          ap (λ (t : Swept). t .area) q ∙ same-area (size g) old room (made (sweepCell (firstLabel g i)) (cells g) (heldCell g s)) (heldCell g (reveal g s i)) (λ x h.
+              ap (λ (b : Bool). cond b (sweepCell (firstLabel g i) (heldCell g s x)) (heldCell g s x)) (T→true (has x (cells g)) (→cells g x h)) ∙ sweep-each x h)
+              ∙ sym (held-cells g (reveal g s i) old),
+          omega (arith, ap (λ (t : Swept). t .opened) q, sweep-count),
+        )

@@ -1,0 +1,47 @@
+-- Reveals one after the other: nothing, one cell, two lists; a chord is the reveals of its square. Assumes nothing.
+use Prim.Native.Nat.{ℕ, _+_}
+use native.Mathlib.Omega.{arith}
+use mathlib.Core.Path.{_≡_, ap}
+use mathlib.Core.List.{List, [], _∷_, _++_}
+use lib.IntN.{ℤ}
+use Rattle.game.specs.Grid.{Grid, square}
+use Rattle.game.specs.Lists.{fold}
+use Rattle.game.specs.Moves.{play, reveal}
+use Rattle.game.specs.Position.{Position, closedSafe}
+use Rattle.game.proofs.Members.{fold-append}
+use Rattle.area.specs.Stages.{Stands}
+use Rattle.play.specs.Promises.{Chording, Opens, Revealing, RevealingAll}
+use Rattle.play.specs.Walks.{squareOf}
+
+pub opens-none : (rows columns : ℕ) (w : List ℤ) → Opens rows columns w [] 0 w
+opens-none rows columns w = record { revealing = λ g s old t. record { stands = t; opened-cells = omega arith } }
+
+pub opens-one : (rows columns : ℕ) (w : List ℤ) (i r : ℕ) (v : List ℤ)
+    → ((g : Grid) (s : Position) (old : List ℤ) → Stands rows columns g s old w → Revealing rows columns g s old i r v) → Opens rows columns w (i ∷ []) r v
+opens-one rows columns w i r v h =
+    record { revealing = λ g s old t. let q = h g s old t in record { stands = q .stands; opened-cells = q .opened-cells } }
+
+pub opens-both : (rows columns : ℕ) (w : List ℤ) (xs ys : List ℕ) (r q : ℕ) (v u : List ℤ)
+    → Opens rows columns w xs r v → Opens rows columns v ys q u → Opens rows columns w (xs ++ ys) (r + q) u
+opens-both rows columns w xs ys r q v u h k = record { revealing = both }
+  where
+    both : (g : Grid) (s : Position) (old : List ℤ) → Stands rows columns g s old w → RevealingAll rows columns g s old (xs ++ ys) (r + q) u
+    both g s old t =
+        let a = h .revealing g s old t in
+        let b = k .revealing g (fold (reveal g) s xs) old (a .stands) in
+        let e = fold-append (reveal g) s xs ys in
+        record { stands = rw e (b .stands); opened-cells = omega (arith, ap (closedSafe g) e, a .opened-cells, b .opened-cells) }
+
+-- the square of the grid's rows and columns
+pub square-of : (rows columns : ℕ) (g : Grid) (i : ℕ) → g .rows ≡ rows → g .columns ≡ columns → squareOf rows columns i ≡ square g i
+unfolding square
+square-of rows columns g i e f = rw (← e, ← f)
+
+-- a chord
+pub opens-chord : (rows columns : ℕ) (w : List ℤ) (i r : ℕ) (v : List ℤ) → Opens rows columns w (squareOf rows columns i) r v
+    → (g : Grid) (s : Position) (old : List ℤ) → Stands rows columns g s old w → Chording rows columns g s old i r v
+unfolding play
+opens-chord rows columns w i r v h g s old t =
+    let a = h .revealing g s old t in
+    let e = square-of rows columns g i (t .rows-are) (t .columns-are) in
+    record { stands = rw (← e) (a .stands); opened-cells = rw (← e) (a .opened-cells) }

@@ -1,0 +1,10 @@
+pub mod Rows
+pub mod Steps
+pub mod Cells
+pub mod Marks
+pub mod Held
+pub mod Changes
+pub mod Reveals
+pub mod Chords
+pub mod Makes
+pub mod Runs

@@ -1,0 +1,167 @@
+-- L by its branches, and F: what is read of a cell says which case of the reveal it is. Assumes nothing.
+use Prim.Native.Nat.{ℕ, _*_, _+_, _<_, _≤_}
+use native.Mathlib.Omega.{arith}
+use native.Mathlib.Nat.{mul-le-mul-left, mul-le-mul-right}
+use mathlib.Core.Path.{_∙_, _≡_, ap, ap₂, refl, subst, sym}
+use mathlib.Core.Bool.{Bool, _&&_, cond}
+use mathlib.Core.List.{List, [], _∷_}
+use lib.Dec.{T, T-not, eqb, eqb→eq, lt→ltb, ltb, not-T}
+use lib.IntN.{ℤ}
+use lib.ListN.{getD, set}
+use Rattle.game.specs.Grid.{Grid, mine, number, safe, size, zeroCell}
+use Rattle.game.specs.Lists.{fold, range}
+use Rattle.game.specs.Moves.{flag, legal, play, reveal}
+use Rattle.game.specs.Openings.{firstLabel}
+use Rattle.game.specs.Position.{Position, closed, closedSafe}
+use Rattle.game.proofs.Legal.{reached-after, reached-reveal}
+use Rattle.game.proofs.Played.{Played, reached-played}
+use Rattle.game.proofs.Reveal.{Revealed, opens, revealed, stays, sweeps}
+use Rattle.game.proofs.Truth.{T→false, and-both, eqb-yes, iff}
+use Rattle.area.specs.Numbers.{putAt}
+use Rattle.area.specs.Stages.{Shape, Stands, held, kind}
+use Rattle.play.specs.Promises.{Revealing}
+use Rattle.play.specs.Walks.{Swept, firstAt, kindAt, openedOne, shifted, squareOf, stateAt, sweptOn}
+use Rattle.play.proofs.Cells.{read-first, read-kind, read-state}
+use Rattle.play.proofs.Changes.{flag-area, open-area, open-count, sweep-area}
+use Rattle.play.proofs.Held.{heldCell, held-cells, kind-mine}
+
+pub few-cells : (rows columns : ℕ) → Shape rows columns → rows * columns ≤ 65025
+few-cells rows columns h = omega (arith, mul-le-mul-right columns (h .few-rows), mul-le-mul-left 255 (h .few-columns))
+
+-- a closed safe cell of number 1 or more
+reveal-one : (g : Grid) (s : Position) (i : ℕ) → T (safe g i) → T (closed s i) → (T (zeroCell g i) → ⊥) → reveal g s i ≡ set s i 1
+reveal-one g s i t u n = go (reveal g s i) (revealed g s i)
+  where
+    go : (p : Position) → Revealed g s i p → p ≡ set s i 1
+    go p (stays m) = absurd (m t u)
+    go p (opens a b m) = refl
+    go p (sweeps a b z) = absurd (n z)
+
+-- any other cell than a closed safe one
+reveal-none : (g : Grid) (s : Position) (i : ℕ) → (T (safe g i) → T (closed s i) → ⊥) → reveal g s i ≡ s
+reveal-none g s i n = go (reveal g s i) (revealed g s i)
+  where
+    go : (p : Position) → Revealed g s i p → p ≡ s
+    go p (stays m) = refl
+    go p (opens a b m) = absurd (n a b)
+    go p (sweeps a b z) = absurd (n a b)
+
+one-more : (n : ℕ) → eqb (1 + n) 1 ≡ eqb n 0
+one-more n =
+    iff (eqb (1 + n) 1) (eqb n 0) (λ t. rw (eqb-yes n 0 (omega (arith, eqb→eq (1 + n) 1 t))) tt)
+    (λ t. rw (eqb-yes (1 + n) 1 (omega (arith, eqb→eq n 0 t))) tt)
+
+module _ (rows columns : ℕ) (g : Grid) (s : Position) (old w : List ℤ) (i : ℕ) (h : i < rows * columns) (st : Stands rows columns g s old w) where
+  pub size-is : size g ≡ rows * columns
+  size-is = ap₂ _*_ (st .rows-are) (st .columns-are)
+
+  pub inside : i < size g
+  inside = omega (arith, size-is)
+
+  pub played : Played g s
+  played = reached-played g s (st .reached)
+
+  -- ---- what is read
+
+  pub kind-read : (k : ℕ) → k ≡ kindAt w i → k ≡ kind g i
+  kind-read k e = e ∙ ap (λ (v : List ℤ). kindAt v i) (st .holds-it ∙ held-cells g s old) ∙ read-kind (size g) old (st .room) (heldCell g s) i inside
+
+  pub state-read : (k : ℕ) → k ≡ stateAt w i → k ≡ getD s i 0
+  state-read k e = e ∙ ap (λ (v : List ℤ). stateAt v i) (st .holds-it ∙ held-cells g s old) ∙ read-state (size g) old (st .room) (heldCell g s) i inside
+
+  pub label-read : (k : ℕ) → k ≡ firstAt w i → k ≡ firstLabel g i
+  label-read k e = e ∙ ap (λ (v : List ℤ). firstAt v i) (st .holds-it ∙ held-cells g s old) ∙ read-first (size g) old (st .room) (heldCell g s) i inside
+
+  -- the kind tells mines and 0-cells
+  pub is-mine : (k : ℕ) → k ≡ kindAt w i → k ≡ 0 → T (mine g i)
+  is-mine k e z = subst T (sym (eqb-yes (kind g i) 0 (sym (kind-read k e) ∙ z)) ∙ kind-mine g i) tt
+
+  pub is-safe : (k : ℕ) → k ≡ kindAt w i → (k ≡ 0 → ⊥) → T (safe g i)
+  is-safe k e n = not-T (mine g i) (λ t. n (kind-read k e ∙ eqb→eq (kind g i) 0 (subst T (sym (kind-mine g i)) t)))
+
+  pub is-zero : (k : ℕ) → k ≡ kindAt w i → T (safe g i) → eqb k 1 ≡ zeroCell g i
+  unfolding kind
+  is-zero k e t =
+      ap (λ (m : ℕ). eqb m 1) (kind-read k e) ∙ ap (λ (b : Bool). eqb (cond b 0 (1 + number g i)) 1) (T→false (mine g i) t)
+      ∙ one-more (number g i)
+
+  pub is-closed : (k : ℕ) → k ≡ stateAt w i → k ≡ 0 → T (closed s i)
+  is-closed k e z = subst T (sym (eqb-yes (getD s i 0) 0 (sym (state-read k e) ∙ z))) tt
+
+  pub not-closed : (k : ℕ) → k ≡ stateAt w i → (k ≡ 0 → ⊥) → T (closed s i) → ⊥
+  not-closed k e n t = n (state-read k e ∙ eqb→eq (getD s i 0) 0 t)
+
+  -- ---- the branches
+
+  -- the area stands for the position after it
+  after : (r : ℕ) (v : List ℤ) → v ≡ held g (reveal g s i) old → r + closedSafe g (reveal g s i) ≡ closedSafe g s → Revealing rows columns g s old i r v
+  after r v e c =
+      record {
+        stands = record {
+          rows-are = st .rows-are;
+          columns-are = st .columns-are;
+          shape = st .shape;
+          room = st .room;
+          reached = reached-reveal g s i inside (st .reached);
+          holds-it = e;
+        };
+        opened-cells = c;
+      }
+
+  pub nothing-done : (T (safe g i) → T (closed s i) → ⊥) → Revealing rows columns g s old i 0 w
+  nothing-done n =
+      let e = reveal-none g s i n in
+      after 0 w (st .holds-it ∙ ap (λ (p : Position). held g p old) (sym e)) (omega (arith, ap (closedSafe g) e))
+
+  pub one-opened : (v : List ℤ) → T (safe g i) → T (closed s i) → (T (zeroCell g i) → ⊥) → v ≡ openedOne rows columns w i → Revealing rows columns g s old i 1 v
+  one-opened v t u n e =
+      let q = reveal-one g s i t u n in
+      after 1 v
+      (e ∙ rw (← st .rows-are, ← st .columns-are, st .holds-it) (open-area g s old i (st .room) inside played t u n) ∙ ap (λ (p : Position). held g p old) (sym q))
+      (omega (arith, ap (closedSafe g) q, open-count g s old i (st .room) inside played t u n))
+
+  pub opening-swept : (l r : ℕ) (v : List ℤ) → T (closed s i) → T (zeroCell g i) → l ≡ firstAt w i
+      → _≡_ {A = Swept} (record { area = v; opened = r }) (fold (sweptOn l) (record { area = w; opened = 0 }) (range 0 (rows * columns)))
+      → Revealing rows columns g s old i r v
+  opening-swept l r v u z e q =
+      let a = sweep-area g s old i (st .room) inside played z u v r (rw (← label-read l e, ← st .holds-it, size-is) q) in
+      after r v (a .0) (a .1)
+
+  -- ---- by what is read: the kind k, the state m
+
+  pub by-mine : (k : ℕ) → k ≡ kindAt w i → k ≡ 0 → Revealing rows columns g s old i 0 w
+  by-mine k e z = nothing-done (λ t u. T-not (mine g i) t (is-mine k e z))
+
+  pub by-state : (m : ℕ) → m ≡ stateAt w i → (m ≡ 0 → ⊥) → Revealing rows columns g s old i 0 w
+  by-state m e n = nothing-done (λ t u. not-closed m e n u)
+
+  module _ (k m : ℕ) (ek : k ≡ kindAt w i) (nk : k ≡ 0 → ⊥) (em : m ≡ stateAt w i) (zm : m ≡ 0) where
+    pub by-zero : (l r : ℕ) (v : List ℤ) → k ≡ 1 → l ≡ firstAt w i
+        → _≡_ {A = Swept} (record { area = v; opened = r }) (fold (sweptOn l) (record { area = w; opened = 0 }) (range 0 (rows * columns)))
+        → Revealing rows columns g s old i r v
+    by-zero l r v o e q =
+        opening-swept l r v (is-closed m em zm) (subst T (sym (eqb-yes k 1 o) ∙ is-zero k ek (is-safe k ek nk)) tt) e q
+
+    pub by-one : (v : List ℤ) → (k ≡ 1 → ⊥) → v ≡ openedOne rows columns w i → Revealing rows columns g s old i 1 v
+    by-one v n e =
+        one-opened v (is-safe k ek nk) (is-closed m em zm) (λ t. n (eqb→eq k 1 (subst T (sym (is-zero k ek (is-safe k ek nk))) t))) e
+
+  -- ---- a mine is flagged
+
+  pub flag-legal : T (mine g i) → T (closed s i) → T (legal g s (flag i))
+  unfolding legal
+  flag-legal t u =
+      and-both (ltb i (size g) && mine g i) (closed s i) (and-both (ltb i (size g)) (mine g i) (lt→ltb i (size g) inside) t) u
+
+  pub flag-stands : (u v : List ℤ) → u ≡ putAt w (5 * i + 3) 2 → v ≡ fold (shifted 1 0) u (squareOf rows columns i) → T (mine g i) → T (closed s i)
+      → Stands rows columns g (play g s (flag i)) old v
+  unfolding play
+  flag-stands u v d e t k =
+      record {
+        rows-are = st .rows-are;
+        columns-are = st .columns-are;
+        shape = st .shape;
+        room = st .room;
+        reached = reached-after g s (flag i ∷ []) (st .reached) (flag-legal t k, tt);
+        holds-it = e ∙ rw (d, ← st .rows-are, ← st .columns-are, st .holds-it) (flag-area g s old i (st .room) inside played t k);
+      }

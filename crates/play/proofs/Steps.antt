@@ -1,0 +1,95 @@
+-- The small functions by their branches: each branch is what the definition gives where its tests hold. Assumes nothing.
+use Prim.Native.Nat.{ℕ, _*_, _+_, _-_, _≤_}
+use native.Mathlib.Omega.{arith}
+use mathlib.Core.Path.{_≡_, _∙_, ap, sym}
+use mathlib.Core.Bool.{Bool, false, true}
+use mathlib.Core.List.{List}
+use lib.Dec.{eqb}
+use lib.IntN.{ℤ}
+use Rattle.game.specs.Lists.{bit, fold, range}
+use Rattle.game.proofs.Counts.{bit-le}
+use Rattle.game.proofs.Members.{fold-more}
+use Rattle.game.proofs.Truth.{eqb-no, eqb-yes}
+use Rattle.area.specs.Numbers.{putAt}
+use Rattle.play.specs.Walks.{bareAt, firstAt, kindAt, labelledAt, openedOne, opensAt, premiumAt, secondAt, shifted, squareOf, stateAt, sweptCell, sweptOn, Swept}
+
+-- ---- a premium shifts
+
+module _ (up down : ℕ) (w : List ℤ) (i k : ℕ) (e : k ≡ kindAt w i) where
+  pub shift-mine : k ≡ 0 → w ≡ shifted up down w i
+  unfolding shifted
+  shift-mine t = rw (← e, t)
+
+  pub shift-safe : (p q : ℕ) (v : List ℤ) → (k ≡ 0 → ⊥) → p ≡ premiumAt w i → q ≡ p + up - down → v ≡ putAt w (5 * i + 2) q
+      → v ≡ shifted up down w i
+  unfolding shifted
+  shift-safe p q v t f h s = s ∙ rw (← e, eqb-no k 0 t, ← f, ← h)
+
+-- ---- a label is looked for
+
+module _ (label : ℕ) (w : List ℤ) (i a : ℕ) (e : a ≡ firstAt w i) where
+  pub label-first : a ≡ label → true ≡ labelledAt label w i
+  label-first t = rw (← e, eqb-yes a label t)
+
+  pub label-second : (b : ℕ) → (a ≡ label → ⊥) → b ≡ secondAt w i → eqb b label ≡ labelledAt label w i
+  label-second b t f = rw (← e, eqb-no a label t, ← f)
+
+-- ---- a cell is swept
+
+-- the run and the answer of one cell of a sweep
+pub record CellSwept (label : ℕ) (w : List ℤ) (i : ℕ) (v : List ℤ) (r : ℕ) : Type 0 where
+  pub area : v ≡ sweptCell label w i
+  pub answer : r ≡ bit (opensAt label w i)
+
+module _ (label : ℕ) (w : List ℤ) (i : ℕ) (b : Bool) (e : b ≡ labelledAt label w i) where
+  pub sweep-other : b ≡ false → CellSwept label w i w 0
+  unfolding sweptCell opensAt
+  sweep-other t = record { area = rw (← e, t); answer = rw (← e, t) }
+
+  pub sweep-closed : (k : ℕ) (v : List ℤ) → b ≡ true → k ≡ stateAt w i → k ≡ 0 → v ≡ putAt w (5 * i + 3) 1 → CellSwept label w i v 1
+  unfolding sweptCell opensAt
+  sweep-closed k v t f h s = record { area = s ∙ rw (← e, t, ← f, h); answer = rw (← e, t, ← f, h) }
+
+  pub sweep-opened : (k p q : ℕ) (v : List ℤ) → b ≡ true → k ≡ stateAt w i → (k ≡ 0 → ⊥) → p ≡ premiumAt w i → q ≡ p - 1
+      → v ≡ putAt w (5 * i + 2) q → CellSwept label w i v 0
+  unfolding sweptCell opensAt
+  sweep-opened k p q v t f h g d s =
+      record { area = s ∙ rw (← e, t, ← f, eqb-no k 0 h, ← g, ← d); answer = rw (← e, t, ← f, eqb-no k 0 h) }
+
+pub bit-small : (b : Bool) → bit b ≤ 1
+bit-small b = bit-le b true (λ t. tt)
+
+-- a sweep goes on by one cell
+pub sweep-on : (label : ℕ) (w₀ w v : List ℤ) (k n r : ℕ)
+    → _≡_ {A = Swept} (record { area = w; opened = n }) (fold (sweptOn label) (record { area = w₀; opened = 0 }) (range 0 k))
+    → CellSwept label w k v r
+    → _≡_ {A = Swept} (record { area = v; opened = n + r }) (fold (sweptOn label) (record { area = w₀; opened = 0 }) (range 0 (k + 1)))
+unfolding sweptOn
+sweep-on label w₀ w v k n r e s =
+    rw (s .area, s .answer) (ap (λ (t : Swept). sweptOn label t k) e) ∙ sym (fold-more (sweptOn label) (record { area = w₀; opened = 0 }) 0 k (omega arith))
+
+-- ---- a cell is opened
+
+module _ (rows columns : ℕ) (w u v : List ℤ) (i k : ℕ) (p : u ≡ putAt w (5 * i + 3) 1) (q : v ≡ shifted 1 0 u i) (e : k ≡ firstAt v i) where
+  pub open-labelled : (k ≡ 0 → ⊥) → v ≡ openedOne rows columns w i
+  unfolding openedOne
+  open-labelled n = rw (← p, ← q, ← e, eqb-no k 0 n)
+
+  pub open-bare : (z : List ℤ) → k ≡ 0 → z ≡ fold (shifted 0 1) v (squareOf rows columns i) → z ≡ openedOne rows columns w i
+  unfolding openedOne
+  open-bare z t s = s ∙ rw (← p, ← q, ← e, t)
+
+-- ---- a mine without flag
+
+module _ (w : List ℤ) (i k : ℕ) (e : k ≡ kindAt w i) where
+  pub bare-safe : (k ≡ 0 → ⊥) → 0 ≡ bit (bareAt w i)
+  unfolding bareAt
+  bare-safe n = rw (← e, eqb-no k 0 n)
+
+  pub bare-flagged : (m : ℕ) → m ≡ stateAt w i → k ≡ 0 → m ≡ 2 → 0 ≡ bit (bareAt w i)
+  unfolding bareAt
+  bare-flagged m f z t = rw (← e, z, ← f, t)
+
+  pub bare-mine : (m : ℕ) → m ≡ stateAt w i → k ≡ 0 → (m ≡ 2 → ⊥) → 1 ≡ bit (bareAt w i)
+  unfolding bareAt
+  bare-mine m f z n = rw (← e, z, ← f, eqb-no m 2 n)

@@ -1,0 +1,114 @@
+-- `play::uncover`: each branch is one case of the reveal. Assumes nothing.
+use native.Mathlib.Omega.{arith}
+use Rattle.play.proofs.Reveals.{by-mine, by-one, by-state, by-zero, few-cells}
+use borrow.Author.Needs.{needs}
+use Rattle.play.proofs.uncover.Statement.{statement}
+use Rattle.play.proofs.uncover.Tie as tie
+
+mul-get : tie.Need-mul-get
+mul-get c = search needs
+
+add-get : tie.Need-add-get
+add-get c = search needs
+
+get-requires : tie.Need-get-requires
+get-requires c κs = search needs
+
+same-length : tie.Need-same-length
+same-length c = search needs
+
+returns : tie.Need-returns
+returns c = let k = c .before in
+    let b = k .before .before in
+    let a = b .args in
+    (omega arith, λ g s old t. by-mine (a .rows) (a .columns) g s old (a .work .now) (a .index) (b .pre .1 .1) t (k .get .result) (k .get .ensures .0) (c .if1 .taken))
+
+mul-get-2 : tie.Need-mul-get-2
+mul-get-2 c = search needs
+
+add-get-2 : tie.Need-add-get-2
+add-get-2 c = search needs
+
+get-requires-2 : tie.Need-get-requires-2
+get-requires-2 c κs = search needs
+
+same-length-2 : tie.Need-same-length-2
+same-length-2 c = search needs
+
+returns-2 : tie.Need-returns-2
+returns-2 c = let m = c .before in
+    let b = m .before .before .before .before .before in
+    let a = b .args in
+    (omega arith, λ g s old t. by-state (a .rows) (a .columns) g s old (a .work .now) (a .index) (b .pre .1 .1) t (m .get2 .result) (m .get2 .ensures .0) (c .if2 .taken))
+
+mul-get-3 : tie.Need-mul-get-3
+mul-get-3 c = search needs
+
+get-requires-3 : tie.Need-get-requires-3
+get-requires-3 c κs = search needs
+
+mul-sweep : tie.Need-mul-sweep
+mul-sweep c = search needs
+
+sweep-requires : tie.Need-sweep-requires
+sweep-requires c κs = search needs
+
+same-length-3 : tie.Need-same-length-3
+same-length-3 c = search needs
+
+returns-3 : tie.Need-returns-3
+returns-3 c = let q = c .before in
+    let l = q .before .before in
+    let z = l .before .before in
+    let m = z .before .before in
+    let k = m .before .before .before in
+    let b = k .before .before in
+    let a = b .args in (
+      omega (arith, few-cells (a .rows) (a .columns) (b .pre .0)),
+      λ g s old t. by-zero (a .rows) (a .columns) g s old (a .work .now) (a .index) (b .pre .1 .1) t
+          (k .get .result) (m .get2 .result) (k .get .ensures .0) (m .before .before .if1 .left) (m .get2 .ensures .0) (z .before .if2 .left)
+          (l .get3 .result) (q .sweep .result) (q .sweep .last .0) (z .if3 .taken) (l .get3 .ensures .0) (q .sweep .ensures .1),
+    )
+
+open-one-requires : tie.Need-open-one-requires
+open-one-requires c κs = search needs
+
+same-length-4 : tie.Need-same-length-4
+same-length-4 c = search needs
+
+returns-4 : tie.Need-returns-4
+returns-4 c = let q = c .before in
+    let z = q .before .before in
+    let m = z .before .before in
+    let k = m .before .before .before in
+    let b = k .before .before in
+    let a = b .args in (
+      omega arith,
+      λ g s old t. by-one (a .rows) (a .columns) g s old (a .work .now) (a .index) (b .pre .1 .1) t
+          (k .get .result) (m .get2 .result) (k .get .ensures .0) (m .before .before .if1 .left) (m .get2 .ensures .0) (z .before .if2 .left)
+          (q .open-one .last .0) (z .if3 .left) (q .open-one .ensures),
+    )
+
+pub uncover-spec : {M : Type 1} → statement M
+uncover-spec =
+    tie.close
+    (tie.spec
+    mul-get
+    add-get
+    get-requires
+    same-length
+    returns
+    mul-get-2
+    add-get-2
+    get-requires-2
+    same-length-2
+    returns-2
+    mul-get-3
+    get-requires-3
+    mul-sweep
+    sweep-requires
+    same-length-3
+    returns-3
+    open-one-requires
+    same-length-4
+    returns-4)

@@ -1,0 +1,4 @@
+-- What the moves promise of the work area.
+pub mod Walks
+pub mod Promises
+pub mod Replays

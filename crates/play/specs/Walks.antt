@@ -1,0 +1,88 @@
+-- What the small functions do to the work area, number by number. Assumes nothing.
+use Prim.Native.Nat.{ℕ, _+_, _-_, _*_, _≤_}
+use mathlib.Core.Path.{_≡_}
+use mathlib.Core.Bool.{Bool, cond, not, _&&_, _||_}
+use mathlib.Core.List.{List, [], map}
+use lib.Dec.{eqb}
+use lib.IntN.{ℤ}
+use Rattle.game.specs.Lists.{bit, concat-map, fold, range}
+use Rattle.game.specs.Grid.{square}
+use Rattle.area.specs.Numbers.{gridOf, numberAt, putAt}
+
+-- a cell's first label
+abbrev pub firstAt : List ℤ → ℕ → ℕ
+firstAt w i = numberAt w (5 * i)
+
+-- its second label
+abbrev pub secondAt : List ℤ → ℕ → ℕ
+secondAt w i = numberAt w (5 * i + 1)
+
+-- its raised premium
+abbrev pub premiumAt : List ℤ → ℕ → ℕ
+premiumAt w i = numberAt w (5 * i + 2)
+
+-- its state
+abbrev pub stateAt : List ℤ → ℕ → ℕ
+stateAt w i = numberAt w (5 * i + 3)
+
+-- its kind
+abbrev pub kindAt : List ℤ → ℕ → ℕ
+kindAt w i = numberAt w (5 * i + 4)
+
+-- a cell's square, by rows and columns alone
+abbrev pub squareOf : ℕ → ℕ → ℕ → List ℕ
+squareOf rows columns i = square (gridOf rows columns []) i
+
+-- the cells of a row, in the columns from a on that are below b
+unfoldable pub rowCells : ℕ → ℕ → ℕ → ℕ → List ℕ
+rowCells rows row a b = map (λ column. column * rows + row) (range a b)
+
+-- the cells of the rows from y on that are below z, each in the columns from a on that are below b
+unfoldable pub blockCells : ℕ → ℕ → ℕ → ℕ → ℕ → List ℕ
+blockCells rows y z a b = concat-map (λ row. rowCells rows row a b) (range y z)
+
+-- the sides of a cell's square: its rows from first on below last, its columns from a on below b
+pub record Around (rows columns i first last a b : ℕ) : Type 0 where
+  pub cells : squareOf rows columns i ≡ blockCells rows first last a b
+  pub some-rows : first ≤ last
+  pub in-rows : last ≤ rows
+  pub some-columns : a ≤ b
+  pub in-columns : b ≤ columns
+
+-- a safe cell's premium, so much up and so much down
+unfoldable pub shifted : ℕ → ℕ → List ℤ → ℕ → List ℤ
+shifted up down w i = cond (eqb (kindAt w i) 0) w (putAt w (5 * i + 2) (premiumAt w i + up - down))
+
+-- a cell of number 1 or more is opened; if it has no label, each safe cell of its square has one unit less
+unfoldable pub openedOne : ℕ → ℕ → List ℤ → ℕ → List ℤ
+openedOne rows columns w i =
+    let v = shifted 1 0 (putAt w (5 * i + 3) 1) i in
+    cond (eqb (firstAt v i) 0) (fold (shifted 0 1) v (squareOf rows columns i)) v
+
+-- the cell has the label
+abbrev pub labelledAt : ℕ → List ℤ → ℕ → Bool
+labelledAt label w i = eqb (firstAt w i) label || eqb (secondAt w i) label
+
+-- a cell of a swept opening is opened, or has one opening less if it was opened before
+unfoldable pub sweptCell : ℕ → List ℤ → ℕ → List ℤ
+sweptCell label w i =
+    cond (labelledAt label w i)
+    (cond (eqb (stateAt w i) 0) (putAt w (5 * i + 3) 1) (putAt w (5 * i + 2) (premiumAt w i - 1))) w
+
+-- whether the sweep opens it
+unfoldable pub opensAt : ℕ → List ℤ → ℕ → Bool
+opensAt label w i = labelledAt label w i && eqb (stateAt w i) 0
+
+-- a work area, and how many cells were opened in it
+pub record Swept : Type 0 where
+  pub area : List ℤ
+  pub opened : ℕ
+
+-- a sweep goes on to a cell
+unfoldable pub sweptOn : ℕ → Swept → ℕ → Swept
+sweptOn label t i =
+    record { area = sweptCell label (t .area) i; opened = t .opened + bit (opensAt label (t .area) i) }
+
+-- a mine without flag
+unfoldable pub bareAt : List ℤ → ℕ → Bool
+bareAt w i = eqb (kindAt w i) 0 && not (eqb (stateAt w i) 2)

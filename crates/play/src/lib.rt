@@ -1,0 +1,413 @@
+// L, F and C on a work area that stands for a position; one replayed move, and the replay of a list.
+ghost use mathlib.Core.Path.{_≡_};
+ghost use Prim.Native.Nat.{ℕ, _+_, _*_, _-_, _<_, _≤_};
+ghost use mathlib.Core.List.{List};
+ghost use mathlib.Core.Option.{some};
+ghost use lib.Dec.{T};
+ghost use lib.IntN.{ℤ};
+ghost use lib.ListN.{length, take};
+ghost use Rattle.game.specs.Lists.{bit, count as countOf, fold, range};
+ghost use Rattle.game.specs.Grid.{Grid, mine};
+ghost use Rattle.game.specs.Position.{Position, closed as isClosed, closedSafe};
+ghost use Rattle.game.specs.Moves.{play, legal, legalRead, readMove, replayFrom, chordable as mayChord, left as leftMove, flag as flagMove, chord as chordMove};
+ghost use Rattle.area.specs.Stages.{Shape, Stands};
+ghost use Rattle.play.specs.Walks.{Around, shifted, rowCells, squareOf, openedOne, labelledAt, sweptCell, opensAt, Swept, sweptOn, bareAt};
+ghost use Rattle.play.specs.Promises.{Revealing, Opens, Chording};
+ghost use Rattle.play.specs.Replays.{Making, Replaying};
+
+// a less b, or 0.
+fn less(a: usize, b: usize) -> usize
+    ensures { λ r. ⌜ r ≡ a - b ⌝ }
+{
+    if a < b { 0 } else { a - b }
+}
+
+// The sides of a square: its rows from `first` to before `last`, its columns from `from` to before `to`.
+pub struct Sides {
+    pub first: usize,
+    pub last: usize,
+    pub from: usize,
+    pub to: usize,
+}
+
+// The sides of a cell's square.
+fn around(rows: usize, columns: usize, index: usize) -> Sides
+    requires { ⌜ index < rows * columns ⌝ }
+    ensures { λ r. ⌜ Around rows columns index (r .first) (r .last) (r .from) (r .to) ⌝ }
+{
+    let row = index % rows;
+    let column = index / rows;
+    Sides {
+        first: area::lower(row),
+        last: area::upper(row, rows),
+        from: area::lower(column),
+        to: area::upper(column, columns),
+    }
+}
+
+// A safe cell's premium, so much up and so much down.
+fn shift(work: &mut [i32], index: usize, up: usize, down: usize)
+    requires { ⌜ (5 * index + 5 ≤ length (now work)) × (up ≤ 1) ⌝ }
+    ensures { λ _. ⌜ now (work .exit) ≡ shifted up down (now (work .entry)) index ⌝ }
+{
+    let kind = area::get(work, 5 * index + 4);
+    if kind == 0 {
+        return;
+    }
+    let premium = area::get(work, 5 * index + 2);
+    area::put(work, 5 * index + 2, less(premium + up, down));
+}
+
+// The safe cells of one row, in the columns given.
+fn shift_row(
+    work: &mut [i32],
+    rows: usize,
+    columns: usize,
+    row: usize,
+    from: usize,
+    to: usize,
+    up: usize,
+    down: usize,
+)
+    requires { ⌜ (5 * (rows * columns) ≤ length (now work)) × (row < rows) × (from ≤ to) × (to ≤ columns) × (up ≤ 1) ⌝ }
+    ensures { λ _. ⌜ now (work .exit) ≡ fold (shifted up down) (now (work .entry)) (rowCells rows row from to) ⌝ }
+{
+    for column in from..to {
+        shift(work, column * rows + row, up, down);
+    }
+}
+
+// The safe cells of a square.
+fn shift_square(work: &mut [i32], rows: usize, columns: usize, index: usize, up: usize, down: usize)
+    requires { ⌜ (5 * (rows * columns) ≤ length (now work)) × (index < rows * columns) × (up ≤ 1) ⌝ }
+    ensures { λ _. ⌜ now (work .exit) ≡ fold (shifted up down) (now (work .entry)) (squareOf rows columns index) ⌝ }
+{
+    let sides = around(rows, columns, index);
+    let first = sides.first;
+    let last = sides.last;
+    let from = sides.from;
+    let to = sides.to;
+    for row in first..last {
+        shift_row(work, rows, columns, row, from, to, up, down);
+    }
+}
+
+// Opens a closed cell of number 1 or more.
+fn open_one(work: &mut [i32], rows: usize, columns: usize, index: usize)
+    requires { ⌜ (5 * (rows * columns) ≤ length (now work)) × (index < rows * columns) ⌝ }
+    ensures { λ _. ⌜ now (work .exit) ≡ openedOne rows columns (now (work .entry)) index ⌝ }
+{
+    area::put(work, 5 * index + 3, 1);
+    shift(work, index, 1, 0);
+    let label = area::get(work, 5 * index);
+    if label != 0 {
+        return;
+    }
+    shift_square(work, rows, columns, index, 0, 1);
+}
+
+// Whether the cell has the label.
+fn labelled(work: &[i32], index: usize, label: usize) -> bool
+    requires { ⌜ 5 * index + 5 ≤ length (now work) ⌝ }
+    ensures { λ r. ⌜ r ≡ labelledAt label (now (work .entry)) index ⌝ }
+{
+    let first = area::get(work, 5 * index);
+    if first == label {
+        return true;
+    }
+    let second = area::get(work, 5 * index + 1);
+    second == label
+}
+
+// One cell of a sweep: opened, or one opening less. Answers 1 if it was opened.
+fn sweep_cell(work: &mut [i32], index: usize, label: usize) -> usize
+    requires { ⌜ 5 * index + 5 ≤ length (now work) ⌝ }
+    ensures { λ r. ⌜ (now (work .exit) ≡ sweptCell label (now (work .entry)) index) × (r ≡ bit (opensAt label (now (work .entry)) index)) ⌝ }
+{
+    if !labelled(work, index, label) {
+        return 0;
+    }
+    let state = area::get(work, 5 * index + 3);
+    if state == 0 {
+        area::put(work, 5 * index + 3, 1);
+        return 1;
+    }
+    let premium = area::get(work, 5 * index + 2);
+    area::put(work, 5 * index + 2, less(premium, 1));
+    0
+}
+
+// Every cell of the opening of a label. Answers how many were opened.
+fn sweep(work: &mut [i32], cells: usize, label: usize) -> usize
+    requires { ⌜ 5 * cells ≤ length (now work) ⌝ }
+    ensures { λ r. ⌜ (r ≤ cells) × (record { area = now (work .exit); opened = r }
+        ≡ fold (sweptOn label) (record { area = now (work .entry); opened = 0 }) (range 0 cells)) ⌝ }
+{
+    let mut opened: usize = 0;
+    for index in 0..cells {
+        opened += sweep_cell(work, index, label);
+    }
+    opened
+}
+
+// A reveal, with how many cells it can open at most.
+fn uncover(work: &mut [i32], rows: usize, columns: usize, index: usize) -> usize
+    requires { ⌜ Shape rows columns ⌝ }
+    requires { ⌜ (5 * (rows * columns) ≤ length (now work)) × (index < rows * columns) ⌝ }
+    ensures { λ r. ⌜ (r ≤ 65025) × ((g : Grid) (s : Position) (old : List ℤ) → Stands rows columns g s old (now (work .entry))
+        → Revealing rows columns g s old index r (now (work .exit))) ⌝ }
+{
+    let kind = area::get(work, 5 * index + 4);
+    if kind == 0 {
+        return 0;
+    }
+    let state = area::get(work, 5 * index + 3);
+    if state != 0 {
+        return 0;
+    }
+    if kind == 1 {
+        let label = area::get(work, 5 * index);
+        return sweep(work, rows * columns, label);
+    }
+    open_one(work, rows, columns, index);
+    1
+}
+
+// L, or nothing unless the cell is closed and safe. Answers how many cells were opened.
+pub fn reveal(work: &mut [i32], rows: usize, columns: usize, index: usize) -> usize
+    requires { ⌜ Shape rows columns ⌝ }
+    requires { ⌜ (5 * (rows * columns) ≤ length (now work)) × (index < rows * columns) ⌝ }
+    ensures { λ r. ⌜ ((g : Grid) (s : Position) (old : List ℤ) → Stands rows columns g s old (now (work .entry))
+        → Revealing rows columns g s old index r (now (work .exit))) ⌝ }
+{
+    uncover(work, rows, columns, index)
+}
+
+// F on a closed mine.
+pub fn flag(work: &mut [i32], rows: usize, columns: usize, index: usize)
+    requires { ⌜ Shape rows columns ⌝ }
+    requires { ⌜ (5 * (rows * columns) ≤ length (now work)) × (index < rows * columns) ⌝ }
+    ensures { λ _. ⌜ ((g : Grid) (s : Position) (old : List ℤ) → Stands rows columns g s old (now (work .entry))
+        → T (mine g index) → T (isClosed s index) → Stands rows columns g (play g s (flagMove index)) old (now (work .exit))) ⌝ }
+{
+    area::put(work, 5 * index + 3, 2);
+    shift_square(work, rows, columns, index, 1, 0);
+}
+
+// A reveal of each cell of one row, in the columns given.
+fn reveal_row(
+    work: &mut [i32],
+    rows: usize,
+    columns: usize,
+    row: usize,
+    from: usize,
+    to: usize,
+) -> usize
+    requires { ⌜ Shape rows columns ⌝ }
+    requires { ⌜ (5 * (rows * columns) ≤ length (now work)) × (row < rows) × (from ≤ to) × (to ≤ columns) ⌝ }
+    ensures { λ r. ⌜ (r ≤ 65025 * (to - from)) × Opens rows columns (now (work .entry)) (rowCells rows row from to) r (now (work .exit)) ⌝ }
+{
+    let mut opened: usize = 0;
+    for column in from..to {
+        opened += uncover(work, rows, columns, column * rows + row);
+    }
+    opened
+}
+
+// C: a reveal of each cell of the square, by row, then column. Answers how many cells were opened.
+pub fn chord(work: &mut [i32], rows: usize, columns: usize, index: usize) -> usize
+    requires { ⌜ Shape rows columns ⌝ }
+    requires { ⌜ (5 * (rows * columns) ≤ length (now work)) × (index < rows * columns) ⌝ }
+    ensures { λ r. ⌜ ((g : Grid) (s : Position) (old : List ℤ) → Stands rows columns g s old (now (work .entry))
+        → Chording rows columns g s old index r (now (work .exit))) ⌝ }
+{
+    let sides = around(rows, columns, index);
+    let first = sides.first;
+    let last = sides.last;
+    let from = sides.from;
+    let to = sides.to;
+    let mut opened: usize = 0;
+    for row in first..last {
+        opened += reveal_row(work, rows, columns, row, from, to);
+    }
+    opened
+}
+
+// What a replayed move comes to: how many cells it opened, or that it isn't legal.
+pub enum Made {
+    Opened(usize),
+    Illegal,
+}
+
+// What a replay comes to: the safe cells still closed, or the place of the first move that isn't legal.
+pub enum Replay {
+    Whole(usize),
+    Stopped(usize),
+}
+
+// 1 for a mine without flag.
+fn unflagged(work: &[i32], index: usize) -> usize
+    requires { ⌜ 5 * index + 5 ≤ length (now work) ⌝ }
+    ensures { λ r. ⌜ r ≡ bit (bareAt (now (work .entry)) index) ⌝ }
+{
+    let kind = area::get(work, 5 * index + 4);
+    if kind > 0 {
+        return 0;
+    }
+    let state = area::get(work, 5 * index + 3);
+    if state == 2 {
+        return 0;
+    }
+    1
+}
+
+// The mines without flag in one row, in the columns given.
+fn unflagged_row(
+    work: &[i32],
+    rows: usize,
+    columns: usize,
+    row: usize,
+    from: usize,
+    to: usize,
+) -> usize
+    requires { ⌜ (5 * (rows * columns) ≤ length (now work)) × (row < rows) × (from ≤ to) × (to ≤ columns) ⌝ }
+    ensures { λ r. ⌜ (r ≤ to - from) × (r ≡ countOf (bareAt (now (work .entry))) (rowCells rows row from to)) ⌝ }
+{
+    let mut mines: usize = 0;
+    for column in from..to {
+        mines += unflagged(work, column * rows + row);
+    }
+    mines
+}
+
+// The mines without flag in a square.
+fn unflagged_square(work: &[i32], rows: usize, columns: usize, index: usize) -> usize
+    requires { ⌜ Shape rows columns ⌝ }
+    requires { ⌜ (5 * (rows * columns) ≤ length (now work)) × (index < rows * columns) ⌝ }
+    ensures { λ r. ⌜ r ≡ countOf (bareAt (now (work .entry))) (squareOf rows columns index) ⌝ }
+{
+    let sides = around(rows, columns, index);
+    let first = sides.first;
+    let last = sides.last;
+    let from = sides.from;
+    let to = sides.to;
+    let mut mines: usize = 0;
+    for row in first..last {
+        mines += unflagged_row(work, rows, columns, row, from, to);
+    }
+    mines
+}
+
+// Whether C may be played.
+fn chordable(work: &[i32], rows: usize, columns: usize, index: usize) -> bool
+    requires { ⌜ Shape rows columns ⌝ }
+    requires { ⌜ (5 * (rows * columns) ≤ length (now work)) × (index < rows * columns) ⌝ }
+    ensures { λ r. ⌜ ((g : Grid) (s : Position) (old : List ℤ) → Stands rows columns g s old (now (work .entry))
+        → r ≡ mayChord g s index) ⌝ }
+{
+    let state = area::get(work, 5 * index + 3);
+    if state != 1 {
+        return false;
+    }
+    let kind = area::get(work, 5 * index + 4);
+    if kind == 1 {
+        return false;
+    }
+    let mines = unflagged_square(work, rows, columns, index);
+    mines == 0
+}
+
+// L, if it is legal.
+fn make_left(work: &mut [i32], rows: usize, columns: usize, index: usize) -> Made
+    requires { ⌜ Shape rows columns ⌝ }
+    requires { ⌜ (5 * (rows * columns) ≤ length (now work)) × (index < rows * columns) ⌝ }
+    ensures { λ r. ⌜ ((g : Grid) (s : Position) (old : List ℤ) → Stands rows columns g s old (now (work .entry))
+        → Making rows columns g s old (legal g s (leftMove index)) (some (leftMove index)) r (now (work .entry)) (now (work .exit))) ⌝ }
+{
+    let kind = area::get(work, 5 * index + 4);
+    if kind == 0 {
+        return Made::Illegal;
+    }
+    let state = area::get(work, 5 * index + 3);
+    if state != 0 {
+        return Made::Illegal;
+    }
+    Made::Opened(reveal(work, rows, columns, index))
+}
+
+// F, if it is legal.
+fn make_flag(work: &mut [i32], rows: usize, columns: usize, index: usize) -> Made
+    requires { ⌜ Shape rows columns ⌝ }
+    requires { ⌜ (5 * (rows * columns) ≤ length (now work)) × (index < rows * columns) ⌝ }
+    ensures { λ r. ⌜ ((g : Grid) (s : Position) (old : List ℤ) → Stands rows columns g s old (now (work .entry))
+        → Making rows columns g s old (legal g s (flagMove index)) (some (flagMove index)) r (now (work .entry)) (now (work .exit))) ⌝ }
+{
+    let kind = area::get(work, 5 * index + 4);
+    if kind != 0 {
+        return Made::Illegal;
+    }
+    let state = area::get(work, 5 * index + 3);
+    if state != 0 {
+        return Made::Illegal;
+    }
+    flag(work, rows, columns, index);
+    Made::Opened(0)
+}
+
+// C, if it is legal.
+fn make_chord(work: &mut [i32], rows: usize, columns: usize, index: usize) -> Made
+    requires { ⌜ Shape rows columns ⌝ }
+    requires { ⌜ (5 * (rows * columns) ≤ length (now work)) × (index < rows * columns) ⌝ }
+    ensures { λ r. ⌜ ((g : Grid) (s : Position) (old : List ℤ) → Stands rows columns g s old (now (work .entry))
+        → Making rows columns g s old (legal g s (chordMove index)) (some (chordMove index)) r (now (work .entry)) (now (work .exit))) ⌝ }
+{
+    if !chordable(work, rows, columns, index) {
+        return Made::Illegal;
+    }
+    Made::Opened(chord(work, rows, columns, index))
+}
+
+// One replayed move: played if it is legal; else nothing changes.
+pub fn make(work: &mut [i32], rows: usize, columns: usize, word: u32) -> Made
+    requires { ⌜ Shape rows columns ⌝ }
+    requires { ⌜ 5 * (rows * columns) ≤ length (now work) ⌝ }
+    ensures { λ r. ⌜ ((g : Grid) (s : Position) (old : List ℤ) → Stands rows columns g s old (now (work .entry))
+        → Making rows columns g s old (legalRead g s (readMove word)) (readMove word) r (now (work .entry)) (now (work .exit))) ⌝ }
+{
+    let index = (word % 65536) as usize;
+    if index >= rows * columns {
+        return Made::Illegal;
+    }
+    let kind = word / 65536;
+    match kind {
+        1 => make_left(work, rows, columns, index),
+        2 => make_flag(work, rows, columns, index),
+        3 => make_chord(work, rows, columns, index),
+        _ => Made::Illegal,
+    }
+}
+
+// The first moves of a list, one after the other, from a position with so many safe cells closed. Stops at the first that isn't legal.
+pub fn run(
+    work: &mut [i32],
+    rows: usize,
+    columns: usize,
+    list: &[u32],
+    count: usize,
+    safe: usize,
+) -> Replay
+    requires { ⌜ Shape rows columns ⌝ }
+    requires { ⌜ (5 * (rows * columns) ≤ length (now work)) × (count ≤ length (now list)) ⌝ }
+    ensures { λ r. ⌜ ((g : Grid) (s : Position) (old : List ℤ) → Stands rows columns g s old (now (work .entry)) → safe ≡ closedSafe g s
+        → Replaying rows columns g old (replayFrom g 0 s (take count (now (list .entry)))) r (now (work .exit))) ⌝ }
+{
+    let mut closed = safe;
+    for place in 0..count {
+        let made = make(work, rows, columns, list[place]);
+        let Made::Opened(opened) = made else {
+            return Replay::Stopped(place);
+        };
+        closed = less(closed, opened);
+    }
+    Replay::Whole(closed)
+}
