@@ -6,3 +6,4 @@ pub mod Visits
 pub mod Places
 pub mod Exact
 pub mod Numbers
+pub mod Stacks

@@ -13,11 +13,11 @@ use Rattle.area.specs.Numbers.{natural}
 use Rattle.game.specs.Calls.{shape}
 use Rattle.game.specs.Grid.{Grid, size, square}
 use Rattle.game.specs.Lists.{has}
-use Rattle.openings.specs.Marks.{Neighbour, Ready, bordered, firstOf, freeOf, kindOf, marked, shaped}
+use Rattle.openings.specs.Marks.{Fresh, Neighbour, Ready, bordered, firstOf, freeOf, kindOf, marked, shaped}
 use Rattle.openings.specs.Spread.{Change, ClearFrom, Closed, Edge, Opened, Reach, Side, Visited, here, next, turn}
 use Rattle.game.proofs.Squares.{in-own-square, square→, →square}
 use Rattle.openings.proofs.Changes.{change-from, closed-then, edge-some, edge-then, kinds-stay, mark-change, refl-change, side-then, stays, then-side, trans-change}
-use Rattle.openings.proofs.Edges.{Fresh, marked-first, marked-other, marked-second}
+use Rattle.openings.proofs.Edges.{marked-first, marked-other, marked-second}
 use Rattle.openings.proofs.Frees.{free-le}
 
 -- what putting a border label at a cell comes to

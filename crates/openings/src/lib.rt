@@ -9,6 +9,7 @@ use cycle::label_cell;
 use marks::fresh;
 
 pub mod cycle;
+pub mod waiting;
 pub mod marks;
 
 // Labels the opening whose lowest 0-cell this is, if one begins here, as the next. Answers how many there are now.
