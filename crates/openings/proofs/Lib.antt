@@ -7,3 +7,4 @@ pub mod Places
 pub mod Exact
 pub mod Numbers
 pub mod Stacks
+pub mod Takes
