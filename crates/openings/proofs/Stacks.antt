@@ -33,7 +33,8 @@ module _ (g : Grid) (k : ℕ → ℕ) (op : ℕ) (o : 1 ≤ op) where
         long = length-set w (5 * t + 4) v;
         cells = λ i l. inl (record {
           one = getD-set-other w (5 * t + 4) (5 * i) v (pos 0) (λ e. omega arith);
-          two = getD-set-other w (5 * t + 4) (5 * i + 1) v (pos 0) (λ e. omega arith) });
+          two = getD-set-other w (5 * t + 4) (5 * i + 1) v (pos 0) (λ e. omega arith);
+        });
         others = λ i s l a b. getD-set-other w (5 * t + 4) (5 * i + s) v (pos 0) (λ e. omega arith);
         past = λ x l. getD-set-other w (5 * t + 4) x v (pos 0) (λ e. omega arith);
       }
@@ -80,7 +81,9 @@ module _ (g : Grid) (k : ℕ → ℕ) (op : ℕ) (o : 1 ≤ op) where
           | no e ↦
               let v = p .new x (record { inside = n .inside; zero-cell = n .zero-cell; before = n .before; after = omega arith }) in
               record {
-                place = v .place; from-top = v .from-top; below = omega (arith, v .below, q .grows);
+                place = v .place;
+                from-top = v .from-top;
+                below = omega (arith, v .below, q .grows);
                 is = ap natural (q .kept (v .place) (v .below)) ∙ v .is;
               }
         ];
@@ -225,7 +228,13 @@ module _ (g : Grid) (op : ℕ) (o : 1 ≤ op) (from : ℕ) where
       → Pushed g (kindOf w) op from Q w top w1 top1
   pushed-all P Q w w1 top top1 f p =
       record {
-        change = p .change; grows = p .grows; free = p .free; kept = p .kept; above = p .above; waits = p .waits; new = p .new;
+        change = p .change;
+        grows = p .grows;
+        free = p .free;
+        kept = p .kept;
+        above = p .above;
+        waits = p .waits;
+        new = p .new;
         sides = λ y h q. p .sides y h (f y h q);
       }
 

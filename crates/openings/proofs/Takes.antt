@@ -15,9 +15,9 @@ use Rattle.game.specs.Moves.{after}
 use Rattle.game.specs.Rounds.{before}
 use Rattle.openings.specs.Marks.{firstOf, freeOf, freshCell, kindOf, waitingOf}
 use Rattle.openings.specs.Spread.{Change, ClearFrom, Opened, Reach, Shut, here}
-use Rattle.openings.specs.Waits.{InSquare, Newly, Pushed, Waited, Waiting}
+use Rattle.openings.specs.Waits.{InSquare, Newly, Pushed, Visitable, Waited, Waiting}
 use Rattle.game.proofs.Squares.{in-own-square, square→}
-use Rattle.openings.proofs.Changes.{change-from, kinds-stay, reach-last, reach-trans, side-then, stays, then-side, trans-change}
+use Rattle.openings.proofs.Changes.{change-from, kind-stays, kinds-stay, reach-last, reach-trans, side-then, stays, then-side, trans-change}
 use Rattle.openings.proofs.Edges.{fresh-no, fresh-yes}
 use Rattle.openings.proofs.Frees.{free-few, free-le}
 use Rattle.openings.proofs.Stacks.{newly-reached, place-change, pushed-wait}
@@ -99,8 +99,11 @@ module _ (g : Grid) (op : ℕ) (o : 1 ≤ op) (i : ℕ) where
                     let hu = square→ g y u (n .inside) t .0 in
                     then-side g k op o i w₀ w1 w2 u hu c01 (v .sides u hu (record { beside = rw xy t })))
                 | no d ↦ inl (record {
-                    place = m .place; from-top = omega arith; below = omega (arith, m .below, v .grows);
-                    is = kept (m .place) (omega (arith, m .below)) ∙ m .is })
+                  place = m .place;
+                  from-top = omega arith;
+                  below = omega (arith, m .below, v .grows);
+                  is = kept (m .place) (omega (arith, m .below)) ∙ m .is;
+                })
               ])
               (λ m. inr (λ u t. let hu = square→ g y u (n .inside) t .0 in
               side-then g k op o i w₀ w w2 u hu (m u t) (trans-change g k op o i w w1 w2 c1 c2)))
@@ -123,3 +126,25 @@ module _ (g : Grid) (op : ℕ) (o : 1 ≤ op) (i : ℕ) where
         self = p .self;
         clear = λ c t a l. p .clear c t (omega arith) l;
       }
+
+  -- ---- the cell taken
+
+  module _ (w₀ w w1 : List ℤ) (s : ℕ) (p : Spreading g (kindOf w₀) op i w₀ w (s + 1)) (q : w1 ≡ set w (5 * s + 4) (pos 0)) where
+    taken-change : Change g (kindOf w₀) op i w w1
+    taken-change = rw q (place-change g (kindOf w₀) op o i w s (pos 0) (omega (arith, p .places)))
+
+    pub taken-visitable : Visitable (size g) (kindOf w1) (waitingOf w s) s w1
+    taken-visitable =
+        let x = waitingOf w s in
+        let l = reach-last g (kindOf w₀) (p .stack s (omega arith)) in
+        record {
+          inside = l .0;
+          zero-cell = kind-stays g (kindOf w₀) op o i w w1 taken-change x ∙ kind-stays g (kindOf w₀) op o i w₀ w (p .change) x ∙ l .1;
+          places = omega (arith, p .places, free-le g (kindOf w₀) op o i w w1 taken-change);
+        }
+
+    -- fewer 0-cells are left, or fewer wait
+    pub taken-less : (P : ℕ → Type 0) (x : ℕ) (w2 : List ℤ) (top : ℕ) → Pushed g (kindOf w1) op x P w1 s w2 top
+        → 2 * freeOf (size g) w2 + top < 2 * freeOf (size g) w + (s + 1)
+    taken-less P x w2 top v =
+        omega (arith, v .free, free-le g (kindOf w1) op o x w1 w2 (v .change), free-le g (kindOf w₀) op o i w w1 taken-change)

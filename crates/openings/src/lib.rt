@@ -9,8 +9,8 @@ use cycle::label_cell;
 use marks::fresh;
 
 pub mod cycle;
-pub mod waiting;
 pub mod marks;
+pub mod waiting;
 
 // Labels the opening whose lowest 0-cell this is, if one begins here, as the next. Answers how many there are now.
 fn begin(work: &mut [i32], rows: usize, columns: usize, count: usize, index: usize) -> usize

@@ -16,7 +16,7 @@ use Rattle.openings.proofs.Cells.{cells-small, column-of}
 use Rattle.openings.proofs.Stacks.{beside-at, border-places, pushed-again, pushed-all, pushed-cell, row-all, row-more, row-none, visitable-again}
 
 abbrev Inv-loop : tie.InvT-loop
-Inv-loop work₀ rows columns op index row top column₀ end waiting₀ work column waiting = 
+Inv-loop work₀ rows columns op index row top column₀ end waiting₀ work column waiting =
     (column₀ ≤ column)
     × Pushed (shaped rows columns) (kindOf work₀) op index (InRowBefore (shaped rows columns) index row column) work₀ top work waiting
 
@@ -65,7 +65,7 @@ upper-requires : tie.Need-upper-requires Inv-loop μ-loop
 upper-requires c κs = column-of (c .before .args .rows) (c .before .args .columns) (c .before .pre .0 .shape) (c .before .args .index) (c .before .pre .1 .0 .inside)
 
 loop-holds : tie.Need-loop-holds Inv-loop μ-loop
-loop-holds c = 
+loop-holds c =
     let s = c .before .before in
     let a = s .args in
     (omega arith, rw (c .before .lower .ensures) (row-none (shaped (a .rows) (a .columns)) (a .op) (s .pre .0 .some-label) (a .index) (a .work .now) (a .row) (a .top) (s .pre .1 .0 .inside)))
@@ -86,15 +86,22 @@ mul-wait : tie.Need-mul-wait Inv-loop μ-loop
 mul-wait c = omega (arith, cells-small (c .before .before .before .before .before .before .before .before .args .rows) (c .before .before .before .before .before .before .before .before .args .columns) (c .before .before .before .before .before .before .before .before .pre .0 .shape))
 
 wait-requires : tie.Need-wait-requires Inv-loop μ-loop
-wait-requires c κs = 
+wait-requires c κs =
     let s = c .before .before .before .before .before .before .before .before in
     let a = s .args in
     let l = c .before .before .before .before .before .loop in
     let v = visitable (c .before .before .before .before) in
-    let b = c .before .before .border in
-    (omega (arith, room (c .before .before .before .before), b .kept .0), (omega (arith, cells-small (a .rows) (a .columns) (s .pre .0 .shape)), ((s .pre .0 .some-label, s .pre .0 .fits),
-    border-places (shaped (a .rows) (a .columns)) (a .op) (s .pre .0 .some-label) (a .index) (l .work) (b .last .0) (l .column * a .rows + a .row) (l .waiting)
-    (v .inside) (v .zero-cell) (beside (c .before .before .before .before)) (room (c .before .before .before .before)) (v .places) (b .ensures))))
+    let b = c .before .before .border in (
+      omega (arith, room (c .before .before .before .before), b .kept .0),
+      (
+        omega (arith, cells-small (a .rows) (a .columns) (s .pre .0 .shape)),
+        (
+          (s .pre .0 .some-label, s .pre .0 .fits),
+          border-places (shaped (a .rows) (a .columns)) (a .op) (s .pre .0 .some-label) (a .index) (l .work) (b .last .0) (l .column * a .rows + a .row) (l .waiting)
+              (v .inside) (v .zero-cell) (beside (c .before .before .before .before)) (room (c .before .before .before .before)) (v .places) (b .ensures),
+        ),
+      ),
+    )
 
 add-column : tie.Need-add-column Inv-loop μ-loop
 add-column c = omega arith
@@ -103,7 +110,7 @@ loop-less : tie.Need-loop-less Inv-loop μ-loop
 loop-less c = omega arith
 
 loop-again : tie.Need-loop-again Inv-loop μ-loop
-loop-again c = 
+loop-again c =
     let s = c .before .before .before .before .before .before .before .before .before .before in
     let a = s .args in
     let l = c .before .before .before .before .before .before .before .loop in
@@ -112,15 +119,17 @@ loop-again c =
     let at = l .column * a .rows + a .row in
     let o = s .pre .0 .some-label in
     let q = pushed-cell g (a .op) o (a .index) (l .work) (c .before .before .before .before .border .last .0) (c .before .wait .last .0) at (l .waiting) (c .before .wait .result) (v .inside) (v .zero-cell)
-    (beside (c .before .before .before .before .before .before)) (room (c .before .before .before .before .before .before)) (v .places) (c .before .before .before .before .border .ensures) (c .before .wait .ensures) in
-    (omega (arith, l .inv .0), pushed-again g (a .op) o (a .index) (InRowBefore g (a .index) (a .row) (l .column)) (λ y. y ≡ at) (InRowBefore g (a .index) (a .row) (l .column + 1))
-    (a .work .now) (l .work) (c .before .wait .last .0) (a .top) (l .waiting) (c .before .wait .result) (λ y p. row-more g (a .op) o (a .index) y (a .row) (l .column) p) (l .inv .1) q)
+    (beside (c .before .before .before .before .before .before)) (room (c .before .before .before .before .before .before)) (v .places) (c .before .before .before .before .border .ensures) (c .before .wait .ensures) in (
+      omega (arith, l .inv .0),
+      pushed-again g (a .op) o (a .index) (InRowBefore g (a .index) (a .row) (l .column)) (λ y. y ≡ at) (InRowBefore g (a .index) (a .row) (l .column + 1))
+          (a .work .now) (l .work) (c .before .wait .last .0) (a .top) (l .waiting) (c .before .wait .result) (λ y p. row-more g (a .op) o (a .index) y (a .row) (l .column) p) (l .inv .1) q,
+    )
 
 same-length : tie.Need-same-length Inv-loop μ-loop
 same-length c = c .before .loop .inv .1 .change .long
 
 returns : tie.Need-returns Inv-loop μ-loop
-returns c = 
+returns c =
     let s = c .before .before .before .before in
     let a = s .args in
     let l = c .before .loop in

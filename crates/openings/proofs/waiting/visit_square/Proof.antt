@@ -11,7 +11,7 @@ use Rattle.openings.proofs.Stacks.{pushed-again, pushed-all, rows-all, 
 use Rattle.openings.proofs.Visits.{ready-again}
 
 abbrev Inv-loop : tie.InvT-loop
-Inv-loop work₀ rows columns op index top row₀ end waiting₀ work row waiting = 
+Inv-loop work₀ rows columns op index top row₀ end waiting₀ work row waiting =
     (row₀ ≤ row) × Pushed (shaped rows columns) (kindOf work₀) op index (BeforeRow (shaped rows columns) index row) work₀ top work waiting
 
 abbrev μ-loop : tie.MeasureT-loop
@@ -30,20 +30,23 @@ upper-requires : tie.Need-upper-requires Inv-loop μ-loop
 upper-requires c κs = row-of (c .before .args .rows) (c .before .args .columns) (c .before .pre .0 .shape) (c .before .args .index)
 
 loop-holds : tie.Need-loop-holds Inv-loop μ-loop
-loop-holds c = 
+loop-holds c =
     let s = c .before .before in
     let a = s .args in
     (omega arith, rw (c .before .lower .ensures) (rows-none (shaped (a .rows) (a .columns)) (a .op) (s .pre .0 .some-label) (a .index) (a .work .now) (a .top) (s .pre .1 .inside)))
 
 visit-row-requires : tie.Need-visit-row-requires Inv-loop μ-loop
-visit-row-requires c κs = 
+visit-row-requires c κs =
     let s = c .before .before .before .before .before in
     let a = s .args in
     let l = c .before .before .loop in
-    let g = shaped (a .rows) (a .columns) in
-    (ready-again (a .work .now) (l .work) (s .pre .0) (l .inv .1 .change .long),
-    (visitable-again g (a .op) (s .pre .0 .some-label) (a .index) (BeforeRow g (a .index) (l .row)) (a .work .now) (l .work) (a .top) (l .waiting) (l .inv .1) (s .pre .1),
-    omega (arith, c .before .before .before .before .lower .ensures, c .before .before .before .upper .ensures, c .before .loop-test .taken, l .inv .0)))
+    let g = shaped (a .rows) (a .columns) in (
+      ready-again (a .work .now) (l .work) (s .pre .0) (l .inv .1 .change .long),
+      (
+        visitable-again g (a .op) (s .pre .0 .some-label) (a .index) (BeforeRow g (a .index) (l .row)) (a .work .now) (l .work) (a .top) (l .waiting) (l .inv .1) (s .pre .1),
+        omega (arith, c .before .before .before .before .lower .ensures, c .before .before .before .upper .ensures, c .before .loop-test .taken, l .inv .0),
+      ),
+    )
 
 add-row : tie.Need-add-row Inv-loop μ-loop
 add-row c = omega arith
@@ -52,21 +55,23 @@ loop-less : tie.Need-loop-less Inv-loop μ-loop
 loop-less c = omega arith
 
 loop-again : tie.Need-loop-again Inv-loop μ-loop
-loop-again c = 
+loop-again c =
     let s = c .before .before .before .before .before .before .before in
     let a = s .args in
     let l = c .before .before .before .before .loop in
     let v = c .before .visit-row in
     let g = shaped (a .rows) (a .columns) in
-    let o = s .pre .0 .some-label in
-    (omega (arith, l .inv .0), pushed-again g (a .op) o (a .index) (BeforeRow g (a .index) (l .row)) (InRow g (a .index) (l .row)) (BeforeRow g (a .index) (l .row + 1))
-    (a .work .now) (l .work) (v .last .0) (a .top) (l .waiting) (v .result) (λ y p. rows-more g (a .op) o (a .index) y (l .row) p) (l .inv .1) (v .ensures))
+    let o = s .pre .0 .some-label in (
+      omega (arith, l .inv .0),
+      pushed-again g (a .op) o (a .index) (BeforeRow g (a .index) (l .row)) (InRow g (a .index) (l .row)) (BeforeRow g (a .index) (l .row + 1))
+          (a .work .now) (l .work) (v .last .0) (a .top) (l .waiting) (v .result) (λ y p. rows-more g (a .op) o (a .index) y (l .row) p) (l .inv .1) (v .ensures),
+    )
 
 same-length : tie.Need-same-length Inv-loop μ-loop
 same-length c = c .before .loop .inv .1 .change .long
 
 returns : tie.Need-returns Inv-loop μ-loop
-returns c = 
+returns c =
     let s = c .before .before .before .before in
     let a = s .args in
     let l = c .before .loop in

@@ -24,13 +24,13 @@ same-length : tie.Need-same-length
 same-length c = search needs
 
 returns : tie.Need-returns
-returns c = 
+returns c =
     let a = c .before .before .before .args in
     let n = fresh-no (a .cells) (a .work .now) (a .index) (c .before .fresh .result) (c .before .fresh .ensures) (c .if1 .taken) in
     record { fresh = λ f. absurd (n f); none = λ _. (refl, refl) }
 
 mark-requires : tie.Need-mark-requires
-mark-requires c κs = 
+mark-requires c κs =
     let a = c .before .before .before .before .args in
     let f = fresh-yes (a .cells) (a .work .now) (a .index) (c .before .before .fresh .result) (c .before .before .fresh .ensures) (c .before .if1 .left) in
     (omega (arith, f .inside, c .before .before .before .before .pre .0), c .before .before .before .before .pre .1 .1 .0 .1)
@@ -42,7 +42,7 @@ add-put : tie.Need-add-put
 add-put c = search needs
 
 put-requires : tie.Need-put-requires
-put-requires c κs = 
+put-requires c κs =
     let s = c .before .before .before .before .before .before .before in
     let a = s .args in
     let f = fresh-yes (a .cells) (a .work .now) (a .index) (c .before .before .before .before .before .fresh .result) (c .before .before .before .before .before .fresh .ensures) (c .before .before .before .before .if1 .left) in
@@ -56,13 +56,16 @@ same-length-2 : tie.Need-same-length-2
 same-length-2 c = search needs
 
 returns-2 : tie.Need-returns-2
-returns-2 c = 
+returns-2 c =
     let s = c .before .before .before .before .before .before .before .before .before in
     let a = s .args in
     let f = fresh-yes (a .cells) (a .work .now) (a .index) (c .before .before .before .before .before .before .before .fresh .result) (c .before .before .before .before .before .before .before .fresh .ensures) (c .before .before .before .before .before .before .if1 .left) in
     record {
-      fresh = λ _. (refl, put-at (c .before .before .before .before .mark .last .0) (marked (a .work .now) (a .index) (a .op)) (c .before .put .last .0) (a .index) (a .top)
-          (omega (arith, f .inside, s .pre .1 .0)) (c .before .before .before .before .mark .ensures) (c .before .put .ensures));
+      fresh = λ _. (
+        refl,
+        put-at (c .before .before .before .before .mark .last .0) (marked (a .work .now) (a .index) (a .op)) (c .before .put .last .0) (a .index) (a .top)
+            (omega (arith, f .inside, s .pre .1 .0)) (c .before .before .before .before .mark .ensures) (c .before .put .ensures),
+      );
       none = λ n. absurd (n f);
     }
 
