@@ -38,14 +38,6 @@ module _ (op : ℕ) (o : 1 ≤ op) where
   unfolding edgeFirst
   first-some a = split (eqb a 0) (λ e. simp e o) (λ e. simp e (let n = eqb-false a 0 e in omega arith))
 
-pub first-none : (op : ℕ) → edgeFirst op 0 ≡ op
-unfolding edgeFirst
-first-none op = refl
-
-pub first-old : (op a : ℕ) → 1 ≤ a → edgeFirst op a ≡ a
-unfolding edgeFirst
-first-old op a h = simp (ne-eqb a 0 (λ e. omega arith))
-
 -- ---- the label is put
 
 module _ (op a b : ℕ) (fit : op < 2147483648) (h : a < 2147483648) where

@@ -1,8 +1,7 @@
 // Up to 512 cells: a cell function and a neighbour function that call each other.
-ghost use Prim.Native.Nat.{ℕ, _+_, _*_, _<_, _≤_};
+ghost use Prim.Native.Nat.{_+_, _*_, _<_};
 ghost use mathlib.Core.Path.{_≡_};
-ghost use lib.ListN.{length};
-ghost use Rattle.openings.specs.Marks.{Ready, bordered, kindOf, shaped};
+ghost use Rattle.openings.specs.Marks.{Ready, kindOf, shaped};
 ghost use Rattle.openings.specs.Spread.{Opened, Visited};
 use super::marks::border;
 use super::marks::fresh;

@@ -1,6 +1,5 @@
 // Labels of the openings: by functions that call each other up to 512 cells, by waiting cells above.
-ghost use Prim.Native.Nat.{ℕ, _+_, _*_, _<_, _≤_};
-ghost use mathlib.Core.Path.{_≡_};
+ghost use Prim.Native.Nat.{_+_, _*_, _<_, _≤_};
 ghost use lib.ListN.{length};
 ghost use Rattle.area.specs.Stages.{Shape};
 ghost use Rattle.openings.specs.Marks.{Ready, kindOf, shaped};

@@ -1,6 +1,5 @@
 // Above 512 cells: cells wait in the fifth number until their squares are visited. No function calls itself.
-ghost use Prim.Native.Nat.{ℕ, _+_, _*_, _<_, _≤_, _%_};
-ghost use mathlib.Core.Path.{_≡_};
+ghost use Prim.Native.Nat.{_+_, _*_, _<_, _≤_, _%_};
 ghost use lib.ListN.{length};
 ghost use Rattle.openings.specs.Marks.{Ready, freeOf, kindOf, shaped};
 ghost use Rattle.openings.specs.Spread.{Opened};

@@ -6,7 +6,6 @@ use native.Mathlib.Omega.{arith}
 use mathlib.Core.Path.{refl}
 use Prim.Native.Nat.{_*_}
 use Rattle.openings.proofs.Edges.{fresh-no, fresh-yes}
-use Rattle.openings.proofs.Cells.{cells-small}
 
 mul-fresh : tie.Need-mul-fresh
 mul-fresh c = search needs

@@ -3,12 +3,12 @@ use Rattle.openings.proofs.waiting.spread.Statement.{statement}
 use Rattle.openings.proofs.waiting.spread.Tie as tie
 use Prim.Native.Nat.{ℕ, _*_, _+_, _-_, _<_, _≤_}
 use native.Mathlib.Omega.{arith}
-use mathlib.Core.Path.{_∙_, _≡_, subst, sym}
+use mathlib.Core.Path.{_∙_, _≡_, subst}
 use mathlib.Core.List.{List}
-use lib.IntN.{pos, ℤ}
-use lib.ListN.{length, set}
-use Rattle.openings.specs.Marks.{freeOf, kindOf, shaped, waitingOf}
-use Rattle.openings.specs.Waits.{InSquare, Pushed, Visitable, Waited}
+use lib.IntN.{ℤ}
+use lib.ListN.{length}
+use Rattle.openings.specs.Marks.{freeOf, kindOf, shaped}
+use Rattle.openings.specs.Waits.{InSquare, Pushed, Waited}
 use Rattle.openings.proofs.Cells.{cells-small}
 use Rattle.openings.proofs.Frees.{free-few}
 use Rattle.openings.proofs.Takes.{Spreading, spread-first, spread-last, spread-more, taken-less, taken-visitable}

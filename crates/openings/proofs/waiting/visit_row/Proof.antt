@@ -2,9 +2,9 @@
 use borrow.Author.Needs.{needs}
 use Rattle.openings.proofs.waiting.visit_row.Statement.{statement}
 use Rattle.openings.proofs.waiting.visit_row.Tie as tie
-use Prim.Native.Nat.{ℕ, _*_, _+_, _-_, _<_, _≤_}
+use Prim.Native.Nat.{_*_, _+_, _-_, _<_, _≤_}
 use native.Mathlib.Omega.{arith}
-use mathlib.Core.Path.{_∙_, _≡_}
+use mathlib.Core.Path.{_≡_}
 use lib.Dec.{T}
 use lib.ListN.{length}
 use Rattle.game.specs.Grid.{square}

@@ -2,7 +2,7 @@
 use Rattle.openings.proofs.waiting.visit_square.Statement.{statement}
 use Rattle.openings.proofs.waiting.visit_square.Tie as tie
 use borrow.Author.Needs.{needs}
-use Prim.Native.Nat.{ℕ, _*_, _+_, _-_, _<_, _≤_}
+use Prim.Native.Nat.{_+_, _-_, _≤_}
 use native.Mathlib.Omega.{arith}
 use Rattle.openings.specs.Marks.{kindOf, shaped}
 use Rattle.openings.specs.Waits.{BeforeRow, InRow, InSquare, Pushed}

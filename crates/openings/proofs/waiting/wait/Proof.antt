@@ -2,13 +2,13 @@
 use borrow.Author.Needs.{needs}
 use Rattle.openings.proofs.waiting.wait.Statement.{statement}
 use Rattle.openings.proofs.waiting.wait.Tie as tie
-use Prim.Native.Nat.{ℕ, _%_, _*_, _+_, _<_, _≤_}
+use Prim.Native.Nat.{ℕ, _%_, _*_, _+_, _<_}
 use native.Mathlib.Omega.{arith}
 use mathlib.Core.Path.{_∙_, _≡_, ap, refl}
 use mathlib.Core.List.{List}
 use lib.IntN.{pos, ℤ}
-use lib.ListN.{length, set}
-use Rattle.openings.specs.Marks.{Fresh, freeOf, marked}
+use lib.ListN.{set}
+use Rattle.openings.specs.Marks.{marked}
 use Rattle.openings.proofs.Edges.{fresh-no, fresh-yes}
 use Rattle.openings.proofs.Frees.{free-marked}
 
