@@ -17,13 +17,13 @@ use Rattle.game.specs.Moves.{after}
 use Rattle.game.specs.Openings.{places}
 use Rattle.game.specs.Rounds.{before}
 use Rattle.openings.specs.Marks.{Fresh, bordered, firstOf, freeOf, freshCell, kindOf, marked, waitingOf}
-use Rattle.openings.specs.Spread.{Change, Reach, here, next}
+use Rattle.openings.specs.Spread.{Change, Reach, Side, here, next}
 use Rattle.openings.specs.Waits.{BeforeRow, InRow, InRowBefore, InSquare, Newly, Pushed, Visitable, Waited}
 use Rattle.game.proofs.Squares.{column-lt, index-column, index-lt, index-of, index-row, row-lt, square→, →square}
 use Rattle.openings.proofs.Changes.{edge-some, kind-stays, kinds-stay, mark-change, refl-change, side-then, stays, then-side, trans-change}
 use Rattle.openings.proofs.Edges.{fresh-no, fresh-yes, marked-first, marked-long, marked-other, marked-second}
 use Rattle.openings.proofs.Frees.{free-le, free-marked, unlabelled-before}
-use Rattle.openings.proofs.Visits.{bordering}
+use Rattle.openings.proofs.Visits.{bordering, opened-not}
 
 module _ (g : Grid) (k : ℕ → ℕ) (op : ℕ) (o : 1 ≤ op) where
   -- a store where cells wait changes no label
@@ -91,9 +91,9 @@ module _ (g : Grid) (k : ℕ → ℕ) (op : ℕ) (o : 1 ≤ op) where
             (λ u. then-side g k op o from w w1 w2 y h (p .change) (q .sides y h u)) (f y r);
       }
 
-  -- nothing visited yet
-  pub pushed-none : (from : ℕ) (P : ℕ → Type 0) (w : List ℤ) (top : ℕ) → ((y : ℕ) → y < size g → P y → ⊥) → Pushed g k op from P w top w top
-  pushed-none from P w top f =
+  -- nothing done
+  pub pushed-still : (from : ℕ) (P : ℕ → Type 0) (w : List ℤ) (top : ℕ) → ((y : ℕ) → y < size g → P y → Side k op w w y) → Pushed g k op from P w top w top
+  pushed-still from P w top f =
       record {
         change = refl-change g k op o from w;
         grows = omega arith;
@@ -102,7 +102,7 @@ module _ (g : Grid) (k : ℕ → ℕ) (op : ℕ) (o : 1 ≤ op) where
         above = λ t h. refl;
         waits = λ t a b. absurd (omega arith);
         new = λ x n. absurd (omega (arith, n .before, n .after));
-        sides = λ y h p. absurd (f y h p);
+        sides = f;
       }
 
 -- ---- one cell
@@ -180,22 +180,10 @@ module _ (g : Grid) (op : ℕ) (o : 1 ≤ op) (from source : ℕ) (w : List ℤ)
       go false e =
           let n = fresh-no (size g) w at false (sym e) refl in
           let p = q .none n in
-          rw (p .0, p .1) (record {
-            change = refl-change g (kindOf w) op o from w;
-            grows = omega arith;
-            free = omega arith;
-            kept = λ t h. refl;
-            above = λ t h. refl;
-            waits = λ t a b. absurd (omega arith);
-            new = λ x n. absurd (omega (arith, n .before, n .after));
-            sides = λ y h p. rw (p .is) (record {
-              zero-cell = λ z. elim (ℕ-discrete (firstOf w at) 0) [
-                | yes u ↦ absurd (n (record { inside = rw (p .is) at h; zero-cell = z; unlabelled = u }))
-                | no u ↦ omega arith
-              ];
-              edge = λ z. absurd (z (p .zero-cell));
-            });
-          })
+          rw (p .0, p .1) (pushed-still g (kindOf w) op o from (Zeroed (kindOf w) at) w top (λ y h p. rw (p .is) (record {
+            zero-cell = λ z. opened-not g op o w at n .self (rw (p .is) at h) z;
+            edge = λ z. absurd (z (p .zero-cell));
+          })))
 
 -- one cell beside `from`: a border label or a place to wait
 pub pushed-cell : (g : Grid) (op : ℕ) → 1 ≤ op → (from : ℕ) (w w1 w2 : List ℤ) (at top top1 : ℕ) → from < size g → kindOf w from ≡ 1 → T (has at (square g from))
@@ -251,8 +239,8 @@ module _ (g : Grid) (op : ℕ) (o : 1 ≤ op) (from : ℕ) where
 
   pub row-none : (w : List ℤ) (row top : ℕ) → from < size g → Pushed g (kindOf w) op from (InRowBefore g from row (columnOf g from - 1)) w top w top
   row-none w row top h =
-      pushed-none g (kindOf w) op o from (InRowBefore g from row (columnOf g from - 1)) w top
-      (λ y hy p. let c = square→ g from y h (p .beside) .1 in omega (arith, c .west, p .before))
+      pushed-still g (kindOf w) op o from (InRowBefore g from row (columnOf g from - 1)) w top
+      (λ y hy p. absurd (let c = square→ g from y h (p .beside) .1 in omega (arith, c .west, p .before)))
 
   pub row-more : (y row column : ℕ) → InRowBefore g from row (column + 1) y → InRowBefore g from row column y ⊎ (y ≡ index g row column)
   row-more y row column p =
@@ -278,8 +266,8 @@ module _ (g : Grid) (op : ℕ) (o : 1 ≤ op) (from : ℕ) where
 
   pub rows-none : (w : List ℤ) (top : ℕ) → from < size g → Pushed g (kindOf w) op from (BeforeRow g from (rowOf g from - 1)) w top w top
   rows-none w top h =
-      pushed-none g (kindOf w) op o from (BeforeRow g from (rowOf g from - 1)) w top
-      (λ y hy p. let c = square→ g from y h (p .beside) .1 in omega (arith, c .north, p .before))
+      pushed-still g (kindOf w) op o from (BeforeRow g from (rowOf g from - 1)) w top
+      (λ y hy p. absurd (let c = square→ g from y h (p .beside) .1 in omega (arith, c .north, p .before)))
 
   pub rows-more : (y row : ℕ) → BeforeRow g from (row + 1) y → BeforeRow g from row y ⊎ InRow g from row y
   rows-more y row p =

@@ -8,9 +8,9 @@ use cycle::label_cell;
 use marks::fresh;
 use waiting::spread;
 
-pub mod cycle;
-pub mod marks;
-pub mod waiting;
+mod cycle;
+mod marks;
+mod waiting;
 
 // Labels the opening of a 0-cell without label, by the form for so many cells.
 fn label_opening(work: &mut [i32], rows: usize, columns: usize, op: usize, index: usize)

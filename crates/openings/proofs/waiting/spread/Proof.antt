@@ -110,8 +110,8 @@ loop-again c =
     let w1 = c .before .before .before .before .put .last .0 in
     λ w h q.
     let p = again (c .before .before .before .before .before .before .before .before) w h q in
-    let rw-room : 5 * (a .rows * a .columns) ≤ length (l .work) = omega (arith, h, p .change .long) in
-    spread-more g (a .op) (s .pre .some-label) (a .index) w (l .work) w1 (v .last .0) (l .top - 1) (v .result) rw-room p (c .before .before .before .before .put .ensures)
+    let room-now : 5 * (a .rows * a .columns) ≤ length (l .work) = omega (arith, h, p .change .long) in
+    spread-more g (a .op) (s .pre .some-label) (a .index) w (l .work) w1 (v .last .0) (l .top - 1) (v .result) room-now p (c .before .before .before .before .put .ensures)
     (subst (λ (x : ℕ). Pushed g (kindOf w1) (a .op) x (InSquare g x) w1 (l .top - 1) (v .last .0) (v .result)) (c .before .before .before .before .before .before .get .ensures .0) (v .ensures))
 
 same-length : tie.Need-same-length Inv-loop μ-loop
