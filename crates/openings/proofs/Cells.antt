@@ -1,10 +1,9 @@
 -- Rows, columns and indices within the limits: each fact by the sizes of the sides. Assumes nothing.
 use Prim.Native.Nat.{ℕ, _%_, _*_, _+_, _-_, _/_, _<_, _≤_}
-use native.Mathlib.Nat.{div-lt-iff-lt-mul, mod-lt, mul-comm, mul-le-mul, mul-le-mul-right}
+use native.Mathlib.Nat.{mod-lt, mul-le-mul}
 use native.Mathlib.Omega.{arith}
-use mathlib.Core.Path.{_≡_, _∙_, ap, sym}
-use Rattle.game.specs.Grid.{columnOf, index, rowOf, size}
-use Rattle.game.proofs.Squares.{column-lt, index-column, index-lt, index-of, index-row, row-lt}
+use mathlib.Core.Path.{_≡_}
+use Rattle.game.proofs.Squares.{column-lt, index-column, index-lt, index-of, index-row}
 use Rattle.area.specs.Stages.{Shape}
 use Rattle.openings.specs.Marks.{Neighbour, shaped}
 

@@ -1,16 +1,16 @@
 -- One more label at a cell: what it makes of the labels, and that all else stays. Putting it twice is putting it once. Assumes nothing.
 use Prim.Native.Nat.{ℕ, _%_, _*_, _+_, _<_, _≤_}
 use native.Mathlib.Omega.{arith}
-use mathlib.Core.Path.{_≡_, _∙_, ap, refl, sym}
-use mathlib.Core.Bool.{Bool, cond, false, not, true, _&&_}
+use mathlib.Core.Path.{_∙_, _≡_, ap, refl, sym}
+use mathlib.Core.Bool.{Bool, _&&_, cond, false, not, true}
 use mathlib.Core.List.{List}
+use borrow.Author.Tests.{eq-eqb, eqb-false, eqb-true, lt-ltb, ltb-true, ne-eqb}
 use lib.Dec.{eqb, ltb}
-use lib.IntN.{ℤ, pos}
+use lib.IntN.{pos, ℤ}
 use lib.ListN.{getD, length, length-set, set}
 use lib.Seq.{getD-set-other, getD-set-same}
-use borrow.Author.Tests.{eq-eqb, eqb-false, eqb-true, ltb-true, lt-ltb, ne-eqb}
 use Rattle.area.specs.Numbers.{natural, putAt}
-use Rattle.openings.specs.Marks.{bordered, edgeFirst, edgeSecond, firstOf, freshCell, kindOf, marked, numberedOf, secondOf}
+use Rattle.openings.specs.Marks.{Fresh, bordered, edgeFirst, edgeSecond, firstOf, freshCell, kindOf, marked, numberedOf, secondOf}
 
 -- a test decides
 pub split : {A : Type 0} (b : Bool) → (b ≡ true → A) → (b ≡ false → A) → A
@@ -37,14 +37,6 @@ module _ (op : ℕ) (o : 1 ≤ op) where
   pub first-some : (a : ℕ) → 1 ≤ edgeFirst op a
   unfolding edgeFirst
   first-some a = split (eqb a 0) (λ e. simp e o) (λ e. simp e (let n = eqb-false a 0 e in omega arith))
-
-pub first-none : (op : ℕ) → edgeFirst op 0 ≡ op
-unfolding edgeFirst
-first-none op = refl
-
-pub first-old : (op a : ℕ) → 1 ≤ a → edgeFirst op a ≡ a
-unfolding edgeFirst
-first-old op a h = simp (ne-eqb a 0 (λ e. omega arith))
 
 -- ---- the label is put
 
@@ -120,12 +112,6 @@ clash e = let one : _≡_ {A = ℕ} 1 0 = ap (λ (b : Bool). cond b 0 1) e in om
 both : (a b : Bool) → (a && b) ≡ true → (a ≡ true) × (b ≡ true)
 both true b e = (refl, e)
 both false b e = absurd (clash e)
-
--- a 0-cell without label
-pub record Fresh (n : ℕ) (w : List ℤ) (i : ℕ) : Type 0 where
-  pub inside : i < n
-  pub zero-cell : kindOf w i ≡ 1
-  pub unlabelled : firstOf w i ≡ 0
 
 module _ (n : ℕ) (w : List ℤ) (i : ℕ) (r : Bool) where
   pub fresh-yes : r ≡ freshCell n w i → not r ≡ false → Fresh n w i

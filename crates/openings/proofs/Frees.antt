@@ -12,14 +12,14 @@ use lib.ListN.{length}
 use Rattle.area.specs.Numbers.{natural}
 use Rattle.game.specs.Grid.{Grid, size}
 use Rattle.game.specs.Lists.{bit, has, range}
-use Rattle.openings.specs.Marks.{edgeFirst, firstOf, freeOf, freshOf, kindOf, marked}
+use Rattle.openings.specs.Marks.{Fresh, edgeFirst, firstOf, freeOf, freshOf, kindOf, marked}
 use Rattle.openings.specs.Spread.{Change}
 use Rattle.game.proofs.Counts.{bit-yes, count-drop, count-le, count-mono}
 use Rattle.game.proofs.Members.{length-from, range-has}
 use Rattle.game.proofs.Orders.{once-range}
 use Rattle.game.proofs.Truth.{and-both, and-left, and-right}
 use Rattle.openings.proofs.Changes.{kind-stays, stays}
-use Rattle.openings.proofs.Edges.{Fresh, first-some, marked-first, marked-other}
+use Rattle.openings.proofs.Edges.{first-some, marked-first, marked-other}
 
 fresh-yes? : (w : List ℤ) (i : ℕ) → T (freshOf w i) → (kindOf w i ≡ 1) × (firstOf w i ≡ 0)
 fresh-yes? w i t = (
@@ -32,7 +32,7 @@ fresh-test w i p q = simp (eq-eqb (kindOf w i) 1 p, eq-eqb (firstOf w i) 0 q)
 
 module _ (g : Grid) (k : ℕ → ℕ) (op : ℕ) (o : 1 ≤ op) where
   -- a cell without label had none before
-  unlabelled-before : (from : ℕ) (w w1 : List ℤ) → Change g k op from w w1 → (i : ℕ) → firstOf w1 i ≡ 0 → firstOf w i ≡ 0
+  pub unlabelled-before : (from : ℕ) (w w1 : List ℤ) → Change g k op from w w1 → (i : ℕ) → firstOf w1 i ≡ 0 → firstOf w i ≡ 0
   unlabelled-before from w w1 c i e =
       elim (decLe (size g) i) [
         | yes h ↦ sym (ap natural (c .past (5 * i) (omega arith))) ∙ e

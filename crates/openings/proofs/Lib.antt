@@ -6,3 +6,5 @@ pub mod Visits
 pub mod Places
 pub mod Exact
 pub mod Numbers
+pub mod Stacks
+pub mod Takes

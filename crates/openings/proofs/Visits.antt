@@ -13,11 +13,11 @@ use Rattle.area.specs.Numbers.{natural}
 use Rattle.game.specs.Calls.{shape}
 use Rattle.game.specs.Grid.{Grid, size, square}
 use Rattle.game.specs.Lists.{has}
-use Rattle.openings.specs.Marks.{Neighbour, Ready, bordered, firstOf, freeOf, kindOf, marked, shaped}
+use Rattle.openings.specs.Marks.{Fresh, Neighbour, Ready, bordered, firstOf, freeOf, kindOf, marked}
 use Rattle.openings.specs.Spread.{Change, ClearFrom, Closed, Edge, Opened, Reach, Side, Visited, here, next, turn}
 use Rattle.game.proofs.Squares.{in-own-square, square→, →square}
 use Rattle.openings.proofs.Changes.{change-from, closed-then, edge-some, edge-then, kinds-stay, mark-change, refl-change, side-then, stays, then-side, trans-change}
-use Rattle.openings.proofs.Edges.{Fresh, marked-first, marked-other, marked-second}
+use Rattle.openings.proofs.Edges.{marked-first, marked-other, marked-second}
 use Rattle.openings.proofs.Frees.{free-le}
 
 -- what putting a border label at a cell comes to
@@ -62,10 +62,7 @@ only-of g i n r h nb y t e =
     let c = s .1 in
     nb .found y (s .0) (omega (arith, c .north, c .south, c .west, c .east)) (omega (arith, c .north, c .south, c .west, c .east))
 
-module _ (rows columns op : ℕ) (o : 1 ≤ op) where
-  abbrev g : Grid
-  g = shaped rows columns
-
+module _ (g : Grid) (op : ℕ) (o : 1 ≤ op) where
   -- nothing to do
   pub opened-not : (w : List ℤ) (i : ℕ) → (Fresh (size g) w i → ⊥) → Opened g (kindOf w) op i w w
   opened-not w i f =

@@ -64,6 +64,12 @@ marked w i op =
 abbrev pub bordered : ℕ → List ℤ → ℕ → ℕ → List ℤ
 bordered n w i op = cond (numberedOf n w i) (marked w i op) w
 
+-- i is a 0-cell without label, of n cells
+pub record Fresh (n : ℕ) (w : List ℤ) (i : ℕ) : Type 0 where
+  pub inside : i < n
+  pub zero-cell : kindOf w i ≡ 1
+  pub unlabelled : firstOf w i ≡ 0
+
 -- what every function of the spread is called with: the shape, room for the cells, a label that fits
 pub record Ready (rows columns op : ℕ) (w : List ℤ) : Type 0 where
   pub shape : Shape rows columns

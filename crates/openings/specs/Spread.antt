@@ -11,7 +11,7 @@ use Rattle.game.specs.Lists.{has}
 use Rattle.game.specs.Openings.{openings}
 use Rattle.game.specs.Area.{laid}
 use Rattle.area.specs.Stages.{loadedFive, labelledFive}
-use Rattle.openings.specs.Marks.{edgeFirst, edgeSecond, firstOf, secondOf, waitingOf}
+use Rattle.openings.specs.Marks.{edgeFirst, edgeSecond, firstOf, secondOf}
 
 -- a chain of 0-cells from a on, each in the square of the one before
 pub data Reach (g : Grid) (k : ℕ → ℕ) (a : ℕ) : ℕ → Type 0 where

@@ -1,8 +1,7 @@
 // Up to 512 cells: a cell function and a neighbour function that call each other.
-ghost use Prim.Native.Nat.{ℕ, _+_, _*_, _<_, _≤_};
+ghost use Prim.Native.Nat.{_+_, _*_, _<_};
 ghost use mathlib.Core.Path.{_≡_};
-ghost use lib.ListN.{length};
-ghost use Rattle.openings.specs.Marks.{Ready, bordered, kindOf, shaped};
+ghost use Rattle.openings.specs.Marks.{Ready, kindOf, shaped};
 ghost use Rattle.openings.specs.Spread.{Opened, Visited};
 use super::marks::border;
 use super::marks::fresh;
@@ -22,7 +21,7 @@ pub fn label_cell(work: &mut [i32], rows: usize, columns: usize, op: usize, inde
     visit(work, rows, columns, op, index, 0);
 }
 
-// Visits the neighbours of a 0-cell from number k on: each gets the label, and a 0-cell without label is labelled in turn.
+// Visits the neighbours of a 0-cell from number k on: one of number 1 or more gets the label, a 0-cell without label is labelled in turn.
 pub fn visit(work: &mut [i32], rows: usize, columns: usize, op: usize, index: usize, k: usize)
     requires { ⌜ Ready rows columns op (now work) ⌝ }
     requires { ⌜ index < rows * columns ⌝ }

@@ -1,15 +1,29 @@
 // Labels of the openings: by functions that call each other up to 512 cells, by waiting cells above.
-ghost use Prim.Native.Nat.{ℕ, _+_, _*_, _<_, _≤_};
-ghost use mathlib.Core.Path.{_≡_};
+ghost use Prim.Native.Nat.{_+_, _*_, _<_, _≤_};
 ghost use lib.ListN.{length};
 ghost use Rattle.area.specs.Stages.{Shape};
 ghost use Rattle.openings.specs.Marks.{Ready, kindOf, shaped};
-ghost use Rattle.openings.specs.Spread.{Begun, Labelling};
+ghost use Rattle.openings.specs.Spread.{Begun, Labelling, Opened};
 use cycle::label_cell;
 use marks::fresh;
+use waiting::spread;
 
-pub mod cycle;
-pub mod marks;
+mod cycle;
+mod marks;
+mod waiting;
+
+// Labels the opening of a 0-cell without label, by the form for so many cells.
+fn label_opening(work: &mut [i32], rows: usize, columns: usize, op: usize, index: usize)
+    requires { ⌜ Ready rows columns op (now work) ⌝ }
+    ensures { λ _. ⌜ Opened (shaped rows columns) (kindOf (now (work .entry))) op index
+        (now (work .entry)) (now (work .exit)) ⌝ }
+{
+    if rows * columns > 512 {
+        spread(work, rows, columns, op, index);
+        return;
+    }
+    label_cell(work, rows, columns, op, index);
+}
 
 // Labels the opening whose lowest 0-cell this is, if one begins here, as the next. Answers how many there are now.
 fn begin(work: &mut [i32], rows: usize, columns: usize, count: usize, index: usize) -> usize
@@ -21,7 +35,7 @@ fn begin(work: &mut [i32], rows: usize, columns: usize, count: usize, index: usi
     if !fresh(work, rows * columns, index) {
         return count;
     }
-    label_cell(work, rows, columns, count + 1, index);
+    label_opening(work, rows, columns, count + 1, index);
     count + 1
 }
 

@@ -1,11 +1,9 @@
 // One cell: its kind and labels in the work area, its neighbours, one more label.
 ghost use mathlib.Core.Path.{_≡_};
-ghost use mathlib.Core.Bool.{_&&_, not};
-ghost use Prim.Native.Nat.{ℕ, _+_, _*_, _<_, _≤_};
-ghost use lib.Dec.{eqb, ltb};
+ghost use Prim.Native.Nat.{_+_, _*_, _<_, _≤_};
 ghost use lib.ListN.{length};
 ghost use Rattle.area.specs.Stages.{Shape};
-ghost use Rattle.openings.specs.Marks.{Neighbour, Ready, edgeFirst, edgeSecond, freshCell, bordered, marked, numberedOf, shaped};
+ghost use Rattle.openings.specs.Marks.{Neighbour, edgeFirst, edgeSecond, freshCell, bordered, marked, numberedOf, shaped};
 
 // The neighbour number k, of nine, of a cell, or the number of cells where it is off the grid.
 pub fn near(rows: usize, columns: usize, index: usize, k: usize) -> usize

@@ -6,7 +6,6 @@ use native.Mathlib.Omega.{arith}
 use mathlib.Core.Path.{refl}
 use Prim.Native.Nat.{_*_}
 use Rattle.openings.proofs.Edges.{fresh-no, fresh-yes}
-use Rattle.openings.proofs.Cells.{cells-small}
 
 mul-fresh : tie.Need-mul-fresh
 mul-fresh c = search needs
@@ -29,11 +28,11 @@ returns c =
       long = refl;
     }
 
-add-label-cell : tie.Need-add-label-cell
-add-label-cell c = search needs
+add-label-opening : tie.Need-add-label-opening
+add-label-opening c = search needs
 
-label-cell-requires : tie.Need-label-cell-requires
-label-cell-requires c κs = search needs
+label-opening-requires : tie.Need-label-opening-requires
+label-opening-requires c κs = search needs
 
 add-result : tie.Need-add-result
 add-result c = search needs
@@ -46,10 +45,10 @@ returns-2 c =
     let a = c .before .before .before .before .before .before .args in
     let f = fresh-yes (a .rows * a .columns) (a .work .now) (a .index) (c .before .before .before .before .fresh .result) (c .before .before .before .before .fresh .ensures) (c .before .before .before .if1 .left) in
     record {
-      fresh = λ p q. (refl, c .before .label-cell .ensures);
+      fresh = λ p q. (refl, c .before .label-opening .ensures);
       none = λ n. absurd (n (f .zero-cell) (f .unlabelled));
       few = omega arith;
-      long = c .before .label-cell .kept .0;
+      long = c .before .label-opening .kept .0;
     }
 
 pub begin-spec : {M : Type 1} → statement M
@@ -60,8 +59,8 @@ begin-spec =
     fresh-requires
     same-length
     returns
-    add-label-cell
-    label-cell-requires
+    add-label-opening
+    label-opening-requires
     add-result
     same-length-2
     returns-2)

@@ -86,7 +86,7 @@ label-cell-returns : (t : ℕ) → label-cell-lts.Need-returns (
 label-cell-returns t c =
     let s = c .before .before .before in
     let a = s .args in
-    opened-not (a .rows) (a .columns) (a .op) (s .pre .1 .some-label) (a .work .now) (a .index)
+    opened-not (shaped (a .rows) (a .columns)) (a .op) (s .pre .1 .some-label) (a .work .now) (a .index)
     (fresh-no (a .rows * a .columns) (a .work .now) (a .index) (c .before .fresh .result) (c .before .fresh .ensures) (c .if1 .taken))
 
 label-cell-mark-requires : (t : ℕ) → label-cell-lts.Need-mark-requires (
@@ -146,7 +146,7 @@ label-cell-returns-2 t c =
     let a = s .args in
     let w = a .work .now in
     let f = fresh-yes (a .rows * a .columns) w (a .index) (c .before .before .before .before .before .before .before .fresh .result) (c .before .before .before .before .before .before .before .fresh .ensures) (c .before .before .before .before .before .before .if1 .left) in
-    opened-all (a .rows) (a .columns) (a .op) (s .pre .1 .some-label) w (c .before .before .before .before .mark .last .0) (c .before .visit .last .0) (a .index) (s .pre .1 .room) f
+    opened-all (shaped (a .rows) (a .columns)) (a .op) (s .pre .1 .some-label) w (c .before .before .before .before .mark .last .0) (c .before .visit .last .0) (a .index) (s .pre .1 .room) f
     (c .before .before .before .before .mark .ensures) (c .before .visit .ensures)
 
 -- what one neighbour has come to once `label_cell` is back
@@ -160,12 +160,12 @@ met : (t : ℕ) (c : visit-lts.After-label-cell (
   visit-below t,
   visit.Post,
 ) (visit-at t) visit.Post)
-    → Stepped (c .before .before .before .before .before .before .before .args .rows) (c .before .before .before .before .before .before .before .args .columns) (c .before .before .before .before .before .before .before .args .op) (c .before .before .before .before .before .before .before .pre .1 .0 .some-label)
+    → Stepped (shaped (c .before .before .before .before .before .before .before .args .rows) (c .before .before .before .before .before .before .before .args .columns)) (c .before .before .before .before .before .before .before .args .op) (c .before .before .before .before .before .before .before .pre .1 .0 .some-label)
     (c .before .before .before .before .before .before .before .args .index) (c .before .before .before .before .before .before .before .args .k) (c .before .before .before .before .before .before .before .args .work .now) (c .label-cell .last .0)
 met t c =
     let s = c .before .before .before .before .before .before .before in
     let a = s .args in
-    stepped (a .rows) (a .columns) (a .op) (s .pre .1 .0 .some-label) (a .work .now) (c .before .before .before .border .last .0) (c .label-cell .last .0) (a .index) (a .k) (c .before .before .before .before .before .near .result)
+    stepped (shaped (a .rows) (a .columns)) (a .op) (s .pre .1 .0 .some-label) (a .work .now) (c .before .before .before .border .last .0) (c .label-cell .last .0) (a .index) (a .k) (c .before .before .before .before .before .near .result)
     (s .pre .1 .1 .0) (s .pre .1 .1 .1) (c .before .before .before .before .before .before .if1 .left) (s .pre .1 .0 .room) (c .before .before .before .before .before .near .ensures) (c .before .before .before .border .ensures) (c .label-cell .ensures)
 
 visit-returns : (t : ℕ) → visit-lts.Need-returns (
@@ -181,7 +181,7 @@ visit-returns : (t : ℕ) → visit-lts.Need-returns (
 visit-returns t c =
     let s = c .before in
     let a = s .args in
-    visited-none (a .rows) (a .columns) (a .op) (s .pre .1 .0 .some-label) (a .work .now) (a .index) (a .k) (s .pre .1 .1 .0) (c .if1 .taken)
+    visited-none (shaped (a .rows) (a .columns)) (a .op) (s .pre .1 .0 .some-label) (a .work .now) (a .index) (a .k) (s .pre .1 .1 .0) (c .if1 .taken)
 
 visit-near-requires : (t : ℕ) → visit-lts.Need-near-requires (
   near-reads.Asked,
@@ -236,7 +236,7 @@ visit-label-cell-requires t c κs =
     let a = s .args in
     let w = a .work .now in
     let b = c .before .before .border in
-    let less = border-free (a .rows) (a .columns) (a .op) (s .pre .1 .0 .some-label) w (b .last .0) (a .index) (a .k) (c .before .before .before .before .near .result) (s .pre .1 .1 .0) (s .pre .1 .1 .1)
+    let less = border-free (shaped (a .rows) (a .columns)) (a .op) (s .pre .1 .0 .some-label) w (b .last .0) (a .index) (a .k) (c .before .before .before .before .near .result) (s .pre .1 .1 .0) (s .pre .1 .1 .1)
     (c .before .before .before .before .before .if1 .left) (s .pre .1 .0 .room) (c .before .before .before .before .near .ensures) (b .ensures) in
     (omega (arith, less, s .pre .0, c .before .before .before .before .before .if1 .left), ready-again w (b .last .0) (s .pre .1 .0) (b .kept .0))
 
@@ -303,7 +303,7 @@ visit-returns-2 : (t : ℕ) → visit-lts.Need-returns-2 (
 visit-returns-2 t c =
     let s = c .before .before .before .before .before .before .before .before .before .before .before in
     let a = s .args in
-    visited-more (a .rows) (a .columns) (a .op) (s .pre .1 .0 .some-label) (a .work .now) (c .before .before .before .before .label-cell .last .0) (c .before .visit .last .0) (a .index) (a .k)
+    visited-more (shaped (a .rows) (a .columns)) (a .op) (s .pre .1 .0 .some-label) (a .work .now) (c .before .before .before .before .label-cell .last .0) (c .before .visit .last .0) (a .index) (a .k)
     (s .pre .1 .1 .0) (met t (c .before .before .before .before)) (c .before .visit .ensures)
 
 pub +label-cell+visit-spec : {M : Type 1} → statement M

@@ -2,7 +2,6 @@
 use borrow.Author.Needs.{needs}
 use Rattle.openings.proofs.marks.mark.Statement.{statement}
 use Rattle.openings.proofs.marks.mark.Tie as tie
-use Rattle.openings.specs.Marks.{marked}
 use Rattle.openings.proofs.Edges.{marked-by}
 
 mul-get : tie.Need-mul-get
