@@ -4,6 +4,7 @@ use mathlib.Core.Bool.{Bool, true, false, cond, _&&_}
 use mathlib.Core.List.{List, [], _∷_}
 use lib.Dec.{ltb}
 use lib.IntN.{ℤ}
+use Rattle.game.specs.Lists.{fold, range}
 use Rattle.game.specs.Rounds.{Choice, chords, clicks}
 use Rattle.area.specs.Numbers.{numberAt}
 use Rattle.choices.specs.Tests.{lookedAt}
@@ -20,6 +21,10 @@ foundFirst (x ∷ xs) = At x
 abbrev pub betterAt : Bool → List ℤ → Best → ℕ → Best
 betterAt openedOnly w b i =
     cond (ltb (b .top) (numberAt w (5 * i + 2)) && lookedAt openedOnly w i) (record { top = numberAt w (5 * i + 2); at = i }) b
+
+-- the highest raised premium of 10 or more among n cells, and the lowest cell that has it; 9 and n if there is none
+abbrev pub bestOf : Bool → List ℤ → ℕ → Best
+bestOf openedOnly w n = fold (betterAt openedOnly w) (record { top = 9; at = n }) (range 0 n)
 
 -- the cells that a choice is among
 abbrev pub candidatesOf : Choice → List ℕ

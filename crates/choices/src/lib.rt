@@ -1,6 +1,7 @@
 // Which cell a step takes.
 pub mod highest; // the highest premium, the lowest index
 pub mod units; // the lowest closed unit
+pub mod ties; // the cells that a random step draws among
 
 // What a search finds.
 pub enum Found {
