@@ -1,17 +1,13 @@
 -- `choices::highest::best`: the scan has a cell exactly if a premium reaches 0, and it is the lowest of the highest. Assumes nothing.
-use Prim.Native.Nat.{ℕ, _≤_, _<_}
+use Prim.Native.Nat.{_≤_, _<_}
 use borrow.Author.Needs.{needs}
 use mathlib.Core.Path.{_≡_, subst, sym}
-use mathlib.Core.Bool.{false}
-use lib.Dec.{ltb}
-use Rattle.game.specs.Lists.{keep, range}
-use Rattle.game.specs.Rounds.{choice, topCells}
+use Rattle.game.specs.Rounds.{topCells}
 use Rattle.choices.specs.declared.Best.{Best}
 use Rattle.choices.specs.declared.Found.the-variants.{At, Nothing}
-use Rattle.choices.specs.Tests.{candidateAt}
-use Rattle.choices.specs.Picks.{bestOf, foundFirst, forClick, candidatesOf}
+use Rattle.choices.specs.Picks.{foundFirst}
 use Rattle.choices.proofs.Held.{held-numbers}
-use Rattle.choices.proofs.Tops.{best-found, best-none, top-tells}
+use Rattle.choices.proofs.Tops.{best-found, best-none}
 use Rattle.choices.proofs.highest.best.Statement.{statement}
 use Rattle.choices.proofs.highest.best.Tie as tie
 

@@ -1,23 +1,10 @@
 -- `choices::highest::looked`: the state tells, where it is asked. Assumes nothing.
-use Prim.Native.Nat.{ℕ, _+_, _-_, _*_, _≤_, _<_}
-use native.Mathlib.Omega.{arith}
+use Prim.Native.Nat.{ℕ, _+_, _*_}
 use borrow.Author.Needs.{needs}
-use borrow.Author.Tests.{lt-ltb, le-ltb, eq-eqb, ne-eqb}
-use mathlib.Core.Path.{_≡_, refl, ap, sym, _∙_}
-use mathlib.Core.Bool.{Bool, true, false, not, cond, _&&_, _||_}
-use mathlib.Core.List.{List}
-use lib.Dec.{T, eqb, ltb}
-use lib.IntN.{ℤ}
-use lib.ListN.{length}
-use mir.Val.{boolByte}
-use Rattle.game.specs.Lists.{count, fold, range}
-use Rattle.game.proofs.Members.{fold-more}
+use mathlib.Core.Path.{ap, sym, _∙_}
+use mathlib.Core.Bool.{Bool, not, _||_}
+use lib.Dec.{eqb}
 use Rattle.area.specs.Numbers.{numberAt}
-use Rattle.area.proofs.Tests.{byte-le, count-none-yet, count-one-more}
-use Rattle.choices.specs.Tests.{lookedAt, unitAt, candidateAt}
-use Rattle.choices.specs.Picks.{betterAt, bestOf}
-use Rattle.choices.specs.declared.Best.{Best}
-use Rattle.choices.proofs.Kept.{kept-at, kept-past}
 use Rattle.choices.proofs.highest.looked.Statement.{statement}
 use Rattle.choices.proofs.highest.looked.Tie as tie
 

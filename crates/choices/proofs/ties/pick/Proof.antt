@@ -1,22 +1,14 @@
 -- `choices::ties::pick`: the places left and the candidates passed are together the place. Assumes nothing.
-use Prim.Native.Nat.{ℕ, _+_, _-_, _*_, _≤_, _<_}
+use Prim.Native.Nat.{ℕ, _+_, _-_, _≤_, _<_}
 use native.Mathlib.Omega.{arith}
 use borrow.Author.Needs.{needs}
-use borrow.Author.Tests.{lt-ltb, le-ltb, eq-eqb, ne-eqb}
-use mathlib.Core.Path.{_≡_, refl, ap, sym, subst, _∙_}
-use mathlib.Core.Bool.{Bool, true, false, not, cond, _&&_, _||_}
-use mathlib.Core.List.{List}
-use lib.Dec.{T, eqb, ltb}
-use lib.IntN.{ℤ}
-use lib.ListN.{length}
+use mathlib.Core.Path.{_≡_, refl, ap, subst}
+use mathlib.Core.Bool.{Bool, true, false}
+use lib.Dec.{T}
 use mir.Val.{boolByte}
-use Rattle.game.specs.Lists.{count, fold, range}
-use Rattle.game.proofs.Members.{fold-more}
-use Rattle.area.specs.Numbers.{numberAt}
-use Rattle.area.proofs.Tests.{byte-le, count-none-yet, count-one-more}
-use Rattle.choices.specs.Tests.{lookedAt, unitAt, candidateAt}
-use Rattle.choices.specs.Picks.{betterAt, bestOf}
-use Rattle.choices.specs.declared.Best.{Best}
+use Rattle.game.specs.Lists.{count, range}
+use Rattle.area.proofs.Tests.{count-none-yet, count-one-more}
+use Rattle.choices.specs.Tests.{candidateAt}
 use Rattle.choices.proofs.Kept.{kept-at, kept-past}
 use Rattle.choices.proofs.ties.pick.Statement.{statement}
 use Rattle.choices.proofs.ties.pick.Tie as tie

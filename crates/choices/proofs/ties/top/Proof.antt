@@ -1,17 +1,15 @@
 -- `choices::ties::top`: the scan without regard to the states tells what a random step chooses among. Assumes nothing.
-use Prim.Native.Nat.{ℕ, _≤_, _<_}
 use borrow.Author.Needs.{needs}
 use mathlib.Core.Path.{_≡_, subst, sym}
 use mathlib.Core.Bool.{false}
 use lib.Dec.{ltb}
 use Rattle.game.specs.Lists.{keep, range}
-use Rattle.game.specs.Rounds.{choice, topCells}
+use Rattle.game.specs.Rounds.{choice}
 use Rattle.choices.specs.declared.Best.{Best}
-use Rattle.choices.specs.declared.Found.the-variants.{At, Nothing}
 use Rattle.choices.specs.Tests.{candidateAt}
-use Rattle.choices.specs.Picks.{bestOf, foundFirst, forClick, candidatesOf}
+use Rattle.choices.specs.Picks.{forClick, candidatesOf}
 use Rattle.choices.proofs.Held.{held-numbers}
-use Rattle.choices.proofs.Tops.{best-found, best-none, top-tells}
+use Rattle.choices.proofs.Tops.{top-tells}
 use Rattle.choices.proofs.ties.top.Statement.{statement}
 use Rattle.choices.proofs.ties.top.Tie as tie
 
