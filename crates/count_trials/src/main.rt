@@ -1,12 +1,7 @@
 // Runs the 3BV count on document 01's boards, on boards about 512 cells and at the limits, and on every refusal, each on both sides of its edge.
+use trials::Plain;
 use zini::Counted;
 use zini::Refusal;
-
-// The number and the value of an answer.
-struct Plain {
-    number: u64,
-    value: u64,
-}
 
 fn refusal_number(refusal: Refusal) -> u64 {
     match refusal {
@@ -21,94 +16,37 @@ fn refusal_number(refusal: Refusal) -> u64 {
 
 fn taken_apart(answer: Counted) -> Plain {
     match answer {
-        Counted::Units(units) => Plain {
-            number: 0,
-            value: units as u64,
-        },
-        Counted::Refused(refusal) => Plain {
-            number: refusal_number(refusal),
-            value: 0,
-        },
+        Counted::Units(units) => made_plain(0, units as u64),
+        Counted::Refused(refusal) => made_plain(refusal_number(refusal), 0),
     }
 }
 
-// Prints a case with its answer, and says so where the answer is not the one expected.
-fn report(name: &[u8], answer: Counted, number: u64, value: u64) {
-    let got = taken_apart(answer);
-    io::write_all(1, name);
-    io::write_all(1, b" ");
-    io::print_decimal(1, got.number);
-    io::write_all(1, b" ");
-    io::print_decimal(1, got.value);
-    if got.number != number {
-        io::write_all(1, b" WRONG");
-    }
-    if got.value != value {
-        io::write_all(1, b" WRONG");
-    }
-    io::write_all(1, b"\n");
-}
-
-// Prints a number of the work area.
-fn print_signed(v: i32) {
-    if v < 0 {
-        io::write_all(1, b" -");
-        let m = -1 - v;
-        io::print_decimal(1, m as u64 + 1);
-    } else {
-        io::write_all(1, b" ");
-        io::print_decimal(1, v as u64);
+// An answer with one value.
+fn made_plain(number: u64, first: u64) -> Plain {
+    Plain {
+        number,
+        first,
+        second: 0,
     }
 }
 
-// Prints the work area.
-fn print_area(work: &[i32]) {
-    let mut k = 0;
-    while k < work.len() {
-        let v = work[k];
-        print_signed(v);
-        k += 1;
-    }
-    io::write_all(1, b"\n");
-}
-
-// Prints how many numbers of the work area are above 0 and what they come to.
-fn print_sum(work: &[i32]) {
-    let mut sum: u64 = 0;
-    let mut k = 0;
-    while k < work.len() {
-        sum = std::num::wrapping_add_u64(sum, area::get(work, k) as u64);
-        k += 1;
-    }
-    io::print_decimal(1, sum);
-    io::write_all(1, b"\n");
-}
-
-// A mine at every place that is a multiple of the step.
-fn lay_mines(grid: &mut [i32], step: usize) {
-    let mut k = 0;
-    while k < grid.len() {
-        if step != 0 {
-            if k % step == 0 {
-                grid[k] = -1;
-            }
-        }
-        k += 1;
-    }
+// The answer beside what it should be.
+fn report(name: &[u8], answer: Counted, number: u64, first: u64) {
+    trials::report(name, taken_apart(answer), made_plain(number, first));
 }
 
 // A small board: its answer and its work area, which ends with a number that must stay.
 fn small(name: &[u8], rows: usize, columns: usize, grid: &[i32], work: &mut [i32], value: u64) {
     let answer = zini::count::three_bv(rows, columns, grid, work);
     report(name, answer, 0, value);
-    print_area(work);
+    trials::print_area(work);
 }
 
 // A large board: its answer and the sum of its work area.
 fn large(name: &[u8], rows: usize, columns: usize, grid: &[i32], work: &mut [i32], value: u64) {
     let answer = zini::count::three_bv(rows, columns, grid, work);
     report(name, answer, 0, value);
-    print_sum(work);
+    trials::print_sum(work);
 }
 
 // P1 to P8.
@@ -148,12 +86,12 @@ fn about_512() {
     let mut grid = [0i32; 512];
     let mut work = [0i32; 2560];
     large(b"512 cells, no mine", 16, 32, &grid, &mut work, 1);
-    lay_mines(&mut grid, 7);
+    trials::lay_mines(&mut grid, 7);
     large(b"512 cells, every 7th", 16, 32, &grid, &mut work, 370);
     let mut next = [0i32; 513];
     let mut room = [0i32; 2565];
     large(b"513 cells, no mine", 19, 27, &next, &mut room, 1);
-    lay_mines(&mut next, 7);
+    trials::lay_mines(&mut next, 7);
     large(b"513 cells, every 7th", 19, 27, &next, &mut room, 21);
 }
 
@@ -162,7 +100,7 @@ fn largest() {
     let mut grid = [0i32; 65025];
     let mut work = [0i32; 325125];
     large(b"255 by 255, no mine", 255, 255, &grid, &mut work, 1);
-    lay_mines(&mut grid, 6);
+    trials::lay_mines(&mut grid, 6);
     large(b"255 by 255, every 6th", 255, 255, &grid, &mut work, 53678);
 }
 
@@ -214,30 +152,34 @@ fn refusals() {
     );
     report(
         b"a value too few",
-        zini::count::three_bv(1, 255, &grid[..254], &mut work),
+        zini::count::three_bv(16, 17, &grid, &mut work),
         2,
         0,
     );
+    trials::print_sum(&work);
+    let right = [0i32; 255];
+    let mut short = [7i32; 1274];
     report(
         b"a number too few",
-        zini::count::three_bv(255, 1, &grid[..255], &mut work[..1274]),
+        zini::count::three_bv(255, 1, &right, &mut short),
         3,
         0,
     );
-    print_sum(&work);
+    trials::print_sum(&short);
+    let mut room = [7i32; 1275];
     report(
         b"255 rows",
-        zini::count::three_bv(255, 1, &grid[..255], &mut work[..1275]),
+        zini::count::three_bv(255, 1, &right, &mut room),
         0,
         1,
     );
     report(
         b"255 columns",
-        zini::count::three_bv(1, 255, &grid[..255], &mut work[..1275]),
+        zini::count::three_bv(1, 255, &right, &mut room),
         0,
         1,
     );
-    print_sum(&work);
+    trials::print_sum(&room);
 }
 
 fn main() {
