@@ -10,7 +10,7 @@ use Rattle.game.specs.Grid.{Grid, size}
 use Rattle.game.specs.Openings.{threeBV}
 use Rattle.game.specs.Position.{untouched, closedSafe}
 use Rattle.game.specs.Moves.{Move, after, Replayed, whole, stopped, replayFrom}
-use Rattle.game.specs.Rounds.{Step, movesOf, greedySteps, openingsFirstSteps, Round, randomRound, Searched, randomSearch}
+use Rattle.game.specs.Rounds.{movesOf, greedySteps, openingsFirstSteps, Round, randomRound, Searched, randomSearch}
 use Rattle.game.specs.Area.{areaOf, listOf, clearedArea, clearedList}
 
 -- ---- answers and refusals
@@ -101,34 +101,35 @@ gridChecks g ws = shapeCheck g ∷ boardCheck g ∷ workCheck g ws ∷ []
 
 -- ---- the calls
 
+-- a refusal changes nothing lent; otherwise the call comes to an outcome
+abbrev pub unless : Option Refusal → List ℤ → Outcome → Outcome
+unless (some f) ws o = record { answer = refuses f; work = ws }
+unless none ws o = o
+
+-- the same with a list
+abbrev pub unlessListed : Option Refusal → List ℤ → List ℕ → ListOutcome → ListOutcome
+unlessListed (some f) ws ms o = record { answer = refuses f; work = ws; list = ms }
+unlessListed none ws ms o = o
+
 -- the 3BV count leaves the position before any move
 unfoldable pub threeBVCall : Grid → List ℤ → Outcome
 threeBVCall g ws =
-    elim (firstGiven (gridChecks g ws)) [
-      | some f ↦ record { answer = refuses f; work = ws }
-      | none ↦ record { answer = gives (threeBV g ∷ []); work = areaOf g (untouched g) ws }
-    ]
+    unless (firstGiven (gridChecks g ws)) ws (record { answer = gives (threeBV g ∷ []); work = areaOf g (untouched g) ws })
 
 -- a round by its moves: the clicks, the position at its end, the moves written
-abbrev pub roundCall : Grid → List Step → List ℤ → List ℕ → ListOutcome
-roundCall g ts ws ms =
-    elim (firstGiven (gridChecks g ws ++ listCheck g ms ∷ [])) [
-      | some f ↦ record { answer = refuses f; work = ws; list = ms }
-      | none ↦ let played = movesOf ts in
-          record {
-            answer = gives (length played ∷ []);
-            work = areaOf g (after g (untouched g) played) ws;
-            list = listOf played ms;
-          }
-    ]
+abbrev pub playedRound : Grid → List Move → List ℤ → List ℕ → ListOutcome
+playedRound g played ws ms =
+    record { answer = gives (length played ∷ []); work = areaOf g (after g (untouched g) played) ws; list = listOf played ms }
 
 -- greedy
 unfoldable pub greedyCall : Grid → List ℤ → List ℕ → ListOutcome
-greedyCall g ws ms = roundCall g (greedySteps g) ws ms
+greedyCall g ws ms =
+    unlessListed (firstGiven (gridChecks g ws ++ listCheck g ms ∷ [])) ws ms (playedRound g (movesOf (greedySteps g)) ws ms)
 
 -- openings-first
 unfoldable pub openingsFirstCall : Grid → List ℤ → List ℕ → ListOutcome
-openingsFirstCall g ws ms = roundCall g (openingsFirstSteps g) ws ms
+openingsFirstCall g ws ms =
+    unlessListed (firstGiven (gridChecks g ws ++ listCheck g ms ∷ [])) ws ms (playedRound g (movesOf (openingsFirstSteps g)) ws ms)
 
 -- what a random round comes to: clicks and bytes used, or DRAWS, which fills work area and list with 0
 abbrev pub drawnRound : Grid → Option Round → List ℤ → List ℕ → ListOutcome
@@ -144,10 +145,7 @@ drawnRound g (some r) ws ms =
 -- a single random round
 unfoldable pub randomRoundCall : Grid → List ℤ → List ℕ → List ℕ → ListOutcome
 randomRoundCall g ws ms bytes =
-    elim (firstGiven (gridChecks g ws ++ listCheck g ms ∷ [])) [
-      | some f ↦ record { answer = refuses f; work = ws; list = ms }
-      | none ↦ drawnRound g (randomRound g bytes 0) ws ms
-    ]
+    unlessListed (firstGiven (gridChecks g ws ++ listCheck g ms ∷ [])) ws ms (drawnRound g (randomRound g bytes 0) ws ms)
 
 -- what a random search comes to: the least clicks and bytes used, with the last round left; or DRAWS
 abbrev pub drawnSearch : Grid → Option Searched → List ℤ → Outcome
@@ -158,10 +156,7 @@ drawnSearch g (some r) ws =
 -- random search over so many rounds
 unfoldable pub randomSearchCall : Grid → List ℤ → List ℕ → ℕ → Outcome
 randomSearchCall g ws bytes n =
-    elim (firstGiven (gridChecks g ws ++ roundsCheck n ∷ [])) [
-      | some f ↦ record { answer = refuses f; work = ws }
-      | none ↦ drawnSearch g (randomSearch g bytes n) ws
-    ]
+    unless (firstGiven (gridChecks g ws ++ roundsCheck n ∷ [])) ws (drawnSearch g (randomSearch g bytes n) ws)
 
 -- what a replay of n moves comes to: moves made and safe cells still closed, or MOVE with the bad move's place
 abbrev pub replayed : Grid → ℕ → Replayed → List ℤ → Outcome
@@ -172,7 +167,4 @@ replayed g n (stopped k s) ws =
 -- replay of the first n moves of a list, which stays as it is
 unfoldable pub replayCall : Grid → List ℤ → List ℕ → ℕ → Outcome
 replayCall g ws ms n =
-    elim (firstGiven (gridChecks g ws ++ countCheck n ms ∷ [])) [
-      | some f ↦ record { answer = refuses f; work = ws }
-      | none ↦ replayed g n (replayFrom g 0 (untouched g) (take n ms)) ws
-    ]
+    unless (firstGiven (gridChecks g ws ++ countCheck n ms ∷ [])) ws (replayed g n (replayFrom g 0 (untouched g) (take n ms)) ws)

@@ -1,2 +1,5 @@
 pub mod Verdict
+pub mod Promises
 pub mod Counts
+pub mod Played
+pub mod More

@@ -62,7 +62,7 @@ pub record Passed (g : Grid) (w : List ℤ) : Type 0 where
   pub whole : length (g .values) ≡ size g
   pub room : 5 * size g ≤ length w
 
-none≢some : {A : Type 0} {x : A} → some x ≡ none → ⊥
+pub none≢some : {A : Type 0} {x : A} → some x ≡ none → ⊥
 none≢some {A} e = subst given e tt
   where
     given : Option A → Type 0

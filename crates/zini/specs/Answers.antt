@@ -4,14 +4,24 @@ use mathlib.Core.Path.{_≡_}
 use mathlib.Core.List.{List, [], _∷_}
 use mathlib.Core.Option.{Option, none, some}
 use lib.IntN.{ℤ}
-use Rattle.game.specs.Calls.{Answer, Outcome, gives, refuses, shape, board, work, trace, rounds, draws}
+use lib.Dec.{ltb}
+use Rattle.game.specs.Grid.{Grid}
+use Rattle.game.specs.Calls.{Answer, Check, listCheck, ListOutcome, Outcome, gives, move, numberOf, refuses, shape, board, work, trace, rounds, draws}
 use Rattle.game.specs.Calls as Game
+use Rattle.play.specs.declared.Replay.{Replay}
+use Rattle.play.specs.declared.Replay.the-variants as Runs
 use Rattle.zini.specs.declared.Refusal.{Refusal}
 use Rattle.zini.specs.declared.Refusal.the-variants.{Shape, Board, Work, Trace, Rounds, Draws}
 use Rattle.zini.specs.declared.Checked.{Checked}
 use Rattle.zini.specs.declared.Checked.the-variants as Checks
 use Rattle.zini.specs.declared.Counted.{Counted}
 use Rattle.zini.specs.declared.Counted.the-variants as Counts
+use Rattle.zini.specs.declared.Replayed.{Replayed}
+use Rattle.zini.specs.declared.Replayed.the-variants as Replays
+use Rattle.zini.specs.declared.Priced.{Priced}
+use Rattle.zini.specs.declared.Priced.the-variants as Prices
+use Rattle.zini.specs.declared.Rolled.{Rolled}
+use Rattle.zini.specs.declared.Rolled.the-variants as Rolls
 
 -- the refusal of that name
 abbrev pub named : Refusal → Game.Refusal
@@ -27,12 +37,47 @@ abbrev pub refusalOf : Checked → Option Game.Refusal
 refusalOf Checks.Fine = none
 refusalOf (Checks.Refused f) = some (named f)
 
+-- one check more: a value below its least
+abbrev pub below : ℕ → ℕ → Refusal → List Check
+below value least f = record { given = ltb value least; refusal = named f } ∷ []
+
+-- one check more: a list below cells long
+abbrev pub listed : Grid → List ℕ → List Check
+listed g ms = listCheck g ms ∷ []
+
 -- the 3BV count: 0 and the units, or the refusal's number alone
 abbrev pub countedAnswer : Counted → Answer
 countedAnswer (Counts.Units n) = gives (n ∷ [])
 countedAnswer (Counts.Refused f) = refuses (named f)
 
+-- replay: 0, moves made and safe cells still closed; MOVE with the bad move's place; or the refusal's number alone
+abbrev pub replayedAnswer : Replayed → Answer
+replayedAnswer (Replays.Played n k) = gives (n ∷ k ∷ [])
+replayedAnswer (Replays.Move k) = record { number = numberOf move; values = k ∷ [] }
+replayedAnswer (Replays.Refused f) = refuses (named f)
+
+-- what a replay of count moves answers
+abbrev pub answered : ℕ → Replay → Replayed
+answered count (Runs.Whole closed) = Replays.Played count closed
+answered count (Runs.Stopped place) = Replays.Move place
+
+-- a round: 0 and the clicks, or the refusal's number alone
+abbrev pub pricedAnswer : Priced → Answer
+pricedAnswer (Prices.Clicks n) = gives (n ∷ [])
+pricedAnswer (Prices.Refused f) = refuses (named f)
+
+-- a random call: 0, the clicks and the draw bytes used, or the refusal's number alone
+abbrev pub rolledAnswer : Rolled → Answer
+rolledAnswer (Rolls.Clicks n k) = gives (n ∷ k ∷ [])
+rolledAnswer (Rolls.Refused f) = refuses (named f)
+
 -- a call without a list keeps its promise
 pub record Kept (promise : Outcome) (answer : Answer) (work : List ℤ) : Type 0 where
   pub answers : answer ≡ promise .answer
   pub leaves : work ≡ promise .work
+
+-- a call with a list keeps its promise
+pub record KeptList (promise : ListOutcome) (answer : Answer) (work : List ℤ) (list : List ℕ) : Type 0 where
+  pub answers : answer ≡ promise .answer
+  pub leaves : work ≡ promise .work
+  pub lists : list ≡ promise .list

@@ -2,9 +2,10 @@
 use crate::Checked;
 use crate::Refusal;
 ghost use mathlib.Core.Path.{_≡_};
+ghost use mathlib.Core.List.{_++_};
 ghost use Rattle.game.specs.Calls.{firstGiven, gridChecks};
 ghost use Rattle.area.specs.Numbers.{gridOf};
-ghost use Rattle.zini.specs.Answers.{refusalOf};
+ghost use Rattle.zini.specs.Answers.{refusalOf, below, listed};
 
 // SHAPE, BOARD, WORK.
 pub fn check(rows: usize, columns: usize, grid: &[i32], work: &[i32]) -> Checked
@@ -29,4 +30,44 @@ pub fn check(rows: usize, columns: usize, grid: &[i32], work: &[i32]) -> Checked
         return Checked::Refused(Refusal::Work);
     }
     Checked::Fine
+}
+
+// The checks of every call, then one more: a value below its least.
+pub fn check_more(
+    rows: usize,
+    columns: usize,
+    grid: &[i32],
+    work: &[i32],
+    value: usize,
+    least: usize,
+    refusal: Refusal,
+) -> Checked
+    ensures { λ r. ⌜ refusalOf r ≡ firstGiven (gridChecks (gridOf rows columns (now (grid .entry))) (now (work .entry)) ++ below value least refusal) ⌝ }
+{
+    let checked = check(rows, columns, grid, work);
+    match checked {
+        Checked::Refused(first) => Checked::Refused(first),
+        Checked::Fine => {
+            if value < least {
+                return Checked::Refused(refusal);
+            }
+            Checked::Fine
+        }
+    }
+}
+
+// SHAPE, BOARD, WORK, and TRACE for a list below cells long.
+pub fn check_list(rows: usize, columns: usize, grid: &[i32], work: &[i32], list: &[u32]) -> Checked
+    ensures { λ r. ⌜ refusalOf r ≡ firstGiven (gridChecks (gridOf rows columns (now (grid .entry))) (now (work .entry)) ++ listed (gridOf rows columns (now (grid .entry))) (now (list .entry))) ⌝ }
+{
+    let checked = check(rows, columns, grid, work);
+    match checked {
+        Checked::Refused(first) => Checked::Refused(first),
+        Checked::Fine => {
+            if list.len() < rows * columns {
+                return Checked::Refused(Refusal::Trace);
+            }
+            Checked::Fine
+        }
+    }
 }

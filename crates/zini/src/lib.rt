@@ -1,6 +1,7 @@
 // The public calls: each checks its input in document 01's order, and answers an enum.
 pub mod checks; // shape, board, work area
 pub mod count; // 3BV
+pub mod replays; // a stored list played on a board
 
 // Why a call is refused.
 pub enum Refusal {
@@ -21,5 +22,24 @@ pub enum Checked {
 // What the 3BV count answers.
 pub enum Counted {
     Units(usize),
+    Refused(Refusal),
+}
+
+// What a replay answers: moves made and safe cells still closed, or the place of the bad move.
+pub enum Replayed {
+    Played(usize, usize),
+    Move(usize),
+    Refused(Refusal),
+}
+
+// What a greedy or openings-first round answers.
+pub enum Priced {
+    Clicks(usize),
+    Refused(Refusal),
+}
+
+// What a random round or search answers: clicks and draw bytes used.
+pub enum Rolled {
+    Clicks(usize, usize),
     Refused(Refusal),
 }

@@ -1,0 +1,52 @@
+-- One check more after others: a value below its least. Assumes nothing.
+use Prim.Native.Nat.{ℕ, _<_, _≤_}
+use native.Mathlib.Omega.{arith}
+use native.Mathlib.Decide.{decLe}
+use mathlib.Core.Path.{_≡_, ap, refl, sym, _∙_}
+use mathlib.Core.Bool.{Bool, true, false}
+use mathlib.Core.List.{List, [], _∷_, _++_}
+use mathlib.Core.Option.{Option, none, some}
+use lib.Dec.{ltb}
+use lib.IntN.{ℤ}
+use Rattle.game.specs.Grid.{Grid}
+use borrow.Author.Tests.{lt-ltb, le-ltb}
+use Rattle.game.specs.Calls.{Check, Refusal, firstGiven, gridChecks}
+use Rattle.zini.proofs.Promises.{given-append, orElse}
+use Rattle.zini.proofs.Verdict.{Passed, none≢some, passed}
+
+-- the check that a value reaches its least
+abbrev pub reaches : ℕ → ℕ → Refusal → List Check
+reaches value least f = record { given = ltb value least; refusal = f } ∷ []
+
+pub first-stands : (cs ds : List Check) (f : Refusal) → some f ≡ firstGiven cs → some f ≡ firstGiven (cs ++ ds)
+unfolding orElse
+first-stands cs ds f e = ap (λ (o : Option Refusal). orElse o (firstGiven ds)) e ∙ sym (given-append cs ds)
+
+last-decides : (cs ds : List Check) → none ≡ firstGiven cs → firstGiven ds ≡ firstGiven (cs ++ ds)
+unfolding orElse
+last-decides cs ds e = ap (λ (o : Option Refusal). orElse o (firstGiven ds)) e ∙ sym (given-append cs ds)
+
+-- the verdict of one check by its test
+abbrev alone : Refusal → Bool → Option Refusal
+alone f b = firstGiven (record { given = b; refusal = f } ∷ [])
+
+pub too-low : (cs : List Check) (a b : ℕ) (f : Refusal) → none ≡ firstGiven cs → a < b → some f ≡ firstGiven (cs ++ reaches a b f)
+too-low cs a b f e h = ap (alone f) (sym (lt-ltb a b h)) ∙ last-decides cs (reaches a b f) e
+
+pub enough : (cs : List Check) (a b : ℕ) (f : Refusal) → none ≡ firstGiven cs → b ≤ a → none ≡ firstGiven (cs ++ reaches a b f)
+enough cs a b f e h = ap (alone f) (sym (le-ltb a b h)) ∙ last-decides cs (reaches a b f) e
+
+-- where the checks refuse nothing, the first of them refuse nothing
+first-none : (cs ds : List Check) → firstGiven (cs ++ ds) ≡ none → firstGiven cs ≡ none
+first-none cs ds e = go (firstGiven cs) (λ f h. first-stands cs ds f h) e
+  where
+    go : (o : Option Refusal) → ((f : Refusal) → some f ≡ o → some f ≡ firstGiven (cs ++ ds)) → firstGiven (cs ++ ds) ≡ none → o ≡ none
+    go none k e = refl
+    go (some f) k e = absurd (none≢some (k f refl ∙ e))
+
+-- where a call's checks refuse nothing: the first of them passed, and the value reaches its least
+pub all-passed : (g : Grid) (w : List ℤ) (a b : ℕ) (f : Refusal) → firstGiven (gridChecks g w ++ reaches a b f) ≡ none → Passed g w × (b ≤ a)
+all-passed g w a b f e = (passed g w first, elim (decLe b a) [ yes h ↦ h | no h ↦ absurd (none≢some (too-low (gridChecks g w) a b f (sym first) (omega arith) ∙ e)) ])
+  where
+    first : firstGiven (gridChecks g w) ≡ none
+    first = first-none (gridChecks g w) (reaches a b f) e

@@ -1,0 +1,58 @@
+-- A call keeps its promise: refused as the checks say, else by what it comes to. Assumes nothing.
+use Prim.Native.Nat.{ℕ}
+use mathlib.Core.Path.{_≡_, refl, ap, _∙_}
+use mathlib.Core.Bool.{Bool, true, false}
+use mathlib.Core.List.{List, [], _∷_, _++_}
+use mathlib.Core.Option.{Option, none, some}
+use lib.IntN.{ℤ}
+use Rattle.game.specs.Calls.{Answer, Outcome, ListOutcome, Refusal, Check, firstGiven, refuses, unless, unlessListed}
+use Rattle.zini.specs.Answers.{Kept, KeptList}
+
+-- ---- the verdict of one check more
+
+-- the verdict of the first checks, or else of the last
+unfoldable pub orElse : Option Refusal → Option Refusal → Option Refusal
+orElse none o = o
+orElse (some f) o = some f
+
+pub given-append : (cs ds : List Check) → firstGiven (cs ++ ds) ≡ orElse (firstGiven cs) (firstGiven ds)
+unfolding orElse
+given-append [] ds = refl
+given-append (c ∷ cs) ds = go (c .given) (given-append cs ds)
+  where
+    go : (b : Bool) → firstGiven (cs ++ ds) ≡ orElse (firstGiven cs) (firstGiven ds)
+        → _≡_ {A = Option Refusal} (elim b [ true ↦ some (c .refusal) | false ↦ firstGiven (cs ++ ds) ])
+        (orElse (elim b [ true ↦ some (c .refusal) | false ↦ firstGiven cs ]) (firstGiven ds))
+    go true r = refl
+    go false r = r
+
+-- ---- calls without a list
+
+pub kept-refused : (o : Option Refusal) (f : Refusal) (w : List ℤ) (x : Outcome) → some f ≡ o → Kept (unless o w x) (refuses f) w
+kept-refused o f w x e =
+    record { answers = ap (λ (v : Option Refusal). unless v w x .answer) e; leaves = ap (λ (v : Option Refusal). unless v w x .work) e }
+
+pub kept-else : (o : Option Refusal) (a : Answer) (w w′ : List ℤ) (x : Outcome) → none ≡ o → Kept x a w′ → Kept (unless o w x) a w′
+kept-else o a w w′ x e k =
+    record {
+      answers = k .answers ∙ ap (λ (v : Option Refusal). unless v w x .answer) e;
+      leaves = k .leaves ∙ ap (λ (v : Option Refusal). unless v w x .work) e;
+    }
+
+-- ---- calls with a list
+
+pub list-refused : (o : Option Refusal) (f : Refusal) (w : List ℤ) (l : List ℕ) (x : ListOutcome) → some f ≡ o → KeptList (unlessListed o w l x) (refuses f) w l
+list-refused o f w l x e =
+    record {
+      answers = ap (λ (v : Option Refusal). unlessListed v w l x .answer) e;
+      leaves = ap (λ (v : Option Refusal). unlessListed v w l x .work) e;
+      lists = ap (λ (v : Option Refusal). unlessListed v w l x .list) e;
+    }
+
+pub list-else : (o : Option Refusal) (a : Answer) (w w′ : List ℤ) (l l′ : List ℕ) (x : ListOutcome) → none ≡ o → KeptList x a w′ l′ → KeptList (unlessListed o w l x) a w′ l′
+list-else o a w w′ l l′ x e k =
+    record {
+      answers = k .answers ∙ ap (λ (v : Option Refusal). unlessListed v w l x .answer) e;
+      leaves = k .leaves ∙ ap (λ (v : Option Refusal). unlessListed v w l x .work) e;
+      lists = k .lists ∙ ap (λ (v : Option Refusal). unlessListed v w l x .list) e;
+    }

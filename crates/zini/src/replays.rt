@@ -1,0 +1,69 @@
+// Replay of a stored move list.
+use crate::Checked;
+use crate::Refusal;
+use crate::Replayed;
+ghost use mathlib.Core.Path.{_≡_};
+ghost use Prim.Native.Nat.{ℕ, _*_, _≤_};
+ghost use lib.ListN.{length, take};
+ghost use Rattle.game.specs.Position.{untouched};
+ghost use Rattle.game.specs.Moves.{replayFrom};
+ghost use Rattle.game.specs.Calls.{replayCall, replayed};
+ghost use Rattle.area.specs.Numbers.{gridOf};
+ghost use Rattle.area.specs.Stages.{Shape};
+ghost use Rattle.zini.specs.Answers.{Kept, answered, replayedAnswer};
+
+// What a replay came to.
+fn replay_answer(count: usize, played: play::Replay) -> Replayed
+    ensures { λ r. ⌜ r ≡ answered count played ⌝ }
+{
+    match played {
+        play::Replay::Whole(closed) => Replayed::Played(count, closed),
+        play::Replay::Stopped(place) => Replayed::Move(place),
+    }
+}
+
+// A replay whose input has been checked.
+fn replay_checked(
+    rows: usize,
+    columns: usize,
+    grid: &[i32],
+    work: &mut [i32],
+    list: &[u32],
+    count: usize,
+) -> Replayed
+    requires { ⌜ Shape rows columns ⌝ }
+    requires { ⌜ (length (now grid) ≡ rows * columns) × (5 * (rows * columns) ≤ length (now work)) × (count ≤ length (now list)) ⌝ }
+    ensures { λ r. ⌜ Kept (replayed (gridOf rows columns (now (grid .entry))) count (replayFrom (gridOf rows columns (now (grid .entry))) 0 (untouched (gridOf rows columns (now (grid .entry)))) (take count (now (list .entry)))) (now (work .entry))) (replayedAnswer r) (now (work .exit)) ⌝ }
+{
+    let counts = start::begin::set_up(grid, rows, columns, work);
+    let safe = counts.safe;
+    let played = play::run(work, rows, columns, list, count, safe);
+    start::begin::settle(work, rows * columns);
+    replay_answer(count, played)
+}
+
+// The first moves of a list are played on a board: how many were made, and the safe cells still closed.
+pub fn replay(
+    rows: usize,
+    columns: usize,
+    grid: &[i32],
+    work: &mut [i32],
+    list: &[u32],
+    count: usize,
+) -> Replayed
+    ensures { λ r. ⌜ Kept (replayCall (gridOf rows columns (now (grid .entry))) (now (work .entry)) (now (list .entry)) count) (replayedAnswer r) (now (work .exit)) ⌝ }
+{
+    let checked = crate::checks::check_more(
+        rows,
+        columns,
+        grid,
+        work,
+        list.len(),
+        count,
+        Refusal::Trace,
+    );
+    match checked {
+        Checked::Refused(refusal) => Replayed::Refused(refusal),
+        Checked::Fine => replay_checked(rows, columns, grid, work, list, count),
+    }
+}
