@@ -1,0 +1,8 @@
+// One step and one round on a work area that stands for a position, the moves noted in a list.
+
+// What goes from step to step: moves made, safe cells still closed, the place in the draws.
+pub struct State {
+    pub moves: usize,
+    pub closed: usize,
+    pub next: usize,
+}
