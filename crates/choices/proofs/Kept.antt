@@ -1,0 +1,94 @@
+-- The cells that pass a test, in index order: which they are, the first of them, the one at a place. Assumes nothing.
+use Rattle.choices.specs.declared.Found.the-variants.{At, Nothing}
+use Prim.Native.Nat.{ℕ, _+_, _-_, _<_, _≤_, suc, zero}
+use native.Mathlib.Omega.{arith}
+use native.Mathlib.Decide.{ℕ-discrete, decLt}
+use mathlib.Core.Path.{_∙_, _≡_, ap, refl, subst, sym}
+use mathlib.Core.Bool.{Bool, false, true}
+use mathlib.Core.List.{List, [], _∷_}
+use lib.Dec.{T}
+use lib.ListN.{List·getD-eq-default, getD}
+use Rattle.choices.specs.Picks.{foundFirst}
+use Rattle.game.specs.Lists.{bit, count, from, has, keep, range}
+use Rattle.game.proofs.Counts.{length-keep}
+use Rattle.game.proofs.Members.{first-of, has-cases, has-range, keep-has, rest-of}
+use Rattle.game.proofs.Orders.{Ordered}
+
+-- ---- lists in index order
+
+pub none-there : (xs : List ℕ) → ((x : ℕ) → T (has x xs) → ⊥) → xs ≡ []
+none-there [] n = refl
+none-there (x ∷ xs) n = absurd (first-of x xs n)
+
+-- in index order there is one list of the same cells
+pub ordered-same : (xs ys : List ℕ) → Ordered _<_ xs → Ordered _<_ ys → ((x : ℕ) → T (has x xs) → T (has x ys)) → ((x : ℕ) → T (has x ys) → T (has x xs)) → xs ≡ ys
+ordered-same [] ys o p f h = sym (none-there ys (λ x t. h x t))
+ordered-same (x ∷ xs) [] o p f h = absurd (first-of x xs f)
+ordered-same (x ∷ xs) (y ∷ ys) o p f h =
+    let e : x ≡ y = has-cases x y ys (λ q. q) (λ t. has-cases y x xs (λ q. sym q) (λ u. absurd (apart (p .0 x t) (o .0 y u))) (first-of y ys h)) (first-of x xs f) in
+    ap (λ (z : ℕ). z ∷ xs) e ∙ ap (λ (l : List ℕ). y ∷ l) (ordered-same xs ys (o .1) (p .1)
+    (λ z t. has-cases z y ys (λ q. absurd (other (o .0 z t) (q ∙ sym e))) (λ u. u) (rest-of x xs f z t))
+    (λ z t. has-cases z x xs (λ q. absurd (other (p .0 z t) (q ∙ e))) (λ u. u) (rest-of y ys h z t)))
+  where
+    apart : {a b : ℕ} → a < b → b < a → ⊥
+    apart h k = omega arith
+
+    other : {a b : ℕ} → a < b → b ≡ a → ⊥
+    other h e = omega arith
+
+pub keep-ext : (f h : ℕ → Bool) (xs : List ℕ) → ((x : ℕ) → T (has x xs) → f x ≡ h x) → keep f xs ≡ keep h xs
+keep-ext f h [] e = refl
+keep-ext f h (x ∷ xs) e =
+    ap (λ (b : Bool). elim b [ true ↦ x ∷ keep f xs | false ↦ keep f xs ]) (first-of x xs e)
+    ∙ ap (λ (l : List ℕ). elim (h x) [ true ↦ x ∷ l | false ↦ l ]) (keep-ext f h xs (rest-of x xs e))
+
+-- ---- the first that passes
+
+pub found-none : (f : ℕ → Bool) (n : ℕ) → ((j : ℕ) → j < n → T (f j) → ⊥) → Nothing ≡ foundFirst (keep f (range 0 n))
+found-none f n h =
+    sym (ap foundFirst (none-there (keep f (range 0 n)) (λ x t. let k = keep-has f x (range 0 n) t in h x (has-range 0 n x (k .0) .1) (k .1))))
+
+found-from : (f : ℕ → Bool) (n a i : ℕ) → a ≤ i → i < a + n → T (f i) → ((j : ℕ) → a ≤ j → j < i → T (f j) → ⊥) → At i ≡ foundFirst (keep f (from a n))
+found-from f zero a i h k t b = absurd (omega arith)
+found-from f (suc n) a i h k t b = go (f a) refl (λ l. found-from f n (suc a) i l (omega arith) t (λ j q. b j (omega arith)))
+  where
+    go : (c : Bool) → f a ≡ c → (a < i → At i ≡ foundFirst (keep f (from (suc a) n))) → At i ≡ foundFirst (elim c [ true ↦ a ∷ keep f (from (suc a) n) | false ↦ keep f (from (suc a) n) ])
+    go true e r = elim (decLt a i) [ yes l ↦ absurd (b a (omega arith) l (rw e tt)) | no l ↦ ap At (omega arith) ]
+    go false e r = elim (ℕ-discrete i a) [ yes q ↦ absurd (subst T (ap f q ∙ e) t) | no q ↦ r (omega arith) ]
+
+pub found-at : (f : ℕ → Bool) (n i : ℕ) → i < n → T (f i) → ((j : ℕ) → j < i → T (f j) → ⊥) → At i ≡ foundFirst (keep f (range 0 n))
+found-at f n i h t b = found-from f (n - 0) 0 i (omega arith) (omega arith) t (λ j q. b j)
+
+-- ---- the one at a place
+
+kept-from : (f : ℕ → Bool) (n a i k : ℕ) → a ≤ i → i < a + n → T (f i) → k ≡ count f (from a (i - a)) → i ≡ getD (keep f (from a n)) k 0
+kept-from f zero a i k h l t e = absurd (omega arith)
+kept-from f (suc n) a i k h l t e =
+    elim (ℕ-discrete i a) [
+      | yes q ↦ here (f a) (subst T (ap f q) t) q (e ∙ ap (λ (m : ℕ). count f (from a m)) (none i a q))
+      | no q ↦ there (f a) (e ∙ ap (λ (m : ℕ). count f (from a m)) (one i a (omega arith)))
+          (λ m p. kept-from f n (suc a) i m (omega arith) (omega arith) t p)
+    ]
+  where
+    none : (i a : ℕ) → i ≡ a → i - a ≡ 0
+    none i a q = omega arith
+
+    one : (i a : ℕ) → a < i → i - a ≡ suc (i - suc a)
+    one i a q = omega arith
+
+    here : (b : Bool) → T b → i ≡ a → k ≡ 0 → i ≡ getD (elim b [ true ↦ a ∷ keep f (from (suc a) n) | false ↦ keep f (from (suc a) n) ]) k 0
+    here true u q z = rw z q
+    here false u q z = absurd u
+
+    there : (b : Bool) → k ≡ bit b + count f (from (suc a) (i - suc a)) → ((m : ℕ) → m ≡ count f (from (suc a) (i - suc a)) → i ≡ getD (keep f (from (suc a) n)) m 0)
+        → i ≡ getD (elim b [ true ↦ a ∷ keep f (from (suc a) n) | false ↦ keep f (from (suc a) n) ]) k 0
+    there true z r =
+        let m : k ≡ suc (count f (from (suc a) (i - suc a))) = omega arith in
+        rw m (r (count f (from (suc a) (i - suc a))) refl)
+    there false z r = r k (omega arith)
+
+pub kept-at : (f : ℕ → Bool) (n i k : ℕ) → i < n → T (f i) → k ≡ count f (range 0 i) → i ≡ getD (keep f (range 0 n)) k 0
+kept-at f n i k h t e = kept-from f (n - 0) 0 i k (omega arith) (omega arith) t e
+
+pub kept-past : (f : ℕ → Bool) (n k : ℕ) → count f (range 0 n) ≤ k → 0 ≡ getD (keep f (range 0 n)) k 0
+kept-past f n k h = sym (List·getD-eq-default (keep f (range 0 n)) 0 (omega (arith, length-keep f (range 0 n))))

@@ -1,0 +1,27 @@
+-- `choices::ties::top`: the scan without regard to the states tells what a random step chooses among. Assumes nothing.
+use borrow.Author.Needs.{needs}
+use mathlib.Core.Path.{_≡_, subst, sym}
+use mathlib.Core.Bool.{false}
+use lib.Dec.{ltb}
+use Rattle.game.specs.Lists.{keep, range}
+use Rattle.game.specs.Rounds.{choice}
+use Rattle.choices.specs.declared.Best.{Best}
+use Rattle.choices.specs.Tests.{candidateAt}
+use Rattle.choices.specs.Picks.{forClick, candidatesOf}
+use Rattle.choices.proofs.Held.{held-numbers}
+use Rattle.choices.proofs.Tops.{top-tells}
+use Rattle.choices.proofs.ties.top.Statement.{statement}
+use Rattle.choices.proofs.ties.top.Tie as tie
+
+scan-requires : tie.Need-scan-requires
+scan-requires c κs = search needs
+
+returns : tie.Need-returns
+returns c =
+    λ rows columns g s old t e.
+    let a = c .before .args in
+    subst (λ (b : Best). (ltb (b .top) 10 ≡ forClick (choice false g s)) × (keep (candidateAt (b .top) (a .work .now)) (range 0 (a .cells)) ≡ candidatesOf (choice false g s)))
+    (sym (c .scan .ensures)) (top-tells g s (a .work .now) (a .cells) (held-numbers rows columns g s old (a .work .now) t) e)
+
+pub top-spec : {M : Type 1} → statement M
+top-spec = tie.close (tie.spec scan-requires returns)

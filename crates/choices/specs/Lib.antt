@@ -1,0 +1,3 @@
+-- What the choosing of a cell promises.
+pub mod Tests
+pub mod Picks

@@ -1,0 +1,20 @@
+-- Tests of one cell in a work area that stands for a position. Assumes nothing.
+use Prim.Native.Nat.{ℕ, _+_, _*_}
+use mathlib.Core.Bool.{Bool, not, cond, _&&_, _||_}
+use mathlib.Core.List.{List}
+use lib.Dec.{eqb, ltb}
+use lib.IntN.{ℤ}
+use Rattle.area.specs.Numbers.{numberAt}
+
+-- a step may look at the cell: it is opened, unless closed cells count too
+abbrev pub lookedAt : Bool → List ℤ → ℕ → Bool
+lookedAt openedOnly w i = not openedOnly || eqb (numberAt w (5 * i + 3)) 1
+
+-- a closed safe cell of number 0 or without label
+abbrev pub unitAt : List ℤ → ℕ → Bool
+unitAt w i =
+    eqb (numberAt w (5 * i + 3)) 0 && not (eqb (numberAt w (5 * i + 4)) 0) && (eqb (numberAt w (5 * i + 4)) 1 || eqb (numberAt w (5 * i)) 0)
+
+-- a cell that a random step may take: of the highest raised premium if that is 10 or more, else a closed unit
+abbrev pub candidateAt : ℕ → List ℤ → ℕ → Bool
+candidateAt top w i = cond (ltb top 10) (unitAt w i) (eqb (numberAt w (5 * i + 2)) top)

@@ -1,0 +1,16 @@
+// Which cell a step takes.
+pub mod highest; // the highest premium, the lowest index
+pub mod units; // the lowest closed unit
+pub mod ties; // the cells that a random step draws among
+
+// What a search finds.
+pub enum Found {
+    At(usize),
+    Nothing,
+}
+
+// The highest raised premium so far, and the lowest cell that has it.
+pub struct Best {
+    pub top: usize,
+    pub at: usize,
+}

@@ -1,0 +1,55 @@
+// The lowest closed 0-cell or unlabelled safe cell.
+use crate::Found;
+ghost use mathlib.Core.Path.{_≡_};
+ghost use mathlib.Core.List.{List};
+ghost use Prim.Native.Nat.{ℕ, _+_, _*_, _<_, _≤_};
+ghost use lib.IntN.{ℤ};
+ghost use lib.ListN.{length};
+ghost use Rattle.game.specs.Grid.{Grid, size};
+ghost use Rattle.game.specs.Position.{Position};
+ghost use Rattle.game.specs.Rounds.{unitCells};
+ghost use Rattle.area.specs.Stages.{Shape, Stands};
+ghost use Rattle.choices.specs.Tests.{unitAt};
+ghost use Rattle.choices.specs.Picks.{foundFirst};
+
+// Whether there is a closed safe cell of number 0 or without label.
+pub fn unit(work: &[i32], index: usize) -> bool
+    requires { ⌜ 5 * index + 5 ≤ length (now work) ⌝ }
+    ensures { λ r. ⌜ r ≡ unitAt (now (work .entry)) index ⌝ }
+{
+    if area::get(work, 5 * index + 3) != 0 {
+        return false;
+    }
+    let kind = area::get(work, 5 * index + 4);
+    if kind == 0 {
+        return false;
+    }
+    if kind == 1 {
+        return true;
+    }
+    area::get(work, 5 * index) == 0
+}
+
+// The lowest of them: the search leaves both loops at the first that qualifies.
+pub fn lowest(work: &[i32], rows: usize, columns: usize) -> Found
+    requires { ⌜ Shape rows columns ⌝ }
+    requires { ⌜ 5 * (rows * columns) ≤ length (now work) ⌝ }
+    ensures { λ r. ⌜ ((g : Grid) (s : Position) (old : List ℤ) → Stands rows columns g s old (now (work .entry)) → r ≡ foundFirst (unitCells g s)) ⌝ }
+{
+    let cells = columns * rows;
+    let mut at = cells;
+    'grid: for column in 0..columns {
+        for row in 0..rows {
+            let index = column * rows + row;
+            if unit(work, index) {
+                at = index;
+                break 'grid;
+            }
+        }
+    }
+    if at < cells {
+        Found::At(at)
+    } else {
+        Found::Nothing
+    }
+}

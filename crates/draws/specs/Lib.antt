@@ -1,0 +1,2 @@
+-- What one draw answers.
+pub mod Answers
