@@ -1,4 +1,5 @@
 // One step and one round on a work area that stands for a position, the moves noted in a list.
+pub mod moves; // single moves, and the moves at a chosen cell
 
 // What goes from step to step: moves made, safe cells still closed, the place in the draws.
 pub struct State {

@@ -1,0 +1,3 @@
+pub mod Joins
+pub mod Flags
+pub mod Single
