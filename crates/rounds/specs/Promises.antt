@@ -1,0 +1,54 @@
+-- Moves made on a work area that stands for a position, and noted in a list. Assumes nothing.
+use Prim.Native.Nat.{ℕ, _+_}
+use mathlib.Core.Path.{_≡_}
+use mathlib.Core.Bool.{Bool, true, false}
+use mathlib.Core.List.{List, [], map}
+use lib.IntN.{ℤ}
+use lib.ListN.{length}
+use lib.Seq.{sets}
+use Rattle.game.specs.Grid.{Grid}
+use Rattle.game.specs.Position.{Position, untouched, closedSafe}
+use Rattle.game.specs.Moves.{Move, after, word}
+use Rattle.game.specs.Area.{listOf}
+use Rattle.game.specs.Rounds.{Step, firstClicks, greedySteps, openingsFirstSteps}
+use Rattle.area.specs.Stages.{Stands}
+use Rattle.rounds.specs.declared.State.{State}
+
+-- the moves ms were made from position s on: the area stands for the position after them, they are noted in the list, and the state is carried on
+pub record Made (rows columns : ℕ) (g : Grid) (s : Position) (old : List ℤ) (ms : List Move) (list : List ℕ) (t : State) (w′ : List ℤ) (list′ : List ℕ) (t′ : State) : Type 0 where
+  pub stands : Stands rows columns g (after g s ms) old w′
+  pub noted : list′ ≡ sets list (t .moves) (map word ms)
+  pub clicks : t′ .moves ≡ t .moves + length ms
+  pub left-closed : t′ .closed ≡ closedSafe g (after g s ms)
+  pub next-draw : t′ .next ≡ t .next
+
+-- a state that counts the safe cells still closed in a position that the area stands for
+pub record Going (rows columns : ℕ) (w : List ℤ) (t : State) : Type 0 where
+  pub grid : Grid
+  pub position : Position
+  pub old : List ℤ
+  pub stands : Stands rows columns grid position old w
+  pub counts : t .closed ≡ closedSafe grid position
+
+-- the area stands for an untouched grid of so many safe cells
+pub record Fresh (rows columns : ℕ) (w : List ℤ) (safe : ℕ) : Type 0 where
+  pub grid : Grid
+  pub old : List ℤ
+  pub stands : Stands rows columns grid (untouched grid) old w
+  pub counts : safe ≡ closedSafe grid (untouched grid)
+
+-- the steps of a greedy round, or of an openings-first round
+abbrev pub roundSteps : Bool → Grid → List Step
+roundSteps false g = greedySteps g
+roundSteps true g = openingsFirstSteps g
+
+-- the steps that come before those by premium: the opening clicks of an openings-first round
+abbrev pub firstSteps : Bool → Grid → List Step
+firstSteps false g = []
+firstSteps true g = firstClicks g
+
+-- a round of the moves ms: its clicks, the area at its end, and the list with its moves
+pub record Round (rows columns : ℕ) (g : Grid) (old : List ℤ) (ms : List Move) (list : List ℕ) (r : ℕ) (w′ : List ℤ) (list′ : List ℕ) : Type 0 where
+  pub clicks : r ≡ length ms
+  pub stands : Stands rows columns g (after g (untouched g) ms) old w′
+  pub listed : list′ ≡ listOf ms list
