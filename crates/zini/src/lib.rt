@@ -2,6 +2,7 @@
 pub mod checks; // shape, board, work area
 pub mod count; // 3BV
 pub mod replays; // a stored list played on a board
+pub mod prices; // greedy and openings-first rounds
 
 // Why a call is refused.
 pub enum Refusal {

@@ -1,0 +1,21 @@
+-- `zini::prices::greedy`: a round in the greedy order. Assumes nothing.
+use Rattle.game.specs.Calls.{greedyCall}
+use borrow.Author.Needs.{needs}
+use Rattle.zini.proofs.prices.greedy.Statement.{statement}
+use Rattle.zini.proofs.prices.greedy.Tie as tie
+
+price-requires : tie.Need-price-requires
+price-requires c κs = search needs
+
+same-length : tie.Need-same-length
+same-length c = search needs
+
+same-length-2 : tie.Need-same-length-2
+same-length-2 c = search needs
+
+returns : tie.Need-returns
+unfolding greedyCall
+returns c = c .before .before .before .price .ensures
+
+pub greedy-spec : {M : Type 1} → statement M
+greedy-spec = tie.close (tie.spec price-requires same-length same-length-2 returns)

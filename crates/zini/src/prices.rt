@@ -1,0 +1,80 @@
+// Greedy and openings-first rounds: clicks, and the moves listed.
+use crate::Checked;
+use crate::Priced;
+ghost use mathlib.Core.Path.{_≡_};
+ghost use mathlib.Core.List.{[], _∷_, _++_};
+ghost use Prim.Native.Nat.{ℕ, _*_, _≤_};
+ghost use lib.ListN.{length};
+ghost use Rattle.game.specs.Rounds.{movesOf};
+ghost use Rattle.game.specs.Calls.{firstGiven, gives, greedyCall, gridChecks, listCheck, openingsFirstCall, playedRound, unlessListed};
+ghost use Rattle.area.specs.Numbers.{gridOf};
+ghost use Rattle.area.specs.Stages.{Shape};
+ghost use Rattle.rounds.specs.Promises.{roundSteps};
+ghost use Rattle.zini.specs.Answers.{KeptList, pricedAnswer};
+
+// A round whose input has been checked. Answers its clicks.
+fn price_checked(
+    rows: usize,
+    columns: usize,
+    grid: &[i32],
+    work: &mut [i32],
+    list: &mut [u32],
+    openings_first: bool,
+) -> usize
+    requires { ⌜ Shape rows columns ⌝ }
+    requires { ⌜ (length (now grid) ≡ rows * columns) × (5 * (rows * columns) ≤ length (now work)) × (rows * columns ≤ length (now list)) ⌝ }
+    ensures { λ r. ⌜ KeptList (playedRound (gridOf rows columns (now (grid .entry))) (movesOf (roundSteps «openings_first» (gridOf rows columns (now (grid .entry))))) (now (work .entry)) (now (list .entry))) (gives (r ∷ [])) (now (work .exit)) (now (list .exit)) ⌝ }
+{
+    let counts = start::begin::set_up(grid, rows, columns, work);
+    let safe = counts.safe;
+    let clicks = rounds::whole::round(work, rows, columns, list, safe, openings_first);
+    start::begin::settle(work, rows * columns);
+    clicks
+}
+
+// A round on a board, in the one order or the other.
+fn price(
+    rows: usize,
+    columns: usize,
+    grid: &[i32],
+    work: &mut [i32],
+    list: &mut [u32],
+    openings_first: bool,
+) -> Priced
+    ensures { λ r. ⌜ KeptList (unlessListed (firstGiven (gridChecks (gridOf rows columns (now (grid .entry))) (now (work .entry)) ++ listCheck (gridOf rows columns (now (grid .entry))) (now (list .entry)) ∷ [])) (now (work .entry)) (now (list .entry)) (playedRound (gridOf rows columns (now (grid .entry))) (movesOf (roundSteps «openings_first» (gridOf rows columns (now (grid .entry))))) (now (work .entry)) (now (list .entry)))) (pricedAnswer r) (now (work .exit)) (now (list .exit)) ⌝ }
+{
+    let checked = crate::checks::check_list(rows, columns, grid, work, list);
+    match checked {
+        Checked::Refused(refusal) => Priced::Refused(refusal),
+        Checked::Fine => {
+            let clicks = price_checked(rows, columns, grid, work, list, openings_first);
+            Priced::Clicks(clicks)
+        }
+    }
+}
+
+// Greedy ZiNi: its clicks, and its moves in the list.
+pub fn greedy(
+    rows: usize,
+    columns: usize,
+    grid: &[i32],
+    work: &mut [i32],
+    list: &mut [u32],
+) -> Priced
+    ensures { λ r. ⌜ KeptList (greedyCall (gridOf rows columns (now (grid .entry))) (now (work .entry)) (now (list .entry))) (pricedAnswer r) (now (work .exit)) (now (list .exit)) ⌝ }
+{
+    price(rows, columns, grid, work, list, false)
+}
+
+// Openings-first ZiNi: its clicks, and its moves in the list.
+pub fn openings_first(
+    rows: usize,
+    columns: usize,
+    grid: &[i32],
+    work: &mut [i32],
+    list: &mut [u32],
+) -> Priced
+    ensures { λ r. ⌜ KeptList (openingsFirstCall (gridOf rows columns (now (grid .entry))) (now (work .entry)) (now (list .entry))) (pricedAnswer r) (now (work .exit)) (now (list .exit)) ⌝ }
+{
+    price(rows, columns, grid, work, list, true)
+}
