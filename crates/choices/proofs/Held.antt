@@ -132,7 +132,7 @@ module _ (g : Grid) (s : Position) (i : ℕ) (h : i < size g) (t : T (safe g i))
 -- ---- tests of a cell
 
 module _ (g : Grid) (s : Position) (w : List ℤ) (r : Holds g s w) where
-  pub looked-there : (openedOnly : Bool) (i : ℕ) → i < size g → lookedAt openedOnly w i ≡ (opened s i || not openedOnly)
+  looked-there : (openedOnly : Bool) (i : ℕ) → i < size g → lookedAt openedOnly w i ≡ (opened s i || not openedOnly)
   looked-there openedOnly i h = ap (λ (k : ℕ). not openedOnly || eqb k 1) (r .states i h) ∙ swapped (not openedOnly) (opened s i)
     where
       swapped : (a b : Bool) → (a || b) ≡ (b || a)

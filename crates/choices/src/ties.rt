@@ -53,13 +53,14 @@ pub fn pick(work: &[i32], cells: usize, top: usize, place: usize) -> usize
     requires { ⌜ 5 * cells ≤ length (now work) ⌝ }
     ensures { λ r. ⌜ r ≡ getD (keep (candidateAt top (now (work .entry))) (range 0 cells)) place 0 ⌝ }
 {
-    let mut left = place;
+    let mut passed: usize = 0;
     for index in 0..cells {
-        let here = candidate(work, index, top) as usize;
-        if left < here {
-            return index;
+        if candidate(work, index, top) {
+            if passed == place {
+                return index;
+            }
+            passed += 1;
         }
-        left -= here;
     }
     0
 }

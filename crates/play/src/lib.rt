@@ -23,11 +23,11 @@ fn less(a: usize, b: usize) -> usize
 }
 
 // The sides of a square: its rows from `first` to before `last`, its columns from `from` to before `to`.
-pub struct Sides {
-    pub first: usize,
-    pub last: usize,
-    pub from: usize,
-    pub to: usize,
+struct Sides {
+    first: usize,
+    last: usize,
+    from: usize,
+    to: usize,
 }
 
 // The sides of a cell's square.

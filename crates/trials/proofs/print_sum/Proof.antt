@@ -1,0 +1,60 @@
+-- `trials::print_sum`: the numbers added are within the work area. Assumes nothing.
+use Prim.Native.Nat.{ℕ, _≤_, _-_}
+use native.Mathlib.Omega.{arith}
+use borrow.Author.Needs.{needs}
+use lib.ListN.{length}
+use Rattle.trials.proofs.print_sum.Statement.{statement}
+use Rattle.trials.proofs.print_sum.Tie as tie
+
+abbrev Inv-loop : tie.InvT-loop
+Inv-loop work sum₀ k₀ t4 sum k = k ≤ length work
+
+abbrev μ-loop : tie.MeasureT-loop
+μ-loop work sum₀ k₀ t4 sum k = length work - k
+
+loop-holds : tie.Need-loop-holds Inv-loop μ-loop
+loop-holds c = search needs
+
+get-requires : tie.Need-get-requires Inv-loop μ-loop
+get-requires c κs = search needs
+
+wrapping-add-u64-requires : tie.Need-wrapping-add-u64-requires Inv-loop μ-loop
+wrapping-add-u64-requires c κs = search needs
+
+add-k : tie.Need-add-k Inv-loop μ-loop
+add-k c = search needs
+
+loop-less : tie.Need-loop-less Inv-loop μ-loop
+loop-less c = search needs
+
+loop-again : tie.Need-loop-again Inv-loop μ-loop
+loop-again c = search needs
+
+print-number-requires : tie.Need-print-number-requires Inv-loop μ-loop
+print-number-requires c κs = search needs
+
+slice-aggregate-write-all : tie.Need-slice-aggregate-write-all Inv-loop μ-loop
+slice-aggregate-write-all c = search needs
+
+write-all-requires : tie.Need-write-all-requires Inv-loop μ-loop
+write-all-requires c κs = search needs
+
+returns : tie.Need-returns Inv-loop μ-loop
+returns c = search needs
+
+pub print-sum-spec : {M : Type 1} → statement M
+print-sum-spec =
+    tie.close
+    (tie.spec
+    Inv-loop
+    μ-loop
+    loop-holds
+    get-requires
+    wrapping-add-u64-requires
+    add-k
+    loop-less
+    loop-again
+    print-number-requires
+    slice-aggregate-write-all
+    write-all-requires
+    returns)
