@@ -1,23 +1,28 @@
 -- Random steps, rounds and searches on a work area that stands for a position. Assumes nothing.
 use Prim.Native.Nat.{ℕ, _+_, _*_, _≤_}
 use mathlib.Core.Path.{_≡_}
-use mathlib.Core.Bool.{false}
-use mathlib.Core.List.{List, map}
+use mathlib.Core.Bool.{cond, false}
+use mathlib.Core.List.{List, [], _∷_, map}
 use mathlib.Core.Option.{Option, none, some}
+use lib.Dec.{ltb}
 use lib.IntN.{ℤ}
 use lib.ListN.{getD, length}
 use lib.Seq.{sets}
 use Rattle.game.specs.Grid.{Grid, size}
 use Rattle.game.specs.Position.{Position, untouched, closedSafe}
-use Rattle.game.specs.Moves.{Move, after, word}
+use Rattle.game.specs.Moves.{Move, after, left, word}
 use Rattle.game.specs.Draws as Game
-use Rattle.game.specs.Rounds.{Choice, Step, Round, Searched, choice, movesOf, stepOf}
+use Rattle.game.specs.Rounds.{Round, Searched, choice, movesAt, movesOf, stepOf}
 use Rattle.area.specs.Stages.{Stands}
 use Rattle.rounds.specs.declared.State.{State}
 use Rattle.random.specs.declared.Stepped.{Stepped}
 use Rattle.random.specs.declared.Stepped.the-variants as Steps
 use Rattle.random.specs.declared.Rolled.{Rolled}
 use Rattle.random.specs.declared.Rolled.the-variants as Rolls
+
+-- the moves of a step at the cell that it took: one L where the highest raised premium is below 10
+abbrev pub takenMoves : Grid → Position → ℕ → ℕ → List Move
+takenMoves g s top i = cond (ltb top 10) (left i ∷ []) (movesAt g s i)
 
 -- a step was drawn and made: the area stands for the position after it, its moves are noted, the state is carried on
 pub record Went (rows columns : ℕ) (g : Grid) (s : Position) (old : List ℤ) (ms : List Move) (next : ℕ) (list : List ℕ) (t : State) (w′ : List ℤ) (list′ : List ℕ) (r : Stepped) : Type 0 where

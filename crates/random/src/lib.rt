@@ -1,5 +1,21 @@
 // Random steps, rounds and searches on a work area that stands for a position.
+use draws::Drawn;
 use rounds::State;
+use rounds::moves;
+ghost use mathlib.Core.Path.{_≡_};
+ghost use mathlib.Core.Bool.{false};
+ghost use mathlib.Core.List.{List};
+ghost use Prim.Native.Nat.{ℕ, _+_, _*_, _^_, _<_, _≤_};
+ghost use lib.Dec.{T};
+ghost use lib.IntN.{ℤ};
+ghost use lib.ListN.{length};
+ghost use Rattle.game.specs.Grid.{Grid, safe, zeroCell};
+ghost use Rattle.game.specs.Position.{Position, closed as isClosed, closedSafe};
+ghost use Rattle.game.specs.Draws.{draw};
+ghost use Rattle.game.specs.Rounds.{choice, width};
+ghost use Rattle.area.specs.Stages.{Shape, Stands};
+ghost use Rattle.rounds.specs.Promises.{Made};
+ghost use Rattle.random.specs.Promises.{takenMoves, Stepping};
 
 // A step was made, or the draws ran dry.
 pub enum Stepped {
@@ -11,4 +27,57 @@ pub enum Stepped {
 pub enum Rolled {
     Ended(usize, usize),
     Dry,
+}
+
+// The moves of a step at the cell that it took: one L where the highest raised premium is below 10.
+fn take(
+    work: &mut [i32],
+    rows: usize,
+    columns: usize,
+    list: &mut [u32],
+    state: State,
+    top: usize,
+    index: usize,
+) -> State
+    requires { ⌜ Shape rows columns ⌝ }
+    requires { ⌜ (5 * (rows * columns) ≤ length (now work)) × (index < rows * columns) × (state .moves ≤ 2 ^ 45) ⌝ }
+    ensures { λ r. ⌜ ((g : Grid) (s : Position) (old : List ℤ) → Stands rows columns g s old (now (work .entry))
+        → T (safe g index) → (top < 10 → T (isClosed s index)) → (10 ≤ top → T (zeroCell g index) → ⊥) → state .closed ≡ closedSafe g s
+        → Made rows columns g s old (takenMoves g s top index) (now (list .entry)) state (now (work .exit)) (now (list .exit)) r) ⌝ }
+{
+    if top < 10 {
+        return moves::click(work, rows, columns, list, state, index);
+    }
+    moves::act(work, rows, columns, list, state, index)
+}
+
+// A step at a cell drawn among those of highest premium, or, if none reaches 0, among the closed units.
+pub fn step(
+    work: &mut [i32],
+    rows: usize,
+    columns: usize,
+    list: &mut [u32],
+    draws: &[u8],
+    state: State,
+) -> Stepped
+    requires { ⌜ Shape rows columns ⌝ }
+    requires { ⌜ (5 * (rows * columns) ≤ length (now work)) × (state .moves ≤ 2 ^ 45) ⌝ }
+    ensures { λ r. ⌜ ((g : Grid) (s : Position) (old : List ℤ) → Stands rows columns g s old (now (work .entry))
+        → 1 ≤ closedSafe g s → state .closed ≡ closedSafe g s
+        → Stepping rows columns g s old (draw (now (draws .entry)) (state .next) (width (choice false g s))) (now (list .entry)) state (now (work .entry)) (now (work .exit)) (now (list .exit)) r) ⌝ }
+{
+    let cells = rows * columns;
+    let top = choices::ties::top(work, cells);
+    let candidates = choices::ties::count(work, cells, top);
+    let drawn = draws::draw(draws, state.next, candidates);
+    let Drawn::Place(place, next) = drawn else {
+        return Stepped::Dry;
+    };
+    let index = choices::ties::pick(work, cells, top, place);
+    let onward = State {
+        moves: state.moves,
+        closed: state.closed,
+        next,
+    };
+    Stepped::Went(take(work, rows, columns, list, onward, top, index))
 }
