@@ -2,14 +2,15 @@
 use Prim.Native.Nat.{ℕ, _+_}
 use mathlib.Core.Path.{_≡_}
 use mathlib.Core.Bool.{Bool, true, false}
-use mathlib.Core.List.{List, map}
+use mathlib.Core.List.{List, [], map}
 use lib.IntN.{ℤ}
 use lib.ListN.{length}
 use lib.Seq.{sets}
 use Rattle.game.specs.Grid.{Grid}
 use Rattle.game.specs.Position.{Position, untouched, closedSafe}
 use Rattle.game.specs.Moves.{Move, after, word}
-use Rattle.game.specs.Rounds.{Step, greedySteps, openingsFirstSteps}
+use Rattle.game.specs.Area.{listOf}
+use Rattle.game.specs.Rounds.{Step, firstClicks, greedySteps, openingsFirstSteps}
 use Rattle.area.specs.Stages.{Stands}
 use Rattle.rounds.specs.declared.State.{State}
 
@@ -40,3 +41,14 @@ pub record Fresh (rows columns : ℕ) (w : List ℤ) (safe : ℕ) : Type 0 where
 abbrev pub roundSteps : Bool → Grid → List Step
 roundSteps false g = greedySteps g
 roundSteps true g = openingsFirstSteps g
+
+-- the steps that come before those by premium: the opening clicks of an openings-first round
+abbrev pub firstSteps : Bool → Grid → List Step
+firstSteps false g = []
+firstSteps true g = firstClicks g
+
+-- a round of the moves ms: its clicks, the area at its end, and the list with its moves
+pub record Round (rows columns : ℕ) (g : Grid) (old : List ℤ) (ms : List Move) (list : List ℕ) (r : ℕ) (w′ : List ℤ) (list′ : List ℕ) : Type 0 where
+  pub clicks : r ≡ length ms
+  pub stands : Stands rows columns g (after g (untouched g) ms) old w′
+  pub listed : list′ ≡ listOf ms list

@@ -7,6 +7,7 @@ use lib.IntN.{ℤ}
 use Rattle.game.specs.Grid.{Grid}
 use Rattle.game.specs.Position.{Position, closedSafe, unflagged}
 use Rattle.game.specs.Moves.{Move, flag, play}
+use Rattle.game.specs.Rounds.{movesOf, openingClicks}
 use Rattle.area.specs.Stages.{Stands}
 use Rattle.rounds.specs.Promises.{Made}
 use Rattle.rounds.specs.declared.State.{State}
@@ -19,6 +20,10 @@ flagsFrom g s (i ∷ is) =
       | true ↦ flag i ∷ flagsFrom g (play g s (flag i)) is
       | false ↦ flagsFrom g s is
     ]
+
+-- L on each of some cells that is a closed 0-cell, in turn
+abbrev pub hitsFrom : Grid → Position → List ℕ → List Move
+hitsFrom g s is = movesOf (openingClicks g s is)
 
 -- the moves that many gives for some cells were made, whatever position the area stood for
 pub record Over (many : Grid → Position → List ℕ → List Move) (cells : List ℕ) (rows columns : ℕ) (w : List ℤ) (list : List ℕ) (t : State) (w′ : List ℤ) (list′ : List ℕ) (t′ : State) : Type 0 where

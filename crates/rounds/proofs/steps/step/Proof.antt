@@ -1,0 +1,83 @@
+-- `rounds::steps::step`: the search finds the first cell of highest premium; where none reaches 0, the step is one L. Assumes nothing.
+use Prim.Native.Nat.{_*_}
+use native.Mathlib.Omega.{arith}
+use mathlib.Core.Path.{ap₂}
+use Rattle.game.proofs.Played.{reached-played}
+use Rattle.area.proofs.Cells.{cells-few}
+use Rattle.rounds.proofs.Takes.{click-taken, top-inside, top-taken}
+use borrow.Author.Needs.{needs}
+use Rattle.rounds.proofs.steps.step.Statement.{statement}
+use Rattle.rounds.proofs.steps.step.Tie as tie
+
+mul-best : tie.Need-mul-best
+mul-best c = omega (arith, cells-few _ _ (c .before .before .pre .0))
+
+best-requires : tie.Need-best-requires
+best-requires c κs = search needs
+
+enum-known-found : tie.Need-enum-known-found
+enum-known-found c = search needs
+
+act-requires : tie.Need-act-requires
+act-requires c κs =
+    let k = c .before .before .before in
+    let m = k .before .before in
+    let b = m .before .before .before in
+    let a = b .args in
+    (b .pre .0, (omega arith, top-inside (a .rows) (a .columns) (a .work .now) (m .best .result) (a .opened-only) (k .found .given .0 .0) (b .pre .1 .1) (m .best .ensures) (k .found .given .1), omega arith))
+
+enum-told : tie.Need-enum-told
+enum-told c = search needs
+
+click-lowest-requires : tie.Need-click-lowest-requires
+click-lowest-requires c κs = search needs
+
+same-length : tie.Need-same-length
+same-length c = search needs
+
+same-length-2 : tie.Need-same-length-2
+same-length-2 c = search needs
+
+returns : tie.Need-returns
+returns c =
+    let x = c .before .before .before in
+    let k = x .before .before .before .before in
+    let m = k .before .before in
+    let a = m .before .before .before .args in
+    λ g s old st n e. top-taken (a .rows) (a .columns) (a .work .now) (m .best .result) g s old (a .list .now) (a .state) (x .act .last .0) (x .act .last .1 .1 .1 .0) (x .act .result)
+    (a .opened-only) (m .best .ensures (a .rows) (a .columns) g s old st (ap₂ _*_ (st .rows-are) (st .columns-are)))
+    (k .found .given .0 .0) (k .found .given .1) (λ t z. x .act .ensures g s old st t z e)
+
+same-length-3 : tie.Need-same-length-3
+same-length-3 c = search needs
+
+same-length-4 : tie.Need-same-length-4
+same-length-4 c = search needs
+
+returns-2 : tie.Need-returns-2
+returns-2 c =
+    let x = c .before .before .before in
+    let k = x .before .before .before in
+    let m = k .before .before in
+    let a = m .before .before .before .args in
+    let y = x .click-lowest in
+    λ g s old st n e. click-taken (a .rows) (a .columns) (a .work .now) (m .best .result) g s old (a .list .now) (a .state) (y .last .0) (y .last .1 .1 .1 .0) (y .result)
+    (a .opened-only) (m .best .ensures (a .rows) (a .columns) g s old st (ap₂ _*_ (st .rows-are) (st .columns-are)))
+    (reached-played g s (st .reached)) n (k .enum-told .given .1) (λ l. y .ensures g s old st l e)
+
+pub step-spec : {M : Type 1} → statement M
+step-spec =
+    tie.close
+    (tie.spec
+    mul-best
+    best-requires
+    enum-known-found
+    act-requires
+    enum-told
+    click-lowest-requires
+    same-length
+    same-length-2
+    returns
+    same-length-3
+    same-length-4
+    returns-2)

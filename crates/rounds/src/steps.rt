@@ -1,0 +1,103 @@
+// One step by the lowest index, and the opening clicks of an openings-first round.
+use crate::State;
+use crate::moves;
+use choices::Found;
+ghost use mathlib.Core.Path.{_≡_};
+ghost use mathlib.Core.List.{List, [], _∷_};
+ghost use Prim.Native.Nat.{ℕ, _+_, _*_, _^_, _<_, _≤_};
+ghost use lib.IntN.{ℤ};
+ghost use lib.ListN.{length, getD};
+ghost use Rattle.game.specs.Grid.{Grid, cells};
+ghost use Rattle.game.specs.Position.{Position, closedSafe};
+ghost use Rattle.game.specs.Moves.{left};
+ghost use Rattle.game.specs.Rounds.{choice, stepOf, unitCells, movesOf, openingClicks};
+ghost use Rattle.area.specs.Stages.{Shape, Stands, Standing};
+ghost use Rattle.rounds.specs.Promises.{Made};
+ghost use Rattle.rounds.specs.Walks.{Over, hitsFrom};
+
+// L on the lowest closed 0-cell or unlabelled safe cell, if there is one.
+pub fn click_lowest(
+    work: &mut [i32],
+    rows: usize,
+    columns: usize,
+    list: &mut [u32],
+    state: State,
+) -> State
+    requires { ⌜ Shape rows columns ⌝ }
+    requires { ⌜ (5 * (rows * columns) ≤ length (now work)) × (state .moves ≤ 2 ^ 45) ⌝ }
+    requires { ⌜ Standing rows columns (now work) ⌝ }
+    ensures { λ r. ⌜ ((g : Grid) (s : Position) (old : List ℤ) → Stands rows columns g s old (now (work .entry))
+        → 1 ≤ length (unitCells g s) → state .closed ≡ closedSafe g s
+        → Made rows columns g s old (left (getD (unitCells g s) 0 0) ∷ []) (now (list .entry)) state (now (work .exit)) (now (list .exit)) r) ⌝ }
+{
+    let found = choices::units::lowest(work, rows, columns);
+    match found {
+        Found::At(index) => moves::click(work, rows, columns, list, state, index),
+        Found::Nothing => state,
+    }
+}
+
+// A step: the moves at the lowest cell of highest premium, if that is 0 or more; else one L.
+pub fn step(
+    work: &mut [i32],
+    rows: usize,
+    columns: usize,
+    list: &mut [u32],
+    state: State,
+    opened_only: bool,
+) -> State
+    requires { ⌜ Shape rows columns ⌝ }
+    requires { ⌜ (5 * (rows * columns) ≤ length (now work)) × (state .moves ≤ 2 ^ 45) ⌝ }
+    requires { ⌜ Standing rows columns (now work) ⌝ }
+    ensures { λ r. ⌜ ((g : Grid) (s : Position) (old : List ℤ) → Stands rows columns g s old (now (work .entry))
+        → 1 ≤ closedSafe g s → state .closed ≡ closedSafe g s
+        → Made rows columns g s old (stepOf g s (choice «opened_only» g s) 0 .moves) (now (list .entry)) state (now (work .exit)) (now (list .exit)) r) ⌝ }
+{
+    let found = choices::highest::best(work, rows * columns, opened_only);
+    match found {
+        Found::At(index) => moves::act(work, rows, columns, list, state, index),
+        Found::Nothing => click_lowest(work, rows, columns, list, state),
+    }
+}
+
+// L, if there is a closed 0-cell.
+pub fn hit(
+    work: &mut [i32],
+    rows: usize,
+    columns: usize,
+    list: &mut [u32],
+    state: State,
+    index: usize,
+) -> State
+    requires { ⌜ Shape rows columns ⌝ }
+    requires { ⌜ (5 * (rows * columns) ≤ length (now work)) × (index < rows * columns) × (state .moves ≤ 2 ^ 45) ⌝ }
+    ensures { λ r. ⌜ r .moves ≤ state .moves + 1 ⌝ }
+    ensures { λ r. ⌜ Over hitsFrom (index ∷ []) rows columns (now (work .entry)) (now (list .entry)) state (now (work .exit)) (now (list .exit)) r ⌝ }
+{
+    if area::get(work, 5 * index + 4) != 1 {
+        return state;
+    }
+    moves::click_closed(work, rows, columns, list, state, index)
+}
+
+// L on each closed 0-cell, in index order.
+pub fn hit_openings(
+    work: &mut [i32],
+    rows: usize,
+    columns: usize,
+    list: &mut [u32],
+    state: State,
+) -> State
+    requires { ⌜ Shape rows columns ⌝ }
+    requires { ⌜ (5 * (rows * columns) ≤ length (now work)) × (state .moves ≤ 2 ^ 32) ⌝ }
+    ensures { λ r. ⌜ r .moves ≤ state .moves + rows * columns ⌝ }
+    ensures { λ r. ⌜ ((g : Grid) (s : Position) (old : List ℤ) → Stands rows columns g s old (now (work .entry)) → state .closed ≡ closedSafe g s
+        → Made rows columns g s old (movesOf (openingClicks g s (cells g))) (now (list .entry)) state (now (work .exit)) (now (list .exit)) r) ⌝ }
+{
+    let cells = rows * columns;
+    let mut clicked = state;
+    for index in 0..cells {
+        clicked = hit(work, rows, columns, list, clicked, index);
+    }
+    clicked
+}

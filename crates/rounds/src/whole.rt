@@ -1,0 +1,82 @@
+// Steps until all safe cells are open, and a whole round: greedy or openings-first.
+use crate::State;
+use crate::steps;
+ghost use mathlib.Core.Path.{_≡_};
+ghost use mathlib.Core.List.{List};
+ghost use Prim.Native.Nat.{ℕ, _+_, _*_, _^_, _≤_};
+ghost use lib.IntN.{ℤ};
+ghost use lib.ListN.{length};
+ghost use Rattle.game.specs.Grid.{Grid};
+ghost use Rattle.game.specs.Position.{Position, closedSafe, closedUnits, untouched};
+ghost use Rattle.game.specs.Rounds.{movesOf, stepsFrom};
+ghost use Rattle.area.specs.Stages.{Shape, Stands};
+ghost use Rattle.rounds.specs.Promises.{Made, Going, Fresh, Round, roundSteps, firstSteps};
+
+// Steps by the lowest index until all safe cells are open.
+pub fn play_on(
+    work: &mut [i32],
+    rows: usize,
+    columns: usize,
+    list: &mut [u32],
+    state: State,
+    opened_only: bool,
+) -> State
+    requires { ⌜ Shape rows columns ⌝ }
+    requires { ⌜ (5 * (rows * columns) ≤ length (now work)) × (state .moves ≤ 2 ^ 33) ⌝ }
+    requires { ⌜ Going rows columns (now work) state ⌝ }
+    ensures { λ r. ⌜ ((g : Grid) (s : Position) (old : List ℤ) (n : ℕ) → Stands rows columns g s old (now (work .entry))
+        → state .closed ≡ closedSafe g s → closedUnits g s ≤ n
+        → Made rows columns g s old (movesOf (stepsFrom n «opened_only» g s)) (now (list .entry)) state (now (work .exit)) (now (list .exit)) r) ⌝ }
+{
+    let mut current = state;
+    while 0 < current.closed {
+        current = steps::step(work, rows, columns, list, current, opened_only);
+    }
+    current
+}
+
+// The opening clicks, if the round is openings-first.
+pub fn begin(
+    work: &mut [i32],
+    rows: usize,
+    columns: usize,
+    list: &mut [u32],
+    state: State,
+    openings_first: bool,
+) -> State
+    requires { ⌜ Shape rows columns ⌝ }
+    requires { ⌜ (5 * (rows * columns) ≤ length (now work)) × (state .moves ≤ 2 ^ 32) ⌝ }
+    ensures { λ r. ⌜ r .moves ≤ state .moves + rows * columns ⌝ }
+    ensures { λ r. ⌜ ((g : Grid) (old : List ℤ) → Stands rows columns g (untouched g) old (now (work .entry)) → state .closed ≡ closedSafe g (untouched g)
+        → Made rows columns g (untouched g) old (movesOf (firstSteps «openings_first» g)) (now (list .entry)) state (now (work .exit)) (now (list .exit)) r) ⌝ }
+{
+    if openings_first {
+        return steps::hit_openings(work, rows, columns, list, state);
+    }
+    state
+}
+
+// A round from the position before any move, of so many safe cells. Answers its clicks.
+pub fn round(
+    work: &mut [i32],
+    rows: usize,
+    columns: usize,
+    list: &mut [u32],
+    safe: usize,
+    openings_first: bool,
+) -> usize
+    requires { ⌜ Shape rows columns ⌝ }
+    requires { ⌜ 5 * (rows * columns) ≤ length (now work) ⌝ }
+    requires { ⌜ Fresh rows columns (now work) safe ⌝ }
+    ensures { λ r. ⌜ ((g : Grid) (old : List ℤ) → Stands rows columns g (untouched g) old (now (work .entry)) → rows * columns ≤ length (now (list .entry))
+        → Round rows columns g old (movesOf (roundSteps «openings_first» g)) (now (list .entry)) r (now (work .exit)) (now (list .exit))) ⌝ }
+{
+    let fresh = State {
+        moves: 0,
+        closed: safe,
+        next: 0,
+    };
+    let begun = begin(work, rows, columns, list, fresh, openings_first);
+    let done = play_on(work, rows, columns, list, begun, openings_first);
+    done.moves
+}
