@@ -10,12 +10,12 @@ ghost use lib.Dec.{T};
 ghost use lib.IntN.{ℤ};
 ghost use lib.ListN.{length};
 ghost use Rattle.game.specs.Grid.{Grid, safe, zeroCell};
-ghost use Rattle.game.specs.Position.{Position, closed as isClosed, closedSafe};
+ghost use Rattle.game.specs.Position.{Position, closed as isClosed, closedSafe, untouched};
 ghost use Rattle.game.specs.Draws.{draw};
-ghost use Rattle.game.specs.Rounds.{choice, width};
+ghost use Rattle.game.specs.Rounds.{choice, width, randomRound};
 ghost use Rattle.area.specs.Stages.{Shape, Stands};
-ghost use Rattle.rounds.specs.Promises.{Made};
-ghost use Rattle.random.specs.Promises.{takenMoves, Stepping};
+ghost use Rattle.rounds.specs.Promises.{Made, Fresh};
+ghost use Rattle.random.specs.Promises.{takenMoves, Stepping, Rolling};
 
 // A step was made, or the draws ran dry.
 pub enum Stepped {
@@ -80,4 +80,35 @@ pub fn step(
         next,
     };
     Stepped::Went(take(work, rows, columns, list, onward, top, index))
+}
+
+// A round from the position before any move, of so many safe cells, that reads its draws from a place on.
+pub fn round(
+    work: &mut [i32],
+    rows: usize,
+    columns: usize,
+    list: &mut [u32],
+    draws: &[u8],
+    safe: usize,
+    next: usize,
+) -> Rolled
+    requires { ⌜ Shape rows columns ⌝ }
+    requires { ⌜ 5 * (rows * columns) ≤ length (now work) ⌝ }
+    requires { ⌜ Fresh rows columns (now work) safe ⌝ }
+    ensures { λ r. ⌜ ((g : Grid) (old : List ℤ) → Stands rows columns g (untouched g) old (now (work .entry))
+        → Rolling rows columns g old (randomRound g (now (draws .entry)) next) (now (list .entry)) (now (work .exit)) (now (list .exit)) r) ⌝ }
+{
+    let mut state = State {
+        moves: 0,
+        closed: safe,
+        next,
+    };
+    while 0 < state.closed {
+        let stepped = step(work, rows, columns, list, draws, state);
+        let Stepped::Went(after) = stepped else {
+            return Rolled::Dry;
+        };
+        state = after;
+    }
+    Rolled::Ended(state.moves, state.next)
 }
