@@ -8,21 +8,21 @@ use mathlib.Core.List.{List}
 use lib.IntN.{pos, ℤ}
 use lib.ListN.{getD, length}
 use Rattle.area.specs.Numbers.{natural, numberAt}
-use Rattle.area.specs.Stages.{labelledFive}
+use Rattle.area.specs.Stages.{Stands, held, labelledFive}
 use Rattle.game.specs.Area.{laid}
 use Rattle.game.specs.Calls.{work}
 use Rattle.game.specs.Grid.{Grid, cells, safe, size}
 use Rattle.game.specs.Lists.{count, fold, range}
 use Rattle.game.specs.Openings.{openings, threeBV, unlabelled}
-use Rattle.game.specs.Position.{closed, closedSafe, untouched}
-use Rattle.start.specs.Passes.{bareAt, priceCell, safeAt, swapCell}
+use Rattle.game.specs.Position.{Position, closed, closedSafe, untouched}
+use Rattle.start.specs.Passes.{bareAt, priceCell, safeAt, swapCell, unplayCell}
 use Rattle.start.specs.Setting.{Setting}
 use Rattle.game.proofs.Areas.{laid-at}
 use Rattle.game.proofs.Counts.{count-ext}
 use Rattle.game.proofs.Squares.{cells→}
 use Rattle.game.proofs.Truth.{and-true}
 use Rattle.game.proofs.Units.{closed-untouched, units-at-most-cells}
-use Rattle.start.proofs.Passed.{priced-all, pricedFive, swapped-all}
+use Rattle.start.proofs.Passed.{priced-all, pricedFive, swapped-all, unplayed-all}
 use Rattle.start.proofs.Priced.{Readable, bare-there, safe-there}
 
 labelled-readable : (g : Grid) (old : List ℤ) → Readable g (laid (labelledFive g) (size g) old)
@@ -67,3 +67,26 @@ begun-setting g old w₂ w₃ w₄ r b s room l eb es e₃ e₄ =
 pub few-openings : (g : Grid) → length (openings g) ≤ size g
 unfolding threeBV
 few-openings g = omega (arith, units-at-most-cells g)
+
+-- the position before any move again
+pub begun-again : (g : Grid) (s : Position) (old w₀ w₁ w₂ w₃ : List ℤ) → 5 * size g ≤ length old → w₀ ≡ held g s old → w₁ ≡ fold unplayCell w₀ (cells g)
+    → w₂ ≡ fold (priceCell (g .rows) (g .columns)) w₁ (range 0 (g .columns * g .rows)) → w₃ ≡ fold swapCell w₂ (cells g) → w₃ ≡ held g (untouched g) old
+begun-again g s old w₀ w₁ w₂ w₃ room e₀ e₁ e₂ e₃ =
+    let p : w₁ ≡ laid (labelledFive g) (size g) old = e₁ ∙ ap (λ (w : List ℤ). fold unplayCell w (cells g)) e₀ ∙ unplayed-all g s old room in
+    let q : w₂ ≡ laid (pricedFive g) (size g) old =
+    e₂ ∙ ap (λ (n : ℕ). fold (priceCell (g .rows) (g .columns)) w₁ (range 0 n)) (mul-comm (g .columns) (g .rows))
+    ∙ ap (λ (w : List ℤ). fold (priceCell (g .rows) (g .columns)) w (range 0 (size g))) p ∙ priced-all g old room in
+    e₃ ∙ ap (λ (w : List ℤ). fold swapCell w (cells g)) q ∙ swapped-all g old room
+
+-- the same, by rows and columns
+pub begun-again-by : (rows columns : ℕ) (g : Grid) (s : Position) (old w₀ w₁ w₂ w₃ : List ℤ) → Stands rows columns g s old w₀ → w₁ ≡ fold unplayCell w₀ (range 0 (rows * columns))
+    → w₂ ≡ fold (priceCell rows columns) w₁ (range 0 (columns * rows)) → w₃ ≡ fold swapCell w₂ (range 0 (rows * columns)) → w₃ ≡ held g (untouched g) old
+begun-again-by rows columns g s old w₀ w₁ w₂ w₃ t e₁ e₂ e₃ =
+    begun-again g s old w₀ w₁ w₂ w₃ (t .room) (t .holds-it) (e₁ ∙ λ i. fold unplayCell w₀ (range 0 (r i * c i)))
+    (e₂ ∙ λ i. fold (priceCell (r i) (c i)) w₁ (range 0 (c i * r i))) (e₃ ∙ λ i. fold swapCell w₂ (range 0 (r i * c i)))
+  where
+    r : rows ≡ g .rows
+    r = sym (t .rows-are)
+
+    c : columns ≡ g .columns
+    c = sym (t .columns-are)

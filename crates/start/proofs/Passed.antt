@@ -17,7 +17,7 @@ use Rattle.game.specs.Grid.{Grid, mine, size}
 use Rattle.game.specs.Lists.{fold, range}
 use Rattle.game.specs.Openings.{firstLabel, secondLabel}
 use Rattle.game.specs.Position.{Position, cost, gain, premium, untouched}
-use Rattle.start.specs.Passes.{bareNear, priceCell, raisedAt, settleCell, swapCell}
+use Rattle.start.specs.Passes.{bareNear, priceCell, raisedAt, settleCell, swapCell, unplayCell}
 use Rattle.game.proofs.Areas.{LaidTo, laid-again, laid-ahead, laid-fold, laid-kept, laid-length}
 use Rattle.game.proofs.Ranges.{cost-range, gain-range}
 use Rattle.start.proofs.Loaded.{kind-few}
@@ -221,4 +221,54 @@ settled-all g s old room =
     here w i (suc (suc (suc zero))) h l b = other w i 3 h l b (λ e. omega arith) (λ e. omega arith)
     here w i (suc (suc (suc (suc zero)))) h l b =
         slot-here (lowered w i) i 4 0 (omega (arith, l .long, more, length-lowered (eqb (numberAt w (5 * i + 4)) 0) w (5 * i + 2) (numberAt w (5 * i + 2)))) (omega arith)
+    here w i (suc (suc (suc (suc (suc k))))) h l b = absurd (omega arith)
+
+-- ---- unplayed
+
+pub length-unplay : (w : List ℤ) (i : ℕ) → length (unplayCell w i) ≡ length w
+length-unplay w i =
+    put-length (putAt (putAt w (5 * i + 2) (numberAt w (5 * i + 4))) (5 * i + 3) 0) (5 * i + 4) 0
+    ∙ put-length (putAt w (5 * i + 2) (numberAt w (5 * i + 4))) (5 * i + 3) 0 ∙ put-length w (5 * i + 2) (numberAt w (5 * i + 4))
+
+pub unplayed-all : (g : Grid) (s : Position) (old : List ℤ) → 5 * size g ≤ length old
+    → fold unplayCell (laid (heldFive g s) (size g) old) (range 0 (size g)) ≡ laid (labelledFive g) (size g) old
+unfolding heldFive labelledFive
+unplayed-all g s old room =
+    laid-fold (labelledFive g) (λ i. refl) (size g) base more unplayCell length-unplay here
+    (λ w i m h l o. cell-there (w₂ w i) i 4 0 m (omega arith) o ∙ cell-there (w₁ w i) i 3 0 m (omega arith) o ∙ cell-there w i 2 (numberAt w (5 * i + 4)) m (omega arith) o)
+    ∙ laid-again (labelledFive g) (heldFive g s) (λ i. refl) (λ i. refl) (size g) old room
+  where
+    base : List ℤ
+    base = laid (heldFive g s) (size g) old
+
+    more : 5 * size g ≤ length base
+    more = omega (arith, laid-length (heldFive g s) (λ i. refl) (size g) old room)
+
+    w₁ : List ℤ → ℕ → List ℤ
+    w₁ w i = putAt w (5 * i + 2) (numberAt w (5 * i + 4))
+
+    w₂ : List ℤ → ℕ → List ℤ
+    w₂ w i = putAt (w₁ w i) (5 * i + 3) 0
+
+    was : (w : List ℤ) (i : ℕ) → i < size g → LaidTo (labelledFive g) (λ i. refl) (size g) base more unplayCell i w
+        → (k : ℕ) → k < 5 → getD w (5 * i + k) (pos 0) ≡ getD (heldFive g s i) k (pos 0)
+    was w i h l k b = laid-ahead (labelledFive g) (heldFive g s) (λ i. refl) (λ i. refl) (size g) old more unplayCell i w l i k (omega arith) h b
+
+    label : (w : List ℤ) (i m : ℕ) → m < 2 → getD (unplayCell w i) (5 * i + m) (pos 0) ≡ getD w (5 * i + m) (pos 0)
+    label w i m b =
+        slot-there (w₂ w i) i 4 m 0 (λ e. omega arith) ∙ slot-there (w₁ w i) i 3 m 0 (λ e. omega arith) ∙ slot-there w i 2 m (numberAt w (5 * i + 4)) (λ e. omega arith)
+
+    here : (w : List ℤ) (i k : ℕ) → i < size g → LaidTo (labelledFive g) (λ i. refl) (size g) base more unplayCell i w → k < 5
+        → getD (unplayCell w i) (5 * i + k) (pos 0) ≡ getD (labelledFive g i) k (pos 0)
+    here w i zero h l b = label w i 0 (omega arith) ∙ was w i h l 0 b
+    here w i (suc zero) h l b = label w i 1 (omega arith) ∙ was w i h l 1 b
+    here w i (suc (suc zero)) h l b =
+        let e : numberAt w (5 * i + 4) ≡ kind g i = ap natural (was w i h l 4 (omega arith)) in
+        slot-there (w₂ w i) i 4 2 0 (λ q. omega arith) ∙ slot-there (w₁ w i) i 3 2 0 (λ q. omega arith)
+        ∙ slot-here w i 2 (numberAt w (5 * i + 4)) (omega (arith, l .long, more)) (omega (arith, kind-few g i)) ∙ ap pos e
+    here w i (suc (suc (suc zero))) h l b =
+        slot-there (w₂ w i) i 4 3 0 (λ e. omega arith)
+        ∙ slot-here (w₁ w i) i 3 0 (omega (arith, l .long, more, put-length w (5 * i + 2) (numberAt w (5 * i + 4)))) (omega arith)
+    here w i (suc (suc (suc (suc zero)))) h l b =
+        slot-here (w₂ w i) i 4 0 (omega (arith, l .long, more, put-length (w₁ w i) (5 * i + 3) 0, put-length w (5 * i + 2) (numberAt w (5 * i + 4)))) (omega arith)
     here w i (suc (suc (suc (suc (suc k))))) h l b = absurd (omega arith)

@@ -53,3 +53,9 @@ swapCell w i = putAt (putAt w (5 * i + 2) (numberAt w (5 * i + 4))) (5 * i + 4) 
 abbrev pub settleCell : List ℤ → ℕ → List ℤ
 settleCell w i =
     putAt (cond (eqb (numberAt w (5 * i + 4)) 0) w (putLowered w (5 * i + 2) (numberAt w (5 * i + 2)))) (5 * i + 4) 0
+
+-- ---- the position before any move again
+
+-- the kind goes back to the third number, and state and fifth number to 0: the labels stay
+abbrev pub unplayCell : List ℤ → ℕ → List ℤ
+unplayCell w i = putAt (putAt (putAt w (5 * i + 2) (numberAt w (5 * i + 4))) (5 * i + 3) 0) (5 * i + 4) 0

@@ -5,10 +5,10 @@ ghost use Prim.Native.Nat.{ℕ, _+_, _*_, _≤_};
 ghost use lib.IntN.{ℤ};
 ghost use lib.ListN.{length};
 ghost use Rattle.game.specs.Grid.{Grid, size};
-ghost use Rattle.game.specs.Position.{Position};
+ghost use Rattle.game.specs.Position.{Position, untouched};
 ghost use Rattle.game.specs.Area.{areaOf};
 ghost use Rattle.area.specs.Numbers.{gridOf};
-ghost use Rattle.area.specs.Stages.{Shape, held};
+ghost use Rattle.area.specs.Stages.{Shape, Stands, held};
 ghost use Rattle.start.specs.Setting.{Setting};
 
 // The units and the safe cells of a grid.
@@ -42,4 +42,16 @@ pub fn settle(work: &mut [i32], cells: usize)
     ensures { λ _. ⌜ ((g : Grid) (s : Position) (old : List ℤ) → size g ≡ cells → 5 * size g ≤ length old → now (work .entry) ≡ held g s old → now (work .exit) ≡ areaOf g s old) ⌝ }
 {
     crate::settle::settle_cells(work, cells);
+}
+
+// The position before any move again, from any position: the labels are not found anew.
+pub fn reset(work: &mut [i32], rows: usize, columns: usize)
+    requires { ⌜ Shape rows columns ⌝ }
+    requires { ⌜ 5 * (rows * columns) ≤ length (now work) ⌝ }
+    ensures { λ _. ⌜ ((g : Grid) (s : Position) (old : List ℤ) → Stands rows columns g s old (now (work .entry)) → now (work .exit) ≡ held g (untouched g) old) ⌝ }
+{
+    let cells = rows * columns;
+    crate::settle::unplay(work, cells);
+    crate::price::price(work, rows, columns);
+    crate::price::swap(work, cells);
 }
