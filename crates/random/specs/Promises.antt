@@ -65,6 +65,19 @@ abbrev pub Rolling : (rows columns : ℕ) → Grid → List ℤ → Option Round
 Rolling rows columns g old none list w′ list′ r = Broken rows columns g old list w′ list′ r
 Rolling rows columns g old (some o) list w′ list′ r = Ended rows columns g old o list w′ list′ r
 
+-- the area stands for a position of a grid of so many safe cells
+pub record Counted (rows columns : ℕ) (w : List ℤ) (safe : ℕ) : Type 0 where
+  pub grid : Grid
+  pub old : List ℤ
+  pub moves : List Move
+  pub stands : Stands rows columns grid (after grid (untouched grid) moves) old w
+  pub counts : safe ≡ closedSafe grid (untouched grid)
+
+-- a round as a search of one
+abbrev pub once : Option Round → Option Searched
+once none = none
+once (some e) = some (record { least = length (movesOf (e .steps)); next = e .next; moves = movesOf (e .steps) })
+
 -- a search was played to its end: the least clicks, the bytes used, the last round left
 pub record Found (rows columns : ℕ) (g : Grid) (old : List ℤ) (o : Searched) (w′ : List ℤ) (r : Rolled) : Type 0 where
   pub answer : r ≡ Rolls.Ended (o .least) (o .next)
