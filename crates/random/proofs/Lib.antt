@@ -1,0 +1,3 @@
+pub mod Takes
+pub mod Courses
+pub mod Searches

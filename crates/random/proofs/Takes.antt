@@ -1,0 +1,138 @@
+-- A step at a drawn cell: the draw is among the cells of the choice, and the cell at the drawn place may be taken. Assumes nothing.
+use Rattle.rounds.specs.declared.State.{State}
+use Rattle.draws.specs.declared.Drawn.{Drawn}
+use Rattle.draws.specs.declared.Drawn.the-variants.{Place, Short}
+use Rattle.random.specs.declared.Stepped.the-variants.{Dry, Went}
+use Rattle.game.specs.Draws as Game
+use Prim.Native.Nat.{ℕ, _*_, _<_, _≤_}
+use native.Mathlib.Omega.{arith}
+use native.Mathlib.Decide.{decLt}
+use native.Mathlib.Nat.{mul-le-mul-left}
+use mathlib.Core.Path.{_∙_, _≡_, ap, refl, subst, sym}
+use mathlib.Core.Bool.{Bool, cond, false}
+use mathlib.Core.List.{List, [], _∷_}
+use mathlib.Core.Option.{Option}
+use lib.Dec.{T, ltb, ltb→lt, lt→ltb, nltb→le}
+use lib.IntN.{ℤ}
+use lib.ListN.{List·getD-eq-default, getD, length}
+use Rattle.area.specs.Stages.{Shape}
+use Rattle.choices.specs.Picks.{candidatesOf, forClick}
+use Rattle.choices.specs.Tests.{candidateAt}
+use Rattle.draws.specs.Answers.{drawnOf}
+use Rattle.game.specs.Draws.{draw}
+use Rattle.game.specs.Grid.{Grid, safe, zeroCell}
+use Rattle.game.specs.Lists.{count, has, keep, range}
+use Rattle.game.specs.Moves.{Move, left}
+use Rattle.game.specs.Position.{Position, closed, closedSafe}
+use Rattle.game.specs.Rounds.{Choice, choice, chords, clicks, movesAt, stepOf, topCells, unitCells, width}
+use Rattle.random.specs.Promises.{Stepping, takenMoves}
+use Rattle.rounds.specs.Promises.{Made}
+use Rattle.game.proofs.Choices.{Top, looked→, never-stuck, premium-pays, top→, unit→}
+use Rattle.game.proofs.Counts.{length-keep}
+use Rattle.game.proofs.Legal.{zero-poor}
+use Rattle.game.proofs.Members.{getD-has, has-range, keep-has}
+use Rattle.game.proofs.Played.{Played}
+use Rattle.game.proofs.Rounds.{IfSome, Rolled, rolled}
+use Rattle.game.proofs.Truth.{T→true, no→false}
+
+-- ---- the moves by the highest raised premium
+
+pub click-taken : (g : Grid) (s : Position) (top i : ℕ) → top < 10 → left i ∷ [] ≡ takenMoves g s top i
+click-taken g s top i h = ap (λ (b : Bool). cond b (left i ∷ []) (movesAt g s i)) (sym (T→true (ltb top 10) (lt→ltb top 10 h)))
+
+pub act-taken : (g : Grid) (s : Position) (top i : ℕ) → 10 ≤ top → movesAt g s i ≡ takenMoves g s top i
+act-taken g s top i h =
+    ap (λ (b : Bool). cond b (left i ∷ []) (movesAt g s i)) (sym (no→false (ltb top 10) (λ t. absurd (omega (arith, ltb→lt top 10 t)))))
+
+-- ---- the cell at a place
+
+-- it lies on the grid, also where nothing is at that place
+pub picked-inside : (rows columns : ℕ) (f : ℕ → Bool) (k i : ℕ) → Shape rows columns → i ≡ getD (keep f (range 0 (rows * columns))) k 0 → i < rows * columns
+picked-inside rows columns f k i h e =
+    elim (decLt k (length (keep f (range 0 (rows * columns))))) [
+      | yes l ↦ rw e (has-range 0 (rows * columns) _ (keep-has f _ (range 0 (rows * columns)) (getD-has (keep f (range 0 (rows * columns))) k l) .0) .1)
+      | no l ↦ let z : getD (keep f (range 0 (rows * columns))) k 0 ≡ 0 = List·getD-eq-default (keep f (range 0 (rows * columns))) 0 (omega arith) in
+          omega (arith, h .some-rows, mul-le-mul-left rows (h .some-columns))
+    ]
+
+-- what the moves at a cell ask for, and that they are a step's
+record Takes (g : Grid) (s : Position) (top i : ℕ) (ms : List Move) : Type 0 where
+  is-safe : T (safe g i)
+  shut : top < 10 → T (closed s i)
+  no-zero : 10 ≤ top → T (zeroCell g i) → ⊥
+  same : takenMoves g s top i ≡ ms
+
+takes : (g : Grid) (s : Position) (top i k : ℕ) → k < width (choice false g s) → ltb top 10 ≡ forClick (choice false g s) → i ≡ getD (candidatesOf (choice false g s)) k 0
+    → Takes g s top i (stepOf g s (choice false g s) k .moves)
+unfolding choice
+takes g s top i k = go (topCells false g s) (top→ false g s)
+  where
+    choose : List ℕ → Choice
+    choose ts = elim ts [ [] ↦ clicks (unitCells g s) | x ∷ xs ↦ chords (x ∷ xs) ]
+
+    go : (ts : List ℕ) → ((x : ℕ) → T (has x ts) → Top false g s x) → k < width (choose ts) → ltb top 10 ≡ forClick (choose ts) → i ≡ getD (candidatesOf (choose ts)) k 0
+        → Takes g s top i (stepOf g s (choose ts) k .moves)
+    go [] f l e q =
+        let h : top < 10 = ltb→lt top 10 (rw e tt) in
+        let u = unit→ g s i (rw q (getD-has (unitCells g s) k l)) in
+        record {
+          is-safe = u .is-safe;
+          shut = λ a. u .is-closed;
+          no-zero = λ a z. absurd (omega arith);
+          same = sym (click-taken g s top i h) ∙ ap (λ (j : ℕ). left j ∷ []) q;
+        }
+    go (x ∷ xs) f l e q =
+        let n : 10 ≤ top = nltb→le top 10 (rw e tt) in
+        let v = f i (rw q (getD-has (x ∷ xs) k l)) in
+        let a = looked→ false g s i (v .is-looked) in
+        record {
+          is-safe = a .1;
+          shut = λ h. absurd (omega arith);
+          no-zero = λ h z.
+              let c = premium-pays g s i (v .reaches) in
+              let p = zero-poor g s i (record { inside = a .0; none = z }) in
+              absurd (omega arith);
+          same = sym (act-taken g s top i n) ∙ ap (movesAt g s) q;
+        }
+
+-- ---- one step
+
+module _ (rows columns : ℕ) (g : Grid) (s : Position) (old w : List ℤ) (top n cells : ℕ) (bytes : List ℕ) (list : List ℕ) (t : State) (d : Drawn)
+    (tells : (ltb top 10 ≡ forClick (choice false g s)) × (keep (candidateAt top w) (range 0 cells) ≡ candidatesOf (choice false g s)))
+    (counted : n ≡ count (candidateAt top w) (range 0 cells)) (drew : drawnOf d ≡ draw bytes (t .next) n) where
+  -- as many cells were counted as the choice is among
+  wide : n ≡ width (choice false g s)
+  wide = counted ∙ sym (length-keep (candidateAt top w) (range 0 cells)) ∙ ap (λ (xs : List ℕ). length xs) (tells .1) ∙ of (choice false g s)
+    where
+      of : (c : Choice) → length (candidatesOf c) ≡ width c
+      of (chords is) = refl
+      of (clicks is) = refl
+
+  drawn-so : drawnOf d ≡ draw bytes (t .next) (width (choice false g s))
+  drawn-so = drew ∙ ap (draw bytes (t .next)) wide
+
+  pub step-dry : d ≡ Short → Stepping rows columns g s old (draw bytes (t .next) (width (choice false g s))) list t w w list Dry
+  step-dry e =
+      subst (λ (o : Option Game.Drawn). Stepping rows columns g s old o list t w w list Dry) (sym (ap drawnOf e) ∙ drawn-so)
+      (record { answer = refl; same-work = refl; same-list = refl })
+
+  pub step-went : (p k i : ℕ) (w′ : List ℤ) (list′ : List ℕ) (r : State) → Played g s → 1 ≤ closedSafe g s → d ≡ Place p k → i ≡ getD (keep (candidateAt top w) (range 0 cells)) p 0
+      → (T (safe g i) → (top < 10 → T (closed s i)) → (10 ≤ top → T (zeroCell g i) → ⊥)
+      → Made rows columns g s old (takenMoves g s top i) list (record { moves = t .moves; closed = t .closed; next = k }) w′ list′ r)
+      → Stepping rows columns g s old (draw bytes (t .next) (width (choice false g s))) list t w w′ list′ (Went r)
+  step-went p k i w′ list′ r f h e q made =
+      let o = sym (ap drawnOf e) ∙ drawn-so in
+      let l = subst (IfSome (Rolled bytes (t .next) (width (choice false g s)))) (sym o) (rolled bytes (t .next) (width (choice false g s)) (never-stuck false g s f h)) in
+      let a = takes g s top i p (l .inside) (tells .0) (q ∙ ap (λ (xs : List ℕ). getD xs p 0) (tells .1)) in
+      let m = subst (λ (ms : List Move). Made rows columns g s old ms list (record { moves = t .moves; closed = t .closed; next = k }) w′ list′ r) (a .same)
+      (made (a .is-safe) (a .shut) (a .no-zero)) in
+      subst (λ (o : Option Game.Drawn). Stepping rows columns g s old o list t w w′ list′ (Went r)) o
+      (record {
+        state = r;
+        answer = refl;
+        stands = m .stands;
+        noted = m .noted;
+        clicks = m .clicks;
+        left-closed = m .left-closed;
+        next-draw = m .next-draw;
+      })

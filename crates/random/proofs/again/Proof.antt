@@ -1,0 +1,28 @@
+-- `random::again`: once reset, the area stands for the position before any move. Assumes nothing.
+use Rattle.game.specs.Position.{untouched}
+use Rattle.random.proofs.Searches.{reset-fresh, reset-stands}
+use borrow.Author.Needs.{needs}
+use Rattle.random.proofs.again.Statement.{statement}
+use Rattle.random.proofs.again.Tie as tie
+
+reset-requires : tie.Need-reset-requires
+reset-requires c κs = search needs
+
+unlisted-requires : tie.Need-unlisted-requires
+unlisted-requires c κs =
+    let x = c .before .before .reset in
+    let b = c .before .before .before .before .before in
+    let a = b .args in
+    (b .pre .0, (search needs, reset-fresh (a .rows) (a .columns) (a .work .now) (x .last .0) (a .safe) (b .pre .1 .1) (x .ensures)))
+
+same-length : tie.Need-same-length
+same-length c = search needs
+
+returns : tie.Need-returns
+returns c =
+    let x = c .before .before .before .before .reset in
+    let a = c .before .before .before .before .before .before .before .args in
+    λ g s old st. c .before .unlisted .ensures g old (reset-stands (a .rows) (a .columns) g s old (a .work .now) (x .last .0) st (x .ensures g s old st))
+
+pub again-spec : {M : Type 1} → statement M
+again-spec = tie.close (tie.spec reset-requires unlisted-requires same-length returns)

@@ -1,0 +1,113 @@
+-- `random::search_on`: so far the rounds are those of the definition. Assumes nothing.
+use native.Mathlib.Omega.{arith}
+use mathlib.Core.Path.{_≡_, refl}
+use lib.ListN.{length}
+use borrow.Author.Needs.{needs}
+use Rattle.game.specs.Moves.{after}
+use Rattle.game.specs.Position.{untouched}
+use Rattle.game.specs.Rounds.{searchFrom}
+use Rattle.random.proofs.Searches.{Midway, search-breaks, search-ends, search-goes-on, still-counted}
+use Rattle.random.proofs.search_on.Statement.{statement}
+use Rattle.random.proofs.search_on.Tie as tie
+
+abbrev Inv-loop : tie.InvT-loop
+Inv-loop work₀ rows columns draws safe clicks next more least₀ at₀ left₀ work least at left =
+    (length work ≡ length work₀) × Midway rows columns work₀ draws clicks next more work least at left
+
+abbrev μ-loop : tie.MeasureT-loop
+μ-loop work₀ rows columns draws safe clicks next more least₀ at₀ left₀ work least at left = left
+
+loop-holds : tie.Need-loop-holds Inv-loop μ-loop
+loop-holds c = (refl, record { sofar = λ g old ms st. record { moves = ms; stands = st; rest = refl } })
+
+again-requires : tie.Need-again-requires Inv-loop μ-loop
+again-requires c κs =
+    let l = c .before .before in
+    let b = l .before .before in
+    let a = b .args in (
+      b .pre .0,
+      (
+        search needs,
+        still-counted (a .rows) (a .columns) (a .work .now) (a .draws .now) (a .clicks) (a .next) (a .more) (l .loop .work) (l .loop .least) (l .loop .at) (l .loop .left) (a .safe)
+            (l .loop .inv .1) (b .pre .1 .1),
+      ),
+    )
+
+enum-known-rolled : tie.Need-enum-known-rolled Inv-loop μ-loop
+enum-known-rolled c = search needs
+
+enum-told : tie.Need-enum-told Inv-loop μ-loop
+enum-told c = search needs
+
+same-length : tie.Need-same-length Inv-loop μ-loop
+same-length c = search needs
+
+returns : tie.Need-returns Inv-loop μ-loop
+returns c =
+    let x = c .before .before .before in
+    let k = x .before .before in
+    let l = k .before in
+    let a = l .before .before .args in
+    λ g old ms st.
+    let f = l .loop .inv .1 .sofar g old ms st in
+    search-breaks (a .rows) (a .columns) g old (a .draws .now) (l .loop .at) (x .again .last .0) (x .again .result) (x .again .ensures g (after g (untouched g) (f .moves)) old (f .stands))
+    (searchFrom (a .more) g (a .draws .now) (record { least = a .clicks; next = a .next; moves = ms })) (l .loop .work) (l .loop .least) (l .loop .left) f (k .loop-test .taken) (c .enum-told .given .1)
+
+fewer-requires : tie.Need-fewer-requires Inv-loop μ-loop
+fewer-requires c κs = search needs
+
+sub-still : tie.Need-sub-still Inv-loop μ-loop
+sub-still c = search needs
+
+still-requires : tie.Need-still-requires Inv-loop μ-loop
+still-requires c κs = search needs
+
+loop-less : tie.Need-loop-less Inv-loop μ-loop
+loop-less c = search needs
+
+loop-again : tie.Need-loop-again Inv-loop μ-loop
+loop-again c =
+    let o = c .before .before .before in
+    let x = o .before .before .before in
+    let k = x .before .before in
+    let l = k .before in
+    let a = l .before .before .args in (
+      search needs,
+      record {
+        sofar = λ g old ms st.
+            let f = l .loop .inv .1 .sofar g old ms st in
+            search-goes-on (a .rows) (a .columns) g old (a .draws .now) (l .loop .at) (x .again .last .0) (x .again .result) (x .again .ensures g (after g (untouched g) (f .moves)) old (f .stands))
+            (searchFrom (a .more) g (a .draws .now) (record { least = a .clicks; next = a .next; moves = ms })) (l .loop .work) (l .loop .least) (l .loop .left) f (k .loop-test .taken)
+            _ _ (c .before .fewer .result) (c .still .result) (o .rolled .given .1) (c .before .fewer .ensures) (c .still .ensures .0);
+      },
+    )
+
+same-length-2 : tie.Need-same-length-2 Inv-loop μ-loop
+same-length-2 c = search needs
+
+returns-2 : tie.Need-returns-2 Inv-loop μ-loop
+returns-2 c =
+    let l = c .before in
+    let a = l .before .before .args in
+    λ g old ms st. search-ends (a .rows) (a .columns) g old (a .draws .now) (searchFrom (a .more) g (a .draws .now) (record { least = a .clicks; next = a .next; moves = ms }))
+    (l .loop .work) (l .loop .least) (l .loop .at) (l .loop .left) (l .loop .inv .1 .sofar g old ms st) (omega arith)
+
+pub search-on-spec : {M : Type 1} → statement M
+search-on-spec =
+    tie.close
+    (tie.spec
+    Inv-loop
+    μ-loop
+    loop-holds
+    again-requires
+    enum-known-rolled
+    enum-told
+    same-length
+    returns
+    fewer-requires
+    sub-still
+    still-requires
+    loop-less
+    loop-again
+    same-length-2
+    returns-2)

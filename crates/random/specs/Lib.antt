@@ -1,0 +1,2 @@
+-- What random steps, rounds and searches promise of the work area and the move list.
+pub mod Promises

@@ -1,0 +1,222 @@
+// Random steps, rounds and searches on a work area that stands for a position.
+use draws::Drawn;
+use rounds::State;
+use rounds::moves;
+ghost use mathlib.Core.Path.{_≡_};
+ghost use mathlib.Core.Bool.{cond, false};
+ghost use mathlib.Core.List.{List};
+ghost use Prim.Native.Nat.{ℕ, _+_, _*_, _^_, _<_, _≤_, min};
+ghost use lib.Dec.{T, eqb};
+ghost use lib.IntN.{ℤ};
+ghost use lib.ListN.{length};
+ghost use Rattle.game.specs.Grid.{Grid, safe, zeroCell};
+ghost use Rattle.game.specs.Position.{Position, closed as isClosed, closedSafe, untouched};
+ghost use Rattle.game.specs.Moves.{Move, after};
+ghost use Rattle.game.specs.Draws.{draw};
+ghost use Rattle.game.specs.Rounds.{choice, width, randomRound, randomSearch, searchFrom};
+ghost use Rattle.area.specs.Stages.{Shape, Stands};
+ghost use Rattle.rounds.specs.Promises.{Made, Fresh};
+ghost use Rattle.random.specs.Promises.{Counted, takenMoves, once, Stepping, Rolling, Searching};
+
+// A step was made, or the draws ran dry.
+pub enum Stepped {
+    Went(State),
+    Dry,
+}
+
+// Clicks and the place after the last draw, or the draws ran dry.
+pub enum Rolled {
+    Ended(usize, usize),
+    Dry,
+}
+
+// The moves of a step at the cell that it took: one L where the highest raised premium is below 10.
+fn take(
+    work: &mut [i32],
+    rows: usize,
+    columns: usize,
+    list: &mut [u32],
+    state: State,
+    top: usize,
+    index: usize,
+) -> State
+    requires { ⌜ Shape rows columns ⌝ }
+    requires { ⌜ (5 * (rows * columns) ≤ length (now work)) × (index < rows * columns) × (state .moves ≤ 2 ^ 45) ⌝ }
+    ensures { λ r. ⌜ ((g : Grid) (s : Position) (old : List ℤ) → Stands rows columns g s old (now (work .entry))
+        → T (safe g index) → (top < 10 → T (isClosed s index)) → (10 ≤ top → T (zeroCell g index) → ⊥) → state .closed ≡ closedSafe g s
+        → Made rows columns g s old (takenMoves g s top index) (now (list .entry)) state (now (work .exit)) (now (list .exit)) r) ⌝ }
+{
+    if top < 10 {
+        return moves::click(work, rows, columns, list, state, index);
+    }
+    moves::act(work, rows, columns, list, state, index)
+}
+
+// A step at a cell drawn among those of highest premium, or, if none reaches 0, among the closed units.
+pub fn step(
+    work: &mut [i32],
+    rows: usize,
+    columns: usize,
+    list: &mut [u32],
+    draws: &[u8],
+    state: State,
+) -> Stepped
+    requires { ⌜ Shape rows columns ⌝ }
+    requires { ⌜ (5 * (rows * columns) ≤ length (now work)) × (state .moves ≤ 2 ^ 45) ⌝ }
+    ensures { λ r. ⌜ ((g : Grid) (s : Position) (old : List ℤ) → Stands rows columns g s old (now (work .entry))
+        → 1 ≤ closedSafe g s → state .closed ≡ closedSafe g s
+        → Stepping rows columns g s old (draw (now (draws .entry)) (state .next) (width (choice false g s))) (now (list .entry)) state (now (work .entry)) (now (work .exit)) (now (list .exit)) r) ⌝ }
+{
+    let cells = rows * columns;
+    let top = choices::ties::top(work, cells);
+    let candidates = choices::ties::count(work, cells, top);
+    let drawn = draws::draw(draws, state.next, candidates);
+    let Drawn::Place(place, next) = drawn else {
+        return Stepped::Dry;
+    };
+    let index = choices::ties::pick(work, cells, top, place);
+    let onward = State {
+        moves: state.moves,
+        closed: state.closed,
+        next,
+    };
+    Stepped::Went(take(work, rows, columns, list, onward, top, index))
+}
+
+// A round from the position before any move, of so many safe cells, that reads its draws from a place on.
+pub fn round(
+    work: &mut [i32],
+    rows: usize,
+    columns: usize,
+    list: &mut [u32],
+    draws: &[u8],
+    safe: usize,
+    next: usize,
+) -> Rolled
+    requires { ⌜ Shape rows columns ⌝ }
+    requires { ⌜ 5 * (rows * columns) ≤ length (now work) ⌝ }
+    requires { ⌜ Fresh rows columns (now work) safe ⌝ }
+    ensures { λ r. ⌜ ((g : Grid) (old : List ℤ) → Stands rows columns g (untouched g) old (now (work .entry))
+        → Rolling rows columns g old (randomRound g (now (draws .entry)) next) (now (list .entry)) (now (work .exit)) (now (list .exit)) r) ⌝ }
+{
+    let mut state = State {
+        moves: 0,
+        closed: safe,
+        next,
+    };
+    while 0 < state.closed {
+        let stepped = step(work, rows, columns, list, draws, state);
+        let Stepped::Went(after) = stepped else {
+            return Rolled::Dry;
+        };
+        state = after;
+    }
+    Rolled::Ended(state.moves, state.next)
+}
+
+// A round that notes no move.
+fn unlisted(
+    work: &mut [i32],
+    rows: usize,
+    columns: usize,
+    draws: &[u8],
+    safe: usize,
+    next: usize,
+) -> Rolled
+    requires { ⌜ Shape rows columns ⌝ }
+    requires { ⌜ 5 * (rows * columns) ≤ length (now work) ⌝ }
+    requires { ⌜ Fresh rows columns (now work) safe ⌝ }
+    ensures { λ r. ⌜ ((g : Grid) (old : List ℤ) → Stands rows columns g (untouched g) old (now (work .entry))
+        → Searching rows columns g old (once (randomRound g (now (draws .entry)) next)) (now (work .exit)) r) ⌝ }
+{
+    let mut none = [0u32; 0];
+    round(work, rows, columns, &mut none, draws, safe, next)
+}
+
+// One more round: the labels stay, and the position is the one before any move again.
+fn again(
+    work: &mut [i32],
+    rows: usize,
+    columns: usize,
+    draws: &[u8],
+    safe: usize,
+    next: usize,
+) -> Rolled
+    requires { ⌜ Shape rows columns ⌝ }
+    requires { ⌜ 5 * (rows * columns) ≤ length (now work) ⌝ }
+    requires { ⌜ Counted rows columns (now work) safe ⌝ }
+    ensures { λ r. ⌜ ((g : Grid) (s : Position) (old : List ℤ) → Stands rows columns g s old (now (work .entry))
+        → Searching rows columns g old (once (randomRound g (now (draws .entry)) next)) (now (work .exit)) r) ⌝ }
+{
+    start::begin::reset(work, rows, columns);
+    unlisted(work, rows, columns, draws, safe, next)
+}
+
+// The fewer clicks.
+fn fewer(least: usize, clicks: usize) -> usize
+    ensures { λ r. ⌜ r ≡ min least clicks ⌝ }
+{
+    if clicks < least { clicks } else { least }
+}
+
+// The rounds still to play: none after one that used no bytes, since each later one would be the same.
+fn still(rounds: usize, began: usize, next: usize) -> usize
+    ensures { λ r. ⌜ (r ≡ cond (eqb next began) 0 rounds) × (r ≤ rounds) ⌝ }
+{
+    if next == began { 0 } else { rounds }
+}
+
+// So many rounds more, after those that came to these least clicks and this place.
+fn search_on(
+    work: &mut [i32],
+    rows: usize,
+    columns: usize,
+    draws: &[u8],
+    safe: usize,
+    clicks: usize,
+    next: usize,
+    more: usize,
+) -> Rolled
+    requires { ⌜ Shape rows columns ⌝ }
+    requires { ⌜ 5 * (rows * columns) ≤ length (now work) ⌝ }
+    requires { ⌜ Counted rows columns (now work) safe ⌝ }
+    ensures { λ r. ⌜ ((g : Grid) (old : List ℤ) (ms : List Move) → Stands rows columns g (after g (untouched g) ms) old (now (work .entry))
+        → Searching rows columns g old (searchFrom more g (now (draws .entry)) (record { least = clicks; next = next; moves = ms })) (now (work .exit)) r) ⌝ }
+{
+    let mut least = clicks;
+    let mut at = next;
+    let mut left = more;
+    while 0 < left {
+        let rolled = again(work, rows, columns, draws, safe, at);
+        let Rolled::Ended(paid, onward) = rolled else {
+            return Rolled::Dry;
+        };
+        least = fewer(least, paid);
+        left = still(left - 1, at, onward);
+        at = onward;
+    }
+    Rolled::Ended(least, at)
+}
+
+// So many rounds one after another through the same draws: the least clicks.
+pub fn search(
+    work: &mut [i32],
+    rows: usize,
+    columns: usize,
+    draws: &[u8],
+    safe: usize,
+    rounds: usize,
+) -> Rolled
+    requires { ⌜ Shape rows columns ⌝ }
+    requires { ⌜ (5 * (rows * columns) ≤ length (now work)) × (1 ≤ rounds) ⌝ }
+    requires { ⌜ Fresh rows columns (now work) safe ⌝ }
+    ensures { λ r. ⌜ ((g : Grid) (old : List ℤ) → Stands rows columns g (untouched g) old (now (work .entry))
+        → Searching rows columns g old (randomSearch g (now (draws .entry)) rounds) (now (work .exit)) r) ⌝ }
+{
+    let rolled = unlisted(work, rows, columns, draws, safe, 0);
+    let Rolled::Ended(clicks, next) = rolled else {
+        return Rolled::Dry;
+    };
+    let more = still(rounds - 1, 0, next);
+    search_on(work, rows, columns, draws, safe, clicks, next, more)
+}
