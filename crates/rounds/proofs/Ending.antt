@@ -88,7 +88,7 @@ round-sound false g = greedy-sound g
 round-sound true g = openings-first-sound g
 
 -- moves noted from the first place on
-listed-moves : (ms : List Move) (list : List ℕ) → length ms ≤ length list → sets list 0 (map word ms) ≡ listOf ms list
+pub listed-moves : (ms : List Move) (list : List ℕ) → length ms ≤ length list → sets list 0 (map word ms) ≡ listOf ms list
 unfolding listOf
 listed-moves ms list h =
     sets-eq (map word ms) list 0 (omega (arith, length-map ms word)) ∙ ap (λ (k : ℕ). map word ms ++ drop k list) (zero-add (length (map word ms)))

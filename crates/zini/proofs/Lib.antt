@@ -3,3 +3,5 @@ pub mod Promises
 pub mod Counts
 pub mod Played
 pub mod More
+pub mod Clearing
+pub mod Rolling

@@ -1,15 +1,15 @@
 -- One check more after others: a value below its least. Assumes nothing.
 use Prim.Native.Nat.{ℕ, _<_, _≤_}
 use native.Mathlib.Omega.{arith}
-use native.Mathlib.Decide.{decLe}
+use native.Mathlib.Decide.{decLe, ℕ-discrete}
 use mathlib.Core.Path.{_≡_, ap, refl, sym, _∙_}
 use mathlib.Core.Bool.{Bool, true, false}
 use mathlib.Core.List.{List, [], _∷_, _++_}
 use mathlib.Core.Option.{Option, none, some}
-use lib.Dec.{ltb}
+use lib.Dec.{eqb, ltb}
 use lib.IntN.{ℤ}
 use Rattle.game.specs.Grid.{Grid}
-use borrow.Author.Tests.{lt-ltb, le-ltb}
+use borrow.Author.Tests.{eq-eqb, le-ltb, lt-ltb, ne-eqb}
 use Rattle.game.specs.Calls.{Check, Refusal, firstGiven, gridChecks}
 use Rattle.zini.proofs.Promises.{given-append, orElse}
 use Rattle.zini.proofs.Verdict.{Passed, none≢some, passed}
@@ -50,3 +50,11 @@ all-passed g w a b f e = (passed g w first, elim (decLe b a) [ yes h ↦ h | no 
   where
     first : firstGiven (gridChecks g w) ≡ none
     first = first-none (gridChecks g w) (reaches a b f) e
+
+-- 0 is what lies below 1
+pub none-below : (n : ℕ) → ltb n 1 ≡ eqb n 0
+none-below n =
+    elim (ℕ-discrete n 0) [
+      | yes e ↦ lt-ltb n 1 (omega arith) ∙ sym (eq-eqb n 0 e)
+      | no e ↦ le-ltb n 1 (omega arith) ∙ sym (ne-eqb n 0 e)
+    ]

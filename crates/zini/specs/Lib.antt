@@ -1,2 +1,3 @@
 -- What the answers of the public calls stand for.
 pub mod Answers
+pub mod Clearing
