@@ -1,5 +1,6 @@
 -- F on cells in turn: what is read of a cell says whether it is flagged, and no cell stands in a square twice. Assumes nothing.
-use Prim.Native.Nat.{ℕ, _*_, _+_, _<_}
+use Prim.Native.Nat.{ℕ, _*_, _<_}
+use native.Mathlib.Omega.{arith}
 use mathlib.Core.Path.{_∙_, _≡_, ap, refl, subst, sym}
 use mathlib.Core.Bool.{Bool, _&&_, false, not, true}
 use mathlib.Core.List.{List, [], _++_, _∷_, map}
@@ -14,7 +15,7 @@ use Rattle.game.specs.Lists.{has, keep}
 use Rattle.game.specs.Moves.{Move, after, flag, play}
 use Rattle.game.specs.Position.{Position, closed, closedSafe, flagged, unflagged}
 use Rattle.play.specs.Walks.{kindAt, squareOf, stateAt}
-use Rattle.rounds.specs.Promises.{Made}
+use Rattle.rounds.specs.Promises.{Carried, Made}
 use Rattle.rounds.specs.Walks.{Over, flagsFrom}
 use Rattle.choices.proofs.Kept.{keep-ext}
 use Rattle.game.proofs.Counts.{Once}
@@ -42,7 +43,7 @@ flags-append g (x ∷ xs) ys s = go (unflagged g s x) (flags-append g xs ys (pla
     go false hit miss = miss
 
 -- where no cell stands twice, each is flagged as it was at first
-pub flags-once : (g : Grid) (xs : List ℕ) (s : Position) → Once xs → flagsFrom g s xs ≡ map flag (keep (unflagged g s) xs)
+flags-once : (g : Grid) (xs : List ℕ) (s : Position) → Once xs → flagsFrom g s xs ≡ map flag (keep (unflagged g s) xs)
 unfolding play
 flags-once g [] s o = refl
 flags-once g (x ∷ xs) s o = go (unflagged g s x) (flags-once g xs (set s x 2) (o .1)) (flags-once g xs s (o .1))
@@ -78,15 +79,14 @@ module _ (rows columns : ℕ) (w : List ℤ) (list : List ℕ) (t : State) (i : 
       (rw (eqb-yes (getD s i 0) 2 (sym (state-read rows columns g s old w i h st k e) ∙ q)) tt)))
 
   -- a mine without flag
-  pub flag-noted : (k m : ℕ) (w′ : List ℤ) (list′ : List ℕ) → k ≡ kindAt w i → k ≡ 0 → m ≡ stateAt w i → (m ≡ 2 → ⊥)
+  pub flag-noted : (k m : ℕ) (w′ : List ℤ) (list′ : List ℕ) (t′ : State) → k ≡ kindAt w i → k ≡ 0 → m ≡ stateAt w i → (m ≡ 2 → ⊥)
       → ((g : Grid) (s : Position) (old : List ℤ) → Stands rows columns g s old w → T (mine g i) → T (closed s i) → Stands rows columns g (play g s (flag i)) old w′)
-      → list′ ≡ set list (t .moves) (2 * 65536 + i)
-      → Over flagsFrom (i ∷ []) rows columns w list t w′ list′ (record { moves = t .moves + 1; closed = t .closed; next = t .next })
+      → Carried 2 i 0 list t list′ t′ → Over flagsFrom (i ∷ []) rows columns w list t w′ list′ t′
   unfolding play
-  flag-noted k m w′ list′ ek zk em nm q n = record { made = on }
+  flag-noted k m w′ list′ t′ ek zk em nm q n = record { made = on }
     where
       on : (g : Grid) (s : Position) (old : List ℤ) → Stands rows columns g s old w → t .closed ≡ closedSafe g s
-          → Made rows columns g s old (flagsFrom g s (i ∷ [])) list t w′ list′ (record { moves = t .moves + 1; closed = t .closed; next = t .next })
+          → Made rows columns g s old (flagsFrom g s (i ∷ [])) list t w′ list′ t′
       on g s old st e =
           let a = is-mine rows columns g s old w i h st k ek zk in
           let f = played rows columns g s old w i h st in
@@ -94,9 +94,8 @@ module _ (rows columns : ℕ) (w : List ℤ) (list : List ℕ) (t : State) (i : 
           let no : flagged s i ≡ false = eqb-no (getD s i 0) 2 (λ z. nm (state-read rows columns g s old w i h st m em ∙ z)) in
           let b : T (closed s i) = shut (closed s i) (sym no ∙ f .mines i ins a) in
           let c : unflagged g s i ≡ true = rw (T→true (mine g i) a, no) in
-          let u : State = record { moves = t .moves + 1; closed = t .closed; next = t .next } in
-          subst (λ (ms : List Move). Made rows columns g s old ms list t w′ list′ u) (sym (ap (FlagsFrom g s i []) c)) (made-one rows columns g s old (flag i) list t w′ list′ u
-          (q g s old st a b) n refl (e ∙ sym (flag-count g s old i (st .room) ins f a b)) refl)
+          subst (λ (ms : List Move). Made rows columns g s old ms list t w′ list′ t′) (sym (ap (FlagsFrom g s i []) c))
+          (made-one rows columns g s old (flag i) 0 list t w′ list′ t′ n (q g s old st a b) (omega (arith, flag-count g s old i (st .room) ins f a b)) e)
         where
           shut : (x : Bool) → false ≡ not x → T x
           shut true z = tt

@@ -10,9 +10,9 @@ use lib.Seq.{sets}
 use Rattle.rounds.specs.declared.State.{State}
 use Rattle.area.specs.Stages.{Stands}
 use Rattle.game.specs.Grid.{Grid}
-use Rattle.game.specs.Moves.{Move, after, play, word}
-use Rattle.game.specs.Position.{Position, closedSafe}
-use Rattle.rounds.specs.Promises.{Made}
+use Rattle.game.specs.Moves.{Move, after, cellOf, kindOf, play, word}
+use Rattle.game.specs.Position.{Position, closedSafe, opened}
+use Rattle.rounds.specs.Promises.{Carried, Made}
 use Rattle.rounds.specs.Walks.{Over}
 use Rattle.game.proofs.Units.{after-append}
 
@@ -31,10 +31,11 @@ module _ (rows columns : ℕ) (g : Grid) (s : Position) (old : List ℤ) where
       → Made rows columns g s old [] list t w list t
   made-none w list t st e = record { stands = st; noted = refl; clicks = omega arith; left-closed = e; next-draw = refl }
 
-  pub made-one : (m : Move) (list : List ℕ) (t : State) (w′ : List ℤ) (list′ : List ℕ) (t′ : State) → Stands rows columns g (play g s m) old w′
-      → list′ ≡ set list (t .moves) (word m) → t′ .moves ≡ t .moves + 1 → t′ .closed ≡ closedSafe g (play g s m) → t′ .next ≡ t .next
+  pub made-one : (m : Move) (opened : ℕ) (list : List ℕ) (t : State) (w′ : List ℤ) (list′ : List ℕ) (t′ : State) → Carried (kindOf m) (cellOf m) opened list t list′ t′
+      → Stands rows columns g (play g s m) old w′ → opened + closedSafe g (play g s m) ≡ closedSafe g s → t .closed ≡ closedSafe g s
       → Made rows columns g s old (m ∷ []) list t w′ list′ t′
-  made-one m list t w′ list′ t′ st n k e d = record { stands = st; noted = n; clicks = k; left-closed = e; next-draw = d }
+  made-one m opened list t w′ list′ t′ c st k e =
+      record { stands = st; noted = c .written; clicks = c .one-more; left-closed = omega (arith, c .fewer); next-draw = c .same-draw }
 
   pub made-both : (ms ns : List Move) (list : List ℕ) (t : State) (v : List ℤ) (l : List ℕ) (u : State) (w′ : List ℤ) (list′ : List ℕ) (t′ : State)
       → Made rows columns g s old ms list t v l u → Made rows columns g (after g s ms) old ns l u w′ list′ t′

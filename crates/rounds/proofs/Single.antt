@@ -1,6 +1,5 @@
--- L and C, each noted: what they opened is closed no more; and the moves at a chosen cell one after the other. Assumes nothing.
-use Prim.Native.Nat.{ℕ, _*_, _+_, _-_, _<_}
-use native.Mathlib.Omega.{arith}
+-- L if the cell is closed; and the moves at a chosen cell one after the other. Assumes nothing.
+use Prim.Native.Nat.{ℕ, _*_, _<_}
 use native.Mathlib.Decide.{ℕ-discrete}
 use mathlib.Core.Path.{_∙_, _≡_, ap, refl, subst}
 use mathlib.Core.Bool.{Bool, _&&_, cond, false, not, true}
@@ -16,32 +15,15 @@ use Rattle.game.specs.Lists.{keep}
 use Rattle.game.specs.Moves.{after, chord, flag, left, play, reveal}
 use Rattle.game.specs.Position.{Position, closed, closedSafe, flagged, unflagged}
 use Rattle.game.specs.Rounds.{movesAt}
-use Rattle.play.specs.Promises.{Chording, Revealing}
 use Rattle.play.specs.Walks.{stateAt}
 use Rattle.rounds.specs.Promises.{Made}
 use Rattle.choices.proofs.Kept.{keep-ext}
 use Rattle.game.proofs.Reveal.{Revealed, opens, revealed, stays, sweeps}
 use Rattle.game.proofs.Truth.{T→true, and-under, no→false}
 use Rattle.play.proofs.Reveals.{is-closed, not-closed}
-use Rattle.rounds.proofs.Joins.{made-both, made-none, made-one}
-
-module _ (rows columns : ℕ) (g : Grid) (s : Position) (old : List ℤ) (i r : ℕ) (list : List ℕ) (t : State) (w′ : List ℤ) (list′ : List ℕ) (still : ℕ)
-    (e : t .closed ≡ closedSafe g s) (f : still ≡ t .closed - r) where
-  pub left-noted : Revealing rows columns g s old i r w′ → list′ ≡ set list (t .moves) (1 * 65536 + i)
-      → Made rows columns g s old (left i ∷ []) list t w′ list′ (record { moves = t .moves + 1; closed = still; next = t .next })
-  unfolding play
-  left-noted q n =
-      made-one rows columns g s old (left i) list t w′ list′ (record { moves = t .moves + 1; closed = still; next = t .next })
-      (q .stands) n refl (omega (arith, q .opened-cells)) refl
-
-  pub chord-noted : Chording rows columns g s old i r w′ → list′ ≡ set list (t .moves) (3 * 65536 + i)
-      → Made rows columns g s old (chord i ∷ []) list t w′ list′ (record { moves = t .moves + 1; closed = still; next = t .next })
-  chord-noted q n =
-      made-one rows columns g s old (chord i) list t w′ list′ (record { moves = t .moves + 1; closed = still; next = t .next })
-      (q .stands) n refl (omega (arith, q .opened-cells)) refl
+use Rattle.rounds.proofs.Joins.{made-both, made-none}
 
 module _ (rows columns : ℕ) (g : Grid) (s : Position) (old w : List ℤ) (i : ℕ) (h : i < rows * columns) (st : Stands rows columns g s old w) where
-  -- L, if the cell is closed
   pub left-none : (k : ℕ) (list : List ℕ) (t : State) → k ≡ stateAt w i → (k ≡ 0 → ⊥) → t .closed ≡ closedSafe g s
       → Made rows columns g s old (cond (closed s i) (left i ∷ []) []) list t w list t
   left-none k list t e n c =
@@ -57,7 +39,7 @@ module _ (rows columns : ℕ) (g : Grid) (s : Position) (old w : List ℤ) (i : 
 -- ---- at a chosen cell
 
 -- L on a safe cell that is no 0-cell leaves the flags around it to be set
-pub flags-left : (g : Grid) (s : Position) (i : ℕ) → T (safe g i) → (T (zeroCell g i) → ⊥)
+flags-left : (g : Grid) (s : Position) (i : ℕ) → T (safe g i) → (T (zeroCell g i) → ⊥)
     → keep (unflagged g (after g s (cond (closed s i) (left i ∷ []) []))) (square g i) ≡ keep (unflagged g s) (square g i)
 unfolding play
 flags-left g s i t n = go (closed s i) refl

@@ -14,7 +14,7 @@ ghost use Rattle.game.specs.Moves.{left, flag, chord};
 ghost use Rattle.game.specs.Rounds.{movesAt};
 ghost use Rattle.area.specs.Stages.{Shape, Stands};
 ghost use Rattle.play.specs.Walks.{rowCells};
-ghost use Rattle.rounds.specs.Promises.{Made};
+ghost use Rattle.rounds.specs.Promises.{Carried, Made};
 ghost use Rattle.rounds.specs.Walks.{Over, flagsFrom};
 
 // Notes a move, if the list has room for it.
@@ -26,6 +26,19 @@ pub fn note(list: &mut [u32], at: usize, kind: u32, index: usize)
         return;
     }
     list[at] = kind * 65536 + index as u32;
+}
+
+// Notes a move that opened so many cells, and carries the state on.
+pub fn carry_on(list: &mut [u32], state: State, kind: u32, index: usize, opened: usize) -> State
+    requires { ⌜ (kind ≤ 3) × (index < 65536) × (state .moves ≤ 2 ^ 48) ⌝ }
+    ensures { λ r. ⌜ Carried kind index opened (now (list .entry)) state (now (list .exit)) r ⌝ }
+{
+    note(list, state.moves, kind, index);
+    State {
+        moves: state.moves + 1,
+        closed: area::less(state.closed, opened),
+        next: state.next,
+    }
 }
 
 // L on a closed safe cell.
@@ -44,13 +57,8 @@ pub fn click(
         → T (safe g index) → T (isClosed s index) → state .closed ≡ closedSafe g s
         → Made rows columns g s old (left index ∷ []) (now (list .entry)) state (now (work .exit)) (now (list .exit)) r) ⌝ }
 {
-    note(list, state.moves, 1, index);
     let opened = play::reveal(work, rows, columns, index);
-    State {
-        moves: state.moves + 1,
-        closed: area::less(state.closed, opened),
-        next: state.next,
-    }
+    carry_on(list, state, 1, index, opened)
 }
 
 // L, if the cell is closed.
@@ -95,13 +103,8 @@ pub fn flag_mine(
     if area::get(work, 5 * index + 3) == 2 {
         return state;
     }
-    note(list, state.moves, 2, index);
     play::flag(work, rows, columns, index);
-    State {
-        moves: state.moves + 1,
-        closed: state.closed,
-        next: state.next,
-    }
+    carry_on(list, state, 2, index, 0)
 }
 
 // F on each mine without flag of one row, in the columns given.
@@ -169,13 +172,8 @@ pub fn chord_on(
     ensures { λ r. ⌜ ((g : Grid) (s : Position) (old : List ℤ) → Stands rows columns g s old (now (work .entry)) → state .closed ≡ closedSafe g s
         → Made rows columns g s old (chord index ∷ []) (now (list .entry)) state (now (work .exit)) (now (list .exit)) r) ⌝ }
 {
-    note(list, state.moves, 3, index);
     let opened = play::chord(work, rows, columns, index);
-    State {
-        moves: state.moves + 1,
-        closed: area::less(state.closed, opened),
-        next: state.next,
-    }
+    carry_on(list, state, 3, index, opened)
 }
 
 // The moves at a chosen cell: L if it is closed, F on each unflagged mine of its square, then C.

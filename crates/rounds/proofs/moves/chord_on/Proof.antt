@@ -1,22 +1,17 @@
--- `rounds::moves::chord_on`: the move is noted, and what it opened is closed no more. Assumes nothing.
+-- `rounds::moves::chord_on`: a chord, noted as C. Assumes nothing.
 use native.Mathlib.Omega.{arith}
 use Rattle.area.proofs.Cells.{cells-few}
-use Rattle.rounds.proofs.Single.{chord-noted}
+use Rattle.game.specs.Moves.{chord}
+use Rattle.rounds.proofs.Joins.{made-one}
 use borrow.Author.Needs.{needs}
 use Rattle.rounds.proofs.moves.chord_on.Statement.{statement}
 use Rattle.rounds.proofs.moves.chord_on.Tie as tie
 
-note-requires : tie.Need-note-requires
-note-requires c κs = let b = c .before .before in (omega arith, omega (arith, cells-few _ _ (b .pre .0)))
-
 chord-requires : tie.Need-chord-requires
 chord-requires c κs = search needs
 
-add-t13 : tie.Need-add-t13
-add-t13 c = search needs
-
-less-requires : tie.Need-less-requires
-less-requires c κs = search needs
+carry-on-requires : tie.Need-carry-on-requires
+carry-on-requires c κs = (omega arith, omega (arith, cells-few _ _ (c .before .before .before .before .before .pre .0)), omega arith)
 
 same-length : tie.Need-same-length
 same-length c = search needs
@@ -26,13 +21,13 @@ same-length-2 c = search needs
 
 returns : tie.Need-returns
 returns c =
-    let v = c .before .before .before in
-    let n = v .before .before .before .before in
-    let a = n .before .before .before .args in
-    λ g s old st e. chord-noted (a .rows) (a .columns) g s old (a .index) (v .chord .result) (a .list .now) (a .state) (v .chord .last .0) (n .note .last .0) (c .less .result)
-    e (c .less .ensures) (v .chord .ensures g s old st) (n .note .ensures)
+    let y = c .before .before .carry-on in
+    let v = c .before .before .before .before .before in
+    let a = v .before .before .before .args in
+    let x = v .chord in
+    λ g s old st e. made-one (a .rows) (a .columns) g s old (chord (a .index)) (x .result) (a .list .now) (a .state) (x .last .0) (y .last .0) (y .result)
+    (y .ensures) (x .ensures g s old st .stands) (x .ensures g s old st .opened-cells) e
 
 pub chord-on-spec : {M : Type 1} → statement M
 chord-on-spec =
-    tie.close
-    (tie.spec note-requires chord-requires add-t13 less-requires same-length same-length-2 returns)
+    tie.close (tie.spec chord-requires carry-on-requires same-length same-length-2 returns)

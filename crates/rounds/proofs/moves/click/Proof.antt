@@ -1,22 +1,17 @@
--- `rounds::moves::click`: the move is noted, and what it opened is closed no more. Assumes nothing.
+-- `rounds::moves::click`: a reveal, noted as L. Assumes nothing.
 use native.Mathlib.Omega.{arith}
 use Rattle.area.proofs.Cells.{cells-few}
-use Rattle.rounds.proofs.Single.{left-noted}
+use Rattle.game.specs.Moves.{left, play}
+use Rattle.rounds.proofs.Joins.{made-one}
 use borrow.Author.Needs.{needs}
 use Rattle.rounds.proofs.moves.click.Statement.{statement}
 use Rattle.rounds.proofs.moves.click.Tie as tie
 
-note-requires : tie.Need-note-requires
-note-requires c κs = let b = c .before .before in (omega arith, omega (arith, cells-few _ _ (b .pre .0)))
-
 reveal-requires : tie.Need-reveal-requires
 reveal-requires c κs = search needs
 
-add-t13 : tie.Need-add-t13
-add-t13 c = search needs
-
-less-requires : tie.Need-less-requires
-less-requires c κs = search needs
+carry-on-requires : tie.Need-carry-on-requires
+carry-on-requires c κs = (omega arith, omega (arith, cells-few _ _ (c .before .before .before .before .before .pre .0)), omega arith)
 
 same-length : tie.Need-same-length
 same-length c = search needs
@@ -25,23 +20,17 @@ same-length-2 : tie.Need-same-length-2
 same-length-2 c = search needs
 
 returns : tie.Need-returns
+unfolding play
 returns c =
-    let v = c .before .before .before in
-    let n = v .before .before .before .before in
-    let a = n .before .before .before .args in (
-      omega arith,
-      λ g s old st t u e. left-noted (a .rows) (a .columns) g s old (a .index) (v .reveal .result) (a .list .now) (a .state) (v .reveal .last .0) (n .note .last .0) (c .less .result)
-          e (c .less .ensures) (v .reveal .ensures g s old st) (n .note .ensures),
+    let y = c .before .before .carry-on in
+    let v = c .before .before .before .before .before in
+    let a = v .before .before .before .args in
+    let x = v .reveal in (
+      omega (arith, y .ensures .one-more),
+      λ g s old st t u e. made-one (a .rows) (a .columns) g s old (left (a .index)) (x .result) (a .list .now) (a .state) (x .last .0) (y .last .0) (y .result)
+          (y .ensures) (x .ensures g s old st .stands) (x .ensures g s old st .opened-cells) e,
     )
 
 pub click-spec : {M : Type 1} → statement M
 click-spec =
-    tie.close
-    (tie.spec
-    note-requires
-    reveal-requires
-    add-t13
-    less-requires
-    same-length
-    same-length-2
-    returns)
+    tie.close (tie.spec reveal-requires carry-on-requires same-length same-length-2 returns)

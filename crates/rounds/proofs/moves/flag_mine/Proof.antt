@@ -1,4 +1,4 @@
--- `rounds::moves::flag_mine`: a safe cell and a flagged mine are left; any other mine is flagged, and the move noted. Assumes nothing.
+-- `rounds::moves::flag_mine`: a safe cell and a flagged mine are left; any other mine is flagged, noted as F. Assumes nothing.
 use native.Mathlib.Omega.{arith}
 use Rattle.area.proofs.Cells.{cells-few}
 use Rattle.rounds.proofs.Flags.{flag-safe, flag-there, flag-noted}
@@ -44,14 +44,11 @@ returns-2 c =
     let a = b .args in
     (omega arith, flag-there (a .rows) (a .columns) (a .work .now) (a .list .now) (a .state) (a .index) (b .pre .1 .1) (m .get2 .result) (m .get2 .ensures .0) (c .if2 .taken))
 
-note-requires : tie.Need-note-requires
-note-requires c κs = let b = c .before .before .before .before .before .before .before .before in (omega arith, omega (arith, cells-few _ _ (b .pre .0)))
-
 flag-requires : tie.Need-flag-requires
 flag-requires c κs = search needs
 
-add-t7 : tie.Need-add-t7
-add-t7 c = search needs
+carry-on-requires : tie.Need-carry-on-requires
+carry-on-requires c κs = (omega arith, omega (arith, cells-few _ _ (c .before .before .before .before .before .before .before .before .before .before .before .pre .0)), omega arith)
 
 same-length-3 : tie.Need-same-length-3
 same-length-3 c = search needs
@@ -61,17 +58,17 @@ same-length-4 c = search needs
 
 returns-3 : tie.Need-returns-3
 returns-3 c =
-    let q = c .before .before in
-    let n = q .before .before .before .before in
-    let z = n .before .before in
+    let n = c .before .before in
+    let q = n .before .before .before in
+    let z = q .before .before in
     let m = z .before in
     let y = m .before .before in
     let k = y .before in
     let b = k .before .before .before in
     let a = b .args in (
-      omega arith,
-      flag-noted (a .rows) (a .columns) (a .work .now) (a .list .now) (a .state) (a .index) (b .pre .1 .1) (k .get .result) (m .get2 .result) (q .flag .last .0) (n .note .last .0)
-          (k .get .ensures .0) (y .if1 .left) (m .get2 .ensures .0) (z .if2 .left) (q .flag .ensures) (n .note .ensures),
+      omega (arith, n .carry-on .ensures .one-more),
+      flag-noted (a .rows) (a .columns) (a .work .now) (a .list .now) (a .state) (a .index) (b .pre .1 .1) (k .get .result) (m .get2 .result) (q .flag .last .0) (n .carry-on .last .0)
+          (n .carry-on .result) (k .get .ensures .0) (y .if1 .left) (m .get2 .ensures .0) (z .if2 .left) (q .flag .ensures) (n .carry-on .ensures),
     )
 
 pub flag-mine-spec : {M : Type 1} → statement M
@@ -88,9 +85,8 @@ flag-mine-spec =
     get-requires-2
     same-length-2
     returns-2
-    note-requires
     flag-requires
-    add-t7
+    carry-on-requires
     same-length-3
     same-length-4
     returns-3)
