@@ -5,7 +5,7 @@ use rounds::moves;
 ghost use mathlib.Core.Path.{_≡_};
 ghost use mathlib.Core.Bool.{cond, false};
 ghost use mathlib.Core.List.{List};
-ghost use Prim.Native.Nat.{ℕ, _+_, _*_, _^_, _<_, _≤_, min};
+ghost use Prim.Native.Nat.{_*_, _^_, _<_, _≤_, min};
 ghost use lib.Dec.{T, eqb};
 ghost use lib.IntN.{ℤ};
 ghost use lib.ListN.{length};

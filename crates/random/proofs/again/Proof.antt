@@ -1,5 +1,4 @@
 -- `random::again`: once reset, the area stands for the position before any move. Assumes nothing.
-use Rattle.game.specs.Position.{untouched}
 use Rattle.random.proofs.Searches.{reset-fresh, reset-stands}
 use borrow.Author.Needs.{needs}
 use Rattle.random.proofs.again.Statement.{statement}

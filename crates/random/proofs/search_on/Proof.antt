@@ -51,7 +51,7 @@ returns c =
     λ g old ms st.
     let f = l .loop .inv .1 .sofar g old ms st in
     search-breaks (a .rows) (a .columns) g old (a .draws .now) (l .loop .at) (x .again .last .0) (x .again .result) (x .again .ensures g (after g (untouched g) (f .moves)) old (f .stands))
-    (searchFrom (a .more) g (a .draws .now) (record { least = a .clicks; next = a .next; moves = ms })) (l .loop .work) (l .loop .least) (l .loop .left) f (k .loop-test .taken) (c .enum-told .given .1)
+    (searchFrom (a .more) g (a .draws .now) (record { least = a .clicks; next = a .next; moves = ms })) (l .loop .work) (l .loop .least) (l .loop .left) f (omega arith) (c .enum-told .given .1)
 
 fewer-requires : tie.Need-fewer-requires Inv-loop μ-loop
 fewer-requires c κs = search needs
@@ -77,7 +77,7 @@ loop-again c =
         sofar = λ g old ms st.
             let f = l .loop .inv .1 .sofar g old ms st in
             search-goes-on (a .rows) (a .columns) g old (a .draws .now) (l .loop .at) (x .again .last .0) (x .again .result) (x .again .ensures g (after g (untouched g) (f .moves)) old (f .stands))
-            (searchFrom (a .more) g (a .draws .now) (record { least = a .clicks; next = a .next; moves = ms })) (l .loop .work) (l .loop .least) (l .loop .left) f (k .loop-test .taken)
+            (searchFrom (a .more) g (a .draws .now) (record { least = a .clicks; next = a .next; moves = ms })) (l .loop .work) (l .loop .least) (l .loop .left) f (omega arith)
             _ _ (c .before .fewer .result) (c .still .result) (o .rolled .given .1) (c .before .fewer .ensures) (c .still .ensures .0);
       },
     )
