@@ -1,0 +1,238 @@
+// Replays document 01's greedy lists, illegal moves of each sort at their place, and the refusals.
+use trials::Plain;
+use zini::Refusal;
+use zini::Replayed;
+
+fn refusal_number(refusal: Refusal) -> u64 {
+    match refusal {
+        Refusal::Shape => 1,
+        Refusal::Board => 2,
+        Refusal::Work => 3,
+        Refusal::Trace => 4,
+        Refusal::Rounds => 5,
+        Refusal::Draws => 6,
+    }
+}
+
+fn taken_apart(answer: Replayed) -> Plain {
+    match answer {
+        Replayed::Played(made, closed) => made_plain(0, made as u64, closed as u64),
+        Replayed::Move(place) => made_plain(7, place as u64, 0),
+        Replayed::Refused(refusal) => made_plain(refusal_number(refusal), 0, 0),
+    }
+}
+
+// An answer with its values.
+fn made_plain(number: u64, first: u64, second: u64) -> Plain {
+    Plain {
+        number,
+        first,
+        second,
+    }
+}
+
+// The answer beside what it should be.
+fn report(name: &[u8], answer: Replayed, number: u64, first: u64, second: u64) {
+    trials::report(name, taken_apart(answer), made_plain(number, first, second));
+}
+
+// A list that is played to its end on a board: its moves, no safe cell closed, and the work area.
+fn whole(name: &[u8], rows: usize, columns: usize, grid: &[i32], work: &mut [i32], list: &[u32]) {
+    let count = list.len();
+    let answer = zini::replays::replay(rows, columns, grid, work, list, count);
+    report(name, answer, 0, count as u64, 0);
+    trials::print_area(work);
+}
+
+// A list on P11 that stops at a place, and the work area before the bad move.
+fn bad(name: &[u8], list: &[u32], place: u64) {
+    let mut work = [7i32; 46];
+    let grid = [0i32, 0, 0, 0, -1, 0, 0, 0, 0];
+    let answer = zini::replays::replay(3, 3, &grid, &mut work, list, list.len());
+    report(name, answer, 7, place, 0);
+    trials::print_area(&work);
+}
+
+// P1 to P6.
+fn first_six() {
+    let mut w1 = [7i32; 6];
+    whole(b"P1", 1, 1, &[0i32], &mut w1, &[65536u32]);
+    let mut w2 = [7i32; 6];
+    whole(b"P2", 1, 1, &[-1i32], &mut w2, &[0u32; 0]);
+    let mut w3 = [7i32; 6];
+    whole(b"P3", 1, 1, &[5i32], &mut w3, &[65536u32]);
+    let mut w4 = [7i32; 11];
+    whole(b"P4", 1, 2, &[-1i32, 0], &mut w4, &[65537u32]);
+    let mut w5 = [7i32; 16];
+    whole(b"P5", 1, 3, &[0i32, -1, 0], &mut w5, &[65536u32, 65538]);
+    let mut w6 = [7i32; 26];
+    whole(
+        b"P6",
+        1,
+        5,
+        &[0i32, 0, -1, 0, 0],
+        &mut w6,
+        &[65536u32, 65540],
+    );
+}
+
+// P7 to P12.
+fn last_six() {
+    let mut w7 = [7i32; 21];
+    whole(
+        b"P7",
+        2,
+        2,
+        &[-1i32, 0, 0, 0],
+        &mut w7,
+        &[65537u32, 131072, 196609],
+    );
+    let mut w8 = [7i32; 21];
+    whole(b"P8", 2, 2, &[-1i32, 0, -1, 0], &mut w8, &[65538u32, 65539]);
+    let mut w9 = [7i32; 46];
+    whole(
+        b"P9",
+        3,
+        3,
+        &[0i32, 0, 0, 0, 0, 0, 0, 0, 0],
+        &mut w9,
+        &[65536u32],
+    );
+    let mut w10 = [7i32; 46];
+    whole(
+        b"P10",
+        3,
+        3,
+        &[-1i32, 0, 0, 0, 0, 0, 0, 0, 0],
+        &mut w10,
+        &[65538u32],
+    );
+    let mut w11 = [7i32; 46];
+    whole(
+        b"P11",
+        3,
+        3,
+        &[0i32, 0, 0, 0, -1, 0, 0, 0, 0],
+        &mut w11,
+        &[65537u32, 131076, 196609, 196611, 196613],
+    );
+    let mut w12 = [7i32; 46];
+    whole(
+        b"P12",
+        3,
+        3,
+        &[0i32, 0, -1, 0, 0, 0, -1, 0, 0],
+        &mut w12,
+        &[65536u32, 65544],
+    );
+}
+
+// One illegal move of each sort.
+fn illegal() {
+    bad(b"L on a mine", &[65540u32], 0);
+    bad(b"L on a flag", &[65537u32, 131076, 65540], 2);
+    bad(b"L on an opened cell", &[65537u32, 65537], 1);
+    bad(b"F on a safe cell", &[65537u32, 131072], 1);
+    bad(b"F on a flag", &[131076u32, 131076], 1);
+    bad(b"C on a closed cell", &[131076u32, 196609], 1);
+    bad(b"C before the flag", &[65537u32, 196609], 1);
+    bad(b"C on a mine", &[131076u32, 196612], 1);
+    bad(
+        b"an index past the grid",
+        &[65537u32, 131076, 196609, 65545],
+        3,
+    );
+    bad(b"kind 0", &[65537u32, 0], 1);
+    bad(b"kind 4", &[65537u32, 262144], 1);
+    bad(b"the largest word", &[4294967295u32], 0);
+    bad(b"the largest index", &[65537u32, 131071], 1);
+}
+
+// An empty list, lists longer than the count, a chord that opens nothing, and the refusals.
+fn edges() {
+    let grid = [0i32, 0, 0, 0, -1, 0, 0, 0, 0];
+    let mut work = [7i32; 46];
+    let list = [65537u32, 131076, 196609, 196611, 196613, 4294967295];
+    let none = [0u32; 0];
+    report(
+        b"an empty list",
+        zini::replays::replay(3, 3, &grid, &mut work, &none, 0),
+        0,
+        0,
+        8,
+    );
+    trials::print_area(&work);
+    report(
+        b"the first 3 of 6",
+        zini::replays::replay(3, 3, &grid, &mut work, &list, 3),
+        0,
+        3,
+        3,
+    );
+    report(
+        b"5 of 6",
+        zini::replays::replay(3, 3, &grid, &mut work, &list, 5),
+        0,
+        5,
+        0,
+    );
+    report(
+        b"6 of 6",
+        zini::replays::replay(3, 3, &grid, &mut work, &list, 6),
+        7,
+        5,
+        0,
+    );
+    report(
+        b"7 of 6",
+        zini::replays::replay(3, 3, &grid, &mut work, &list, 7),
+        4,
+        0,
+        0,
+    );
+    report(
+        b"most of 6",
+        zini::replays::replay(3, 3, &grid, &mut work, &list, 18446744073709551615),
+        4,
+        0,
+        0,
+    );
+    let again = [65537u32, 131076, 196609, 196609];
+    report(
+        b"a chord that opens nothing",
+        zini::replays::replay(3, 3, &grid, &mut work, &again, 4),
+        0,
+        4,
+        3,
+    );
+    report(
+        b"256 rows",
+        zini::replays::replay(256, 3, &grid, &mut work, &list, 7),
+        1,
+        0,
+        0,
+    );
+    report(
+        b"a value too many",
+        zini::replays::replay(2, 4, &grid, &mut work, &list, 7),
+        2,
+        0,
+        0,
+    );
+    let mut short = [7i32; 44];
+    report(
+        b"a number too few",
+        zini::replays::replay(3, 3, &grid, &mut short, &list, 7),
+        3,
+        0,
+        0,
+    );
+    trials::print_area(&short);
+}
+
+fn main() {
+    first_six();
+    last_six();
+    illegal();
+    edges();
+}
