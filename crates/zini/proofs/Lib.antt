@@ -5,3 +5,4 @@ pub mod Played
 pub mod More
 pub mod Clearing
 pub mod Rolling
+pub mod Written

@@ -1,6 +1,6 @@
 -- A call keeps its promise: refused as the checks say, else by what it comes to. Assumes nothing.
 use Prim.Native.Nat.{ℕ}
-use mathlib.Core.Path.{_≡_, refl, ap, _∙_}
+use mathlib.Core.Path.{_≡_, refl, ap, sym, _∙_}
 use mathlib.Core.Bool.{Bool, true, false}
 use mathlib.Core.List.{List, [], _∷_, _++_}
 use mathlib.Core.Option.{Option, none, some}
@@ -56,3 +56,11 @@ list-else o a w w′ l l′ x e k =
       leaves = k .leaves ∙ ap (λ (v : Option Refusal). unlessListed v w l x .work) e;
       lists = k .lists ∙ ap (λ (v : Option Refusal). unlessListed v w l x .list) e;
     }
+
+-- ---- there is only one such answer
+
+pub kept-once : (x : Outcome) (a a′ : Answer) (w w′ : List ℤ) → Kept x a w → Kept x a′ w′ → (a ≡ a′) × (w ≡ w′)
+kept-once x a a′ w w′ k k′ = (k .answers ∙ sym (k′ .answers), k .leaves ∙ sym (k′ .leaves))
+
+pub list-once : (x : ListOutcome) (a a′ : Answer) (w w′ : List ℤ) (l l′ : List ℕ) → KeptList x a w l → KeptList x a′ w′ l′ → (a ≡ a′) × (w ≡ w′) × (l ≡ l′)
+list-once x a a′ w w′ l l′ k k′ = (k .answers ∙ sym (k′ .answers), k .leaves ∙ sym (k′ .leaves), k .lists ∙ sym (k′ .lists))

@@ -52,9 +52,9 @@ fn end_search(rolled: random::Rolled, rows: usize, columns: usize, work: &mut [i
         → Searching rows columns g old o (now (work .entry)) rolled → Kept (drawnSearch g o old) (rolledAnswer r) (now (work .exit))) ⌝ }
 {
     match rolled {
-        random::Rolled::Ended(clicks, used) => {
+        random::Rolled::Ended(least, used) => {
             start::begin::settle(work, rows * columns);
-            Rolled::Clicks(clicks, used)
+            Rolled::Clicks(least, used)
         }
         random::Rolled::Dry => {
             clears::clear_area(work, 5 * (rows * columns));

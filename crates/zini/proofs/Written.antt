@@ -1,0 +1,83 @@
+-- What greedy, openings-first and a random round answered and wrote meets demand 3. Assumes nothing.
+use Prim.Native.Nat.{ℕ, _≤_}
+use native.Mathlib.Omega.{arith}
+use mathlib.Core.Path.{_≡_, ap, refl, sym, _∙_}
+use mathlib.Core.List.{List, [], _∷_, _++_, map}
+use mathlib.Core.Option.{Option, none, some}
+use lib.IntN.{ℤ}
+use lib.ListN.{drop, getD, length, length-map, take}
+use Rattle.game.specs.Grid.{Grid, size}
+use Rattle.game.specs.Area.{listOf}
+use Rattle.game.specs.Moves.{Move, replayFrom, word}
+use Rattle.game.specs.Position.{untouched}
+use Rattle.game.specs.Rounds.{Round, Step, greedySteps, movesOf, openingsFirstSteps, randomRound}
+use Rattle.game.specs.Demands.{Sound}
+use Rattle.game.specs.Calls.{Answer, ListOutcome, Refusal, board, draws, drawnRound, firstGiven, frame, gives, greedyCall, gridChecks, listCheck, move, numberOf, openingsFirstCall, playedRound, randomRoundCall, rounds, shape, size-over, trace, unlessListed, work}
+use Rattle.game.proofs.Replays.{round-replays}
+use Rattle.game.proofs.Rounds.{greedy-sound, openings-first-sound, random-sound}
+use Rattle.area.proofs.Cells.{cells-few}
+use Rattle.zini.specs.Answers.{KeptList}
+use Rattle.zini.specs.Written.{Written}
+use Rattle.zini.proofs.More.{all-passed}
+
+numbered : (f : Refusal) → 1 ≤ numberOf f
+numbered shape = omega arith
+numbered board = omega arith
+numbered work = omega arith
+numbered trace = omega arith
+numbered rounds = omega arith
+numbered draws = omega arith
+numbered move = omega arith
+numbered frame = omega arith
+numbered size-over = omega arith
+
+-- a call that answered 0 was not refused
+not-refused : (o : Option Refusal) (w w′ : List ℤ) (l l′ : List ℕ) (x : ListOutcome) (vs : List ℕ) → KeptList (unlessListed o w l x) (gives vs) w′ l′ → (o ≡ none) × KeptList x (gives vs) w′ l′
+not-refused none w w′ l l′ x vs k = (refl, k)
+not-refused (some f) w w′ l l′ x vs k = absurd (let e : 0 ≡ numberOf f = ap (λ (a : Answer). a .number) (k .answers) in omega (arith, numbered f))
+
+-- the first words of a list that moves were written into
+all-first : (xs ys : List ℕ) → take (length xs) (xs ++ ys) ≡ xs
+all-first [] ys = refl
+all-first (x ∷ xs) ys = ap (λ (r : List ℕ). x ∷ r) (all-first xs ys)
+
+first-words : (xs ys : List ℕ) (n : ℕ) → n ≡ length xs → take n (xs ++ ys) ≡ xs
+first-words xs ys n e = ap (λ (k : ℕ). take k (xs ++ ys)) e ∙ all-first xs ys
+
+-- the round's moves stand in the list
+stands-written : (g : Grid) (ts : List Step) (l l′ : List ℕ) (n : ℕ) → size g ≤ 65536 → Sound g ts → n ≡ length (movesOf ts) → l′ ≡ listOf (movesOf ts) l → Written g n l′
+unfolding listOf
+stands-written g ts l l′ n h d e q =
+    let words : take n l′ ≡ map word (movesOf ts) =
+    ap (take n) q ∙ first-words (map word (movesOf ts)) (drop (length (map word (movesOf ts))) l) n (e ∙ sym (length-map (movesOf ts) word)) in
+    record { steps = ts; sound = d; clicks = e; words = words; replays = ap (replayFrom g 0 (untouched g)) words ∙ round-replays g ts h d }
+
+-- a grid that was not refused is small
+small : (g : Grid) (w : List ℤ) (l : List ℕ) → firstGiven (gridChecks g w ++ listCheck g l ∷ []) ≡ none → size g ≤ 65536
+small g w l e = omega (arith, cells-few (g .rows) (g .columns) (all-passed g w (length l) (size g) trace e .0 .shaped))
+
+played-written : (g : Grid) (ts : List Step) (w w′ : List ℤ) (l l′ : List ℕ) (n : ℕ) → Sound g ts
+    → KeptList (unlessListed (firstGiven (gridChecks g w ++ listCheck g l ∷ [])) w l (playedRound g (movesOf ts) w l)) (gives (n ∷ [])) w′ l′ → Written g n l′
+played-written g ts w w′ l l′ n d k =
+    let p = not-refused (firstGiven (gridChecks g w ++ listCheck g l ∷ [])) w w′ l l′ (playedRound g (movesOf ts) w l) (n ∷ []) k in
+    stands-written g ts l l′ n (small g w l (p .0)) d (ap (λ (a : Answer). getD (a .values) 0 0) (p .1 .answers)) (p .1 .lists)
+
+-- ---- the calls
+
+pub greedy-written : (g : Grid) (w w′ : List ℤ) (l l′ : List ℕ) (n : ℕ) → KeptList (greedyCall g w l) (gives (n ∷ [])) w′ l′ → Written g n l′
+unfolding greedyCall
+greedy-written g w w′ l l′ n k = played-written g (greedySteps g) w w′ l l′ n (greedy-sound g) k
+
+pub openings-first-written : (g : Grid) (w w′ : List ℤ) (l l′ : List ℕ) (n : ℕ) → KeptList (openingsFirstCall g w l) (gives (n ∷ [])) w′ l′ → Written g n l′
+unfolding openingsFirstCall
+openings-first-written g w w′ l l′ n k = played-written g (openingsFirstSteps g) w w′ l l′ n (openings-first-sound g) k
+
+pub random-written : (g : Grid) (w w′ : List ℤ) (l l′ bytes : List ℕ) (n used : ℕ) → KeptList (randomRoundCall g w l bytes) (gives (n ∷ used ∷ [])) w′ l′ → Written g n l′
+unfolding randomRoundCall
+random-written g w w′ l l′ bytes n used k =
+    let p = not-refused (firstGiven (gridChecks g w ++ listCheck g l ∷ [])) w w′ l l′ (drawnRound g (randomRound g bytes 0) w l) (n ∷ used ∷ []) k in
+    go (randomRound g bytes 0) (λ r e. random-sound g bytes 0 r e) (small g w l (p .0)) (p .1)
+  where
+    go : (o : Option Round) → ((r : Round) → o ≡ some r → Sound g (r .steps)) → size g ≤ 65536 → KeptList (drawnRound g o w l) (gives (n ∷ used ∷ [])) w′ l′ → Written g n l′
+    go none d h k = absurd (let e : 0 ≡ numberOf draws = ap (λ (a : Answer). a .number) (k .answers) in omega arith)
+    go (some r) d h k = stands-written g (r .steps) l l′ n h (d r refl) (ap (λ (a : Answer). getD (a .values) 0 0) (k .answers)) (k .lists)

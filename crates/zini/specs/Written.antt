@@ -1,0 +1,18 @@
+-- Demand 3 carried to the calls: what stands in a list after a round. Assumes nothing.
+use Prim.Native.Nat.{ℕ}
+use mathlib.Core.Path.{_≡_}
+use mathlib.Core.List.{List, map}
+use lib.ListN.{length, take}
+use Rattle.game.specs.Grid.{Grid}
+use Rattle.game.specs.Position.{untouched}
+use Rattle.game.specs.Moves.{replayFrom, whole, word}
+use Rattle.game.specs.Rounds.{Step, movesOf}
+use Rattle.game.specs.Demands.{Sound, standing}
+
+-- the first n words of a list are the moves of a round that meets demand 3: legal, as many as the clicks, replayed to its end
+pub record Written (g : Grid) (n : ℕ) (list : List ℕ) : Type 0 where
+  pub steps : List Step
+  pub sound : Sound g steps
+  pub clicks : n ≡ length (movesOf steps)
+  pub words : take n list ≡ map word (movesOf steps)
+  pub replays : replayFrom g 0 (untouched g) (take n list) ≡ whole (standing g steps)
