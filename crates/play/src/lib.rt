@@ -383,7 +383,7 @@ pub fn make(work: &mut [i32], rows: usize, columns: usize, word: u32) -> Made
         1 => make_left(work, rows, columns, index),
         2 => make_flag(work, rows, columns, index),
         3 => make_chord(work, rows, columns, index),
-        _ => Made::Illegal,
+        0 | 4..=4294967295 => Made::Illegal,
     }
 }
 

@@ -1,5 +1,7 @@
 -- `play::make`: the kind says which move the word is; past the grid, and of another kind, it is refused. Assumes nothing.
-use Prim.Native.Nat.{_%_}
+use Prim.Native.Nat.{_%_, _/_}
+use native.Mathlib.Omega.{arith}
+use mathlib.Core.Path.{_≡_}
 use Rattle.game.specs.Moves.{chord, flag, left}
 use Rattle.play.proofs.Makes.{as-read, other-kind, past, read-chord, read-flag, read-left}
 use borrow.Author.Needs.{needs}
@@ -62,8 +64,14 @@ returns-4 c = let q = c .before in
 returns-5 : tie.Need-returns-5
 returns-5 c = let b = c .before .before in
     let a = b .args in
+    let nought : a .word / 65536 ≡ 0 = c .match .keys4 in
+    λ g s old t. other-kind (a .rows) (a .columns) g s old (a .work .now) (a .word) t (λ e. omega arith) (λ e. omega arith) (λ e. omega arith)
+
+returns-6 : tie.Need-returns-6
+returns-6 c = let b = c .before .before in
+    let a = b .args in
     let r = c .match .rest in
-    λ g s old t. other-kind (a .rows) (a .columns) g s old (a .work .now) (a .word) t (r .0 .0 .1) (r .0 .1) (r .1)
+    λ g s old t. other-kind (a .rows) (a .columns) g s old (a .work .now) (a .word) t (r .0 .0 .0 .1) (r .0 .0 .1) (r .0 .1)
 
 pub make-spec : {M : Type 1} → statement M
 make-spec =
@@ -81,4 +89,5 @@ make-spec =
     returns-3
     same-length-3
     returns-4
-    returns-5)
+    returns-5
+    returns-6)
