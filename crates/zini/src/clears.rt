@@ -5,7 +5,7 @@ ghost use lib.ListN.{length};
 ghost use Rattle.zini.specs.Clearing.{Cleared};
 
 // The first numbers of a work area become 0.
-pub fn clear_area(work: &mut [i32], count: usize)
+pub(crate) fn clear_area(work: &mut [i32], count: usize)
     requires { ⌜ count ≤ length (now work) ⌝ }
     ensures { λ _. ⌜ Cleared (pos 0) count (now (work .entry)) (now (work .exit)) ⌝ }
 {
@@ -15,7 +15,7 @@ pub fn clear_area(work: &mut [i32], count: usize)
 }
 
 // The first words of a list become 0.
-pub fn clear_list(list: &mut [u32], count: usize)
+pub(crate) fn clear_list(list: &mut [u32], count: usize)
     requires { ⌜ count ≤ length (now list) ⌝ }
     ensures { λ _. ⌜ Cleared 0 count (now (list .entry)) (now (list .exit)) ⌝ }
 {

@@ -3,7 +3,7 @@ pub mod checks; // shape, board, work area
 pub mod count; // 3BV
 pub mod replays; // a stored list played on a board
 pub mod prices; // greedy and openings-first rounds
-pub mod clears; // lent memory filled with 0
+mod clears; // lent memory filled with 0
 pub mod rolls; // random rounds and searches
 
 // Why a call is refused.
