@@ -1,15 +1,18 @@
 -- Demand 3 as definitions: what holds of a round's steps. Assumes nothing.
-use Prim.Native.Nat.{ℕ, _<_, _≤_}
+use Prim.Native.Nat.{ℕ, _<_, _≤_, min, suc, zero}
 use mathlib.Core.Path.{_≡_}
+use mathlib.Core.Bool.{cond}
 use mathlib.Core.List.{List, [], _++_, _∷_}
 use mathlib.Core.Option.{none, some}
 use lib.IntN.{_+ℤ_, pos, ℤ}
 use lib.ListN.{length}
+use lib.Dec.{eqb}
 use Rattle.game.specs.Grid.{Grid, safe, size}
-use Rattle.game.specs.Moves.{AllLegal, after, left}
+use Rattle.game.specs.Lists.{Each}
+use Rattle.game.specs.Moves.{AllLegal, Move, after, left}
 use Rattle.game.specs.Openings.{threeBV}
 use Rattle.game.specs.Position.{Position, closedUnits, opened, premium, untouched}
-use Rattle.game.specs.Rounds.{Step, afterStep, movesOf}
+use Rattle.game.specs.Rounds.{Round, Searched, Step, afterStep, movesOf, randomRound}
 
 -- the premium of the cell that a step chose, just before it; a single L has none
 abbrev pub worth : Grid → Position → Step → ℤ
@@ -44,3 +47,39 @@ pub record Sound (g : Grid) (ts : List Step) : Type 0 where
   -- a round costs at most 3BV, and 3BV is at most the cells
   pub at-most-units : length (movesOf ts) ≤ threeBV g
   pub units-at-most : threeBV g ≤ size g
+
+-- ---- the rounds of a search
+
+-- rounds one after another through the same draws: each reads on where the one before it ended
+abbrev pub InTurn : Grid → List ℕ → ℕ → List Round → ℕ → Type 0
+InTurn g bytes at [] next = at ≡ next
+InTurn g bytes at (e ∷ es) next = (randomRound g bytes at ≡ some e) × InTurn g bytes (e .next) es next
+
+-- the least clicks of rounds, and of a number before them
+abbrev pub leastOf : ℕ → List Round → ℕ
+leastOf m [] = m
+leastOf m (e ∷ es) = leastOf (min m (length (movesOf (e .steps)))) es
+
+-- the moves of the last of rounds, or those before them
+abbrev pub lastOf : List Move → List Round → List Move
+lastOf ms [] = ms
+lastOf ms (e ∷ es) = lastOf (movesOf (e .steps)) es
+
+-- Demand 3 of a search of n rounds: each of its rounds is sound; it answers the least of their clicks and leaves the last
+pub record SoundSearch (g : Grid) (bytes : List ℕ) (n : ℕ) (r : Searched) : Type 0 where
+  pub first : Round
+  pub later : List Round
+  pub as-many : suc (length later) ≡ n
+  pub in-turn : InTurn g bytes 0 (first ∷ later) (r .next)
+  pub each-sound : Each (λ (e : Round). Sound g (e .steps)) (first ∷ later)
+  pub least-clicks : r .least ≡ leastOf (length (movesOf (first .steps))) later
+  pub last-left : r .moves ≡ lastOf (movesOf (first .steps)) later
+
+-- how many of n rounds are played from a place of the draws on: none after one that used no bytes, since each later one is the same
+abbrev pub playedFrom : ℕ → Grid → List ℕ → ℕ → ℕ
+playedFrom zero g bytes at = 0
+playedFrom (suc n) g bytes at =
+    elim (randomRound g bytes at) [
+      | none ↦ 1
+      | some e ↦ suc (cond (eqb (e .next) at) 0 (playedFrom n g bytes (e .next)))
+    ]

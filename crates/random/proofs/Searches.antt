@@ -1,11 +1,13 @@
 -- Rounds one after another: what they came to so far; a round that used no bytes would come again and again. Assumes nothing.
-use Prim.Native.Nat.{ℕ, _-_, _<_, _≤_, min, suc, zero}
+use Prim.Native.Nat.{ℕ, _+_, _-_, _/_, _<_, _≤_, min, suc, zero}
 use native.Mathlib.Omega.{arith}
 use mathlib.Core.Path.{_∙_, _≡_, ap, ap₂, refl, subst, sym}
+use mathlib.Core.Logic.{inl, inr}
 use mathlib.Core.Bool.{Bool, cond, false, true}
 use mathlib.Core.List.{List}
 use mathlib.Core.Option.{Option, none, some}
-use lib.Dec.{eqb, eqb→eq}
+use lib.Dec.{T, eqb, eqb→eq}
+use borrow.Author.Tests.{eq-eqb}
 use lib.IntN.{ℤ}
 use lib.ListN.{length}
 use Rattle.random.specs.declared.Rolled.{Rolled}
@@ -18,6 +20,7 @@ use Rattle.game.specs.Rounds.{Round, Searched, movesOf, randomRound, randomSear
 use Rattle.random.specs.Promises.{Counted, Rolling, Searching, once}
 use Rattle.rounds.specs.Promises.{Fresh}
 use Rattle.game.proofs.Legal.{reached-untouched}
+use Rattle.game.proofs.Rounds.{Used, random-uses}
 
 -- ---- one round
 
@@ -137,6 +140,26 @@ search-ends rows columns g old bytes o w′ least at left f z =
     subst (λ (x : Option Searched). Searching rows columns g old x w′ (Ended least at))
     (sym (f .rest ∙ ap (λ (k : ℕ). searchFrom k g bytes (record { least = least; next = at; moves = f .moves })) z)) (record { answer = refl; stands = f .stands })
 
+-- ---- few rounds are left
+
+-- the rounds that can still be played: none, or one more than a quarter of the bytes that are left
+abbrev pub turns : ℕ → ℕ → ℕ → ℕ
+turns bytes at zero = 0
+turns bytes at (suc left) = 1 + (bytes - at) / 4
+
+-- a round that used no bytes is the last, any other used four at least
+turns-used : (bytes : List ℕ) (at next left still : ℕ) → 0 < left → Used bytes at next → still ≡ cond (eqb next at) 0 (left - 1) → turns (length bytes) next still < turns (length bytes) at left
+turns-used bytes at next zero still h u z = absurd (omega arith)
+turns-used bytes at next (suc left) still h u z = go (eqb next at) refl still z u
+  where
+    go : (b : Bool) → eqb next at ≡ b → (k : ℕ) → k ≡ cond b 0 (suc left - 1) → Used bytes at next → turns (length bytes) next k < 1 + (length bytes - at) / 4
+    go true e zero q u = omega arith
+    go true e (suc k) q u = absurd (omega arith)
+    go false e zero q u = omega arith
+    go false e (suc k) q (inl f) = absurd (subst T (sym (eq-eqb next at f) ∙ e) tt)
+    go false e (suc k) q (inr f) =
+        let h : 1 + (length bytes - next) / 4 < 1 + (length bytes - at) / 4 = omega (arith, f .0, f .1) in h
+
 -- ---- the first round
 
 -- a search, by its first round
@@ -175,3 +198,11 @@ pub still-counted : (rows columns : ℕ) (w : List ℤ) (bytes : List ℕ) (clic
 still-counted rows columns w bytes clicks next more w′ least at left safe m f =
     let s = m .sofar (f .grid) (f .old) (f .moves) (f .stands) in
     record { grid = f .grid; old = f .old; moves = s .moves; stands = s .stands; counts = f .counts }
+
+-- each round played leaves fewer that can still be played
+pub turns-fall : (rows columns : ℕ) (bytes : List ℕ) (at : ℕ) (w w′ : List ℤ) (r : Rolled) (safe : ℕ) → Counted rows columns w safe
+    → ((g : Grid) (s : Position) (old : List ℤ) → Stands rows columns g s old w → Searching rows columns g old (once (randomRound g bytes at)) w′ r)
+    → (paid next left still : ℕ) → r ≡ Ended paid next → 0 < left → still ≡ cond (eqb next at) 0 (left - 1) → turns (length bytes) next still < turns (length bytes) at left
+turns-fall rows columns bytes at w w′ r safe f q paid next left still y h z =
+    let d = drawn rows columns (f .grid) (f .old) bytes at w′ r (q (f .grid) (after (f .grid) (untouched (f .grid)) (f .moves)) (f .old) (f .stands)) paid next y in
+    turns-used bytes at next left still h (rw (d .place) (random-uses (f .grid) bytes at (d .round) (d .drew))) z

@@ -1,7 +1,8 @@
--- What greedy, openings-first and a random round answered and wrote meets demand 3. Assumes nothing.
+-- What greedy, openings-first and a random round answered and wrote, and each round of a search, meets demand 3. Assumes nothing.
 use Prim.Native.Nat.{ℕ, _≤_}
 use native.Mathlib.Omega.{arith}
 use mathlib.Core.Path.{_≡_, ap, refl, sym, _∙_}
+use mathlib.Core.Bool.{Bool}
 use mathlib.Core.List.{List, [], _∷_, _++_, map}
 use mathlib.Core.Option.{Option, none, some}
 use lib.IntN.{ℤ}
@@ -10,15 +11,16 @@ use Rattle.game.specs.Grid.{Grid, size}
 use Rattle.game.specs.Area.{listOf}
 use Rattle.game.specs.Moves.{Move, replayFrom, word}
 use Rattle.game.specs.Position.{untouched}
-use Rattle.game.specs.Rounds.{Round, Step, greedySteps, movesOf, openingsFirstSteps, randomRound}
-use Rattle.game.specs.Demands.{Sound}
-use Rattle.game.specs.Calls.{Answer, ListOutcome, Refusal, board, draws, drawnRound, firstGiven, frame, gives, greedyCall, gridChecks, listCheck, move, numberOf, openingsFirstCall, playedRound, randomRoundCall, rounds, shape, size-over, trace, unlessListed, work}
+use Rattle.game.specs.Rounds.{Round, Searched, Step, greedySteps, movesOf, openingsFirstSteps, randomRound, randomSearch}
+use Rattle.game.specs.Demands.{Sound, SoundSearch}
+use Rattle.game.specs.Calls.{Answer, ListOutcome, Refusal, board, draws, drawnRound, drawnSearch, firstGiven, frame, gives, greedyCall, gridChecks, listCheck, move, numberOf, openingsFirstCall, playedRound, Outcome, randomRoundCall, randomSearchCall, rounds, roundsCheck, shape, size-over, trace, unless, unlessListed, work}
 use Rattle.game.proofs.Replays.{round-replays}
 use Rattle.game.proofs.Rounds.{greedy-sound, openings-first-sound, random-sound}
+use Rattle.game.proofs.Searches.{search-sound}
 use Rattle.area.proofs.Cells.{cells-few}
-use Rattle.zini.specs.Answers.{KeptList}
-use Rattle.zini.specs.Written.{Written}
-use Rattle.zini.proofs.More.{all-passed}
+use Rattle.zini.specs.Answers.{Kept, KeptList}
+use Rattle.zini.specs.Written.{Told, Written}
+use Rattle.zini.proofs.More.{all-passed, none-below}
 
 numbered : (f : Refusal) → 1 ≤ numberOf f
 numbered shape = omega arith
@@ -35,6 +37,10 @@ numbered size-over = omega arith
 not-refused : (o : Option Refusal) (w w′ : List ℤ) (l l′ : List ℕ) (x : ListOutcome) (vs : List ℕ) → KeptList (unlessListed o w l x) (gives vs) w′ l′ → (o ≡ none) × KeptList x (gives vs) w′ l′
 not-refused none w w′ l l′ x vs k = (refl, k)
 not-refused (some f) w w′ l l′ x vs k = absurd (let e : 0 ≡ numberOf f = ap (λ (a : Answer). a .number) (k .answers) in omega (arith, numbered f))
+
+not-turned-down : (o : Option Refusal) (w w′ : List ℤ) (x : Outcome) (vs : List ℕ) → Kept (unless o w x) (gives vs) w′ → (o ≡ none) × Kept x (gives vs) w′
+not-turned-down none w w′ x vs k = (refl, k)
+not-turned-down (some f) w w′ x vs k = absurd (let e : 0 ≡ numberOf f = ap (λ (a : Answer). a .number) (k .answers) in omega (arith, numbered f))
 
 -- the first words of a list that moves were written into
 all-first : (xs ys : List ℕ) → take (length xs) (xs ++ ys) ≡ xs
@@ -81,3 +87,22 @@ random-written g w w′ l l′ bytes n used k =
     go : (o : Option Round) → ((r : Round) → o ≡ some r → Sound g (r .steps)) → size g ≤ 65536 → KeptList (drawnRound g o w l) (gives (n ∷ used ∷ [])) w′ l′ → Written g n l′
     go none d h k = absurd (let e : 0 ≡ numberOf draws = ap (λ (a : Answer). a .number) (k .answers) in omega arith)
     go (some r) d h k = stands-written g (r .steps) l l′ n h (d r refl) (ap (λ (a : Answer). getD (a .values) 0 0) (k .answers)) (k .lists)
+
+-- each round of a search
+pub search-told : (g : Grid) (w w′ : List ℤ) (bytes : List ℕ) (n clicks used : ℕ) → Kept (randomSearchCall g w bytes n) (gives (clicks ∷ used ∷ [])) w′ → Told g bytes n clicks used
+unfolding randomSearchCall
+search-told g w w′ bytes n clicks used k =
+    let p = not-turned-down (firstGiven (gridChecks g w ++ roundsCheck n ∷ [])) w w′ (drawnSearch g (randomSearch g bytes n) w) (clicks ∷ used ∷ []) k in
+    let h : 1 ≤ n = all-passed g w n 1 rounds (ap (λ (b : Bool). firstGiven (gridChecks g w ++ record { given = b; refusal = rounds } ∷ [])) (none-below n) ∙ p .0) .1 in
+    go (randomSearch g bytes n) (λ r e. search-sound g bytes n r h e) refl (p .1)
+  where
+    go : (o : Option Searched) → ((r : Searched) → o ≡ some r → SoundSearch g bytes n r) → randomSearch g bytes n ≡ o → Kept (drawnSearch g o w) (gives (clicks ∷ used ∷ [])) w′ → Told g bytes n clicks used
+    go none d e k = absurd (let e : 0 ≡ numberOf draws = ap (λ (a : Answer). a .number) (k .answers) in omega arith)
+    go (some r) d e k =
+        record {
+          came-to = r;
+          searched = e;
+          clicks-are = ap (λ (a : Answer). getD (a .values) 0 0) (k .answers);
+          used-are = ap (λ (a : Answer). getD (a .values) 1 0) (k .answers);
+          sound = d r refl;
+        }

@@ -1,13 +1,14 @@
--- Demand 3 carried to the calls: what stands in a list after a round. Assumes nothing.
+-- Demand 3 carried to the calls: what stands in a list after a round, and what a search answered. Assumes nothing.
 use Prim.Native.Nat.{ℕ}
 use mathlib.Core.Path.{_≡_}
 use mathlib.Core.List.{List, map}
+use mathlib.Core.Option.{some}
 use lib.ListN.{length, take}
 use Rattle.game.specs.Grid.{Grid}
 use Rattle.game.specs.Position.{untouched}
 use Rattle.game.specs.Moves.{replayFrom, whole, word}
-use Rattle.game.specs.Rounds.{Step, movesOf}
-use Rattle.game.specs.Demands.{Sound, standing}
+use Rattle.game.specs.Rounds.{Searched, Step, movesOf, randomSearch}
+use Rattle.game.specs.Demands.{Sound, SoundSearch, standing}
 
 -- the first n words of a list are the moves of a round that meets demand 3: legal, as many as the clicks, replayed to its end
 pub record Written (g : Grid) (n : ℕ) (list : List ℕ) : Type 0 where
@@ -16,3 +17,11 @@ pub record Written (g : Grid) (n : ℕ) (list : List ℕ) : Type 0 where
   pub clicks : n ≡ length (movesOf steps)
   pub words : take n list ≡ map word (movesOf steps)
   pub replays : replayFrom g 0 (untouched g) (take n list) ≡ whole (standing g steps)
+
+-- a search of so many rounds answered clicks and bytes used: the least and the last byte of rounds that each meet demand 3
+pub record Told (g : Grid) (bytes : List ℕ) (rounds clicks used : ℕ) : Type 0 where
+  pub came-to : Searched
+  pub searched : randomSearch g bytes rounds ≡ some came-to
+  pub clicks-are : clicks ≡ came-to .least
+  pub used-are : used ≡ came-to .next
+  pub sound : SoundSearch g bytes rounds came-to

@@ -1,4 +1,4 @@
--- `random::search_on`: so far the rounds are those of the definition. Assumes nothing.
+-- `random::search_on`: so far the rounds are those of the definition; at most one more than a quarter of the bytes left is played. Assumes nothing.
 use native.Mathlib.Omega.{arith}
 use mathlib.Core.Path.{_≡_, refl}
 use lib.ListN.{length}
@@ -6,7 +6,7 @@ use borrow.Author.Needs.{needs}
 use Rattle.game.specs.Moves.{after}
 use Rattle.game.specs.Position.{untouched}
 use Rattle.game.specs.Rounds.{searchFrom}
-use Rattle.random.proofs.Searches.{Midway, search-breaks, search-ends, search-goes-on, still-counted}
+use Rattle.random.proofs.Searches.{Midway, search-breaks, search-ends, search-goes-on, still-counted, turns, turns-fall}
 use Rattle.random.proofs.search_on.Statement.{statement}
 use Rattle.random.proofs.search_on.Tie as tie
 
@@ -15,7 +15,7 @@ Inv-loop work₀ rows columns draws safe clicks next more least₀ at₀ left₀
     (length work ≡ length work₀) × Midway rows columns work₀ draws clicks next more work least at left
 
 abbrev μ-loop : tie.MeasureT-loop
-μ-loop work₀ rows columns draws safe clicks next more least₀ at₀ left₀ work least at left = left
+μ-loop work₀ rows columns draws safe clicks next more least₀ at₀ left₀ work least at left = turns (length draws) at left
 
 loop-holds : tie.Need-loop-holds Inv-loop μ-loop
 loop-holds c = (refl, record { sofar = λ g old ms st. record { moves = ms; stands = st; rest = refl } })
@@ -63,7 +63,16 @@ still-requires : tie.Need-still-requires Inv-loop μ-loop
 still-requires c κs = search needs
 
 loop-less : tie.Need-loop-less Inv-loop μ-loop
-loop-less c = search needs
+loop-less c =
+    let o = c .before .before .before in
+    let x = o .before .before .before in
+    let l = x .before .before .before in
+    let b = l .before .before in
+    let a = b .args in
+    let f = still-counted (a .rows) (a .columns) (a .work .now) (a .draws .now) (a .clicks) (a .next) (a .more) (l .loop .work) (l .loop .least) (l .loop .at) (l .loop .left) (a .safe)
+    (l .loop .inv .1) (b .pre .1 .1) in
+    turns-fall (a .rows) (a .columns) (a .draws .now) (l .loop .at) (l .loop .work) (x .again .last .0) (x .again .result) (a .safe) f (x .again .ensures)
+    _ _ (l .loop .left) (c .still .result) (o .rolled .given .1) (omega arith) (c .still .ensures .0)
 
 loop-again : tie.Need-loop-again Inv-loop μ-loop
 loop-again c =
