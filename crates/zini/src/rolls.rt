@@ -132,7 +132,7 @@ pub fn random_search(
 {
     let checked = crate::checks::check_more(rows, columns, grid, work, rounds, 1, Refusal::Rounds);
     match checked {
-        Checked::Refused(refusal) => Rolled::Refused(refusal),
+        Checked::Refused(first) => Rolled::Refused(first),
         Checked::Fine => search_checked(rows, columns, grid, work, draws, rounds),
     }
 }

@@ -12,10 +12,10 @@ use Rattle.zini.proofs.clears.clear_area.Statement.{statement}
 use Rattle.zini.proofs.clears.clear_area.Tie as tie
 
 abbrev Inv-loop : tie.InvT-loop
-Inv-loop work₀ count index₀ work index = (index ≤ count) × Cleared (pos 0) index work₀ work
+Inv-loop work₀ numbers index₀ work index = (index ≤ numbers) × Cleared (pos 0) index work₀ work
 
 abbrev μ-loop : tie.MeasureT-loop
-μ-loop work₀ count index₀ work index = count - index
+μ-loop work₀ numbers index₀ work index = numbers - index
 
 loop-holds : tie.Need-loop-holds Inv-loop μ-loop
 loop-holds c = (omega arith, cleared-none (pos 0) _)
@@ -39,7 +39,7 @@ same-length : tie.Need-same-length Inv-loop μ-loop
 same-length c = c .before .loop .inv .1 .long
 
 returns : tie.Need-returns Inv-loop μ-loop
-returns c = let e : c .before .loop .index ≡ c .before .before .args .count = omega arith in subst (λ (k : ℕ). Cleared (pos 0) k (c .before .before .args .work .now) (c .before .loop .work)) e (c .before .loop .inv .1)
+returns c = let e : c .before .loop .index ≡ c .before .before .args .numbers = omega arith in subst (λ (k : ℕ). Cleared (pos 0) k (c .before .before .args .work .now) (c .before .loop .work)) e (c .before .loop .inv .1)
 
 pub clear-area-spec : {M : Type 1} → statement M
 clear-area-spec =

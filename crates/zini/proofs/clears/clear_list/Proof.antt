@@ -11,10 +11,10 @@ use Rattle.zini.proofs.clears.clear_list.Statement.{statement}
 use Rattle.zini.proofs.clears.clear_list.Tie as tie
 
 abbrev Inv-loop : tie.InvT-loop
-Inv-loop list₀ count index₀ list index = (index ≤ count) × Cleared 0 index list₀ list
+Inv-loop list₀ words index₀ list index = (index ≤ words) × Cleared 0 index list₀ list
 
 abbrev μ-loop : tie.MeasureT-loop
-μ-loop list₀ count index₀ list index = count - index
+μ-loop list₀ words index₀ list index = words - index
 
 loop-holds : tie.Need-loop-holds Inv-loop μ-loop
 loop-holds c = (omega arith, cleared-none 0 _)
@@ -41,7 +41,7 @@ same-length : tie.Need-same-length Inv-loop μ-loop
 same-length c = c .before .loop .inv .1 .long
 
 returns : tie.Need-returns Inv-loop μ-loop
-returns c = let e : c .before .loop .index ≡ c .before .before .args .count = omega arith in subst (λ (k : ℕ). Cleared 0 k (c .before .before .args .list .now) (c .before .loop .list)) e (c .before .loop .inv .1)
+returns c = let e : c .before .loop .index ≡ c .before .before .args .words = omega arith in subst (λ (k : ℕ). Cleared 0 k (c .before .before .args .list .now) (c .before .loop .list)) e (c .before .loop .inv .1)
 
 pub clear-list-spec : {M : Type 1} → statement M
 clear-list-spec =
