@@ -65,15 +65,14 @@ module _ (rows columns : ℕ) (g : Grid) (old : List ℤ) (list : List ℕ) (t :
       → Made rows columns g (untouched g) old (movesOf (firstSteps first g)) list t w list t
   begun-bare first w e st c = rw e (made-none rows columns g (untouched g) old w list t st c)
 
--- the work area after them
-pub first-going : (rows columns : ℕ) (w : List ℤ) (safe : ℕ) (first : Bool) (list : List ℕ) (w′ : List ℤ) (list′ : List ℕ) (t′ : State) → Fresh rows columns w safe
-    → ((g : Grid) (old : List ℤ) → Stands rows columns g (untouched g) old w → safe ≡ closedSafe g (untouched g)
-    → Made rows columns g (untouched g) old (movesOf (firstSteps first g)) list (record { moves = 0; closed = safe; next = 0 }) w′ list′ t′)
+-- the work area after some moves from the untouched grid
+pub first-going : (rows columns : ℕ) (w : List ℤ) (safe : ℕ) (list : List ℕ) (w′ : List ℤ) (list′ : List ℕ) (t t′ : State) (begins : Grid → List Move) → Fresh rows columns w safe
+    → ((g : Grid) (old : List ℤ) → Stands rows columns g (untouched g) old w → safe ≡ closedSafe g (untouched g) → Made rows columns g (untouched g) old (begins g) list t w′ list′ t′)
     → Going rows columns w′ t′
-first-going rows columns w safe first list w′ list′ t′ f q =
+first-going rows columns w safe list w′ list′ t t′ begins f q =
     let g = f .grid in
     let m = q g (f .old) (f .stands) (f .counts) in
-    record { grid = g; position = after g (untouched g) (movesOf (firstSteps first g)); old = f .old; stands = m .stands; counts = m .left-closed }
+    record { grid = g; position = after g (untouched g) (begins g); old = f .old; stands = m .stands; counts = m .left-closed }
 
 -- ---- the round
 

@@ -38,7 +38,7 @@ loop-less c =
     let k = c .before .before .before .before .before .before in
     let l = k .before .before in
     let a = l .before .before .args in
-    closed-falls (a .opened-only) (a .rows) (a .columns) (l .loop .work) (l .loop .list) (l .loop .current) (x .last .0) (x .last .1 .1 .1 .0) (x .result) (x .ensures) (k .if1 .taken) (l .loop .inv .2)
+    closed-falls _ (a .rows) (a .columns) (l .loop .work) (l .loop .list) (l .loop .current) (x .last .0) (x .last .1 .1 .1 .0) (x .result) (x .ensures) (k .if1 .taken) (l .loop .inv .2)
 
 loop-again : tie.Need-loop-again Inv-loop μ-loop
 loop-again c =
@@ -48,7 +48,7 @@ loop-again c =
     let a = l .before .before .args in (
       search needs,
       search needs,
-      underway-goes-on (a .opened-only) (a .rows) (a .columns) (l .loop .work) (l .loop .list) (l .loop .current) (x .last .0) (x .last .1 .1 .1 .0) (x .result) (x .ensures) (k .if1 .taken) (l .loop .inv .2),
+      underway-goes-on _ (a .rows) (a .columns) (l .loop .work) (l .loop .list) (l .loop .current) (x .last .0) (x .last .1 .1 .1 .0) (x .result) (x .ensures) (k .if1 .taken) (l .loop .inv .2),
       midway-goes-on (a .opened-only) (a .rows) (a .columns) (a .work .now) (a .list .now) (a .state) (l .loop .work) (l .loop .list) (l .loop .current) (l .loop .inv .3)
           (x .last .0) (x .last .1 .1 .1 .0) (x .result) (x .ensures) (k .if1 .taken),
     )

@@ -15,7 +15,7 @@ play-on-requires c κs =
     let b = k .before .before .before .before in
     let a = b .args in
     let x = k .begin in
-    (b .pre .0, ((search needs, omega (arith, x .ensures .0, cells-few (a .rows) (a .columns) (b .pre .0))), first-going (a .rows) (a .columns) (a .work .now) (a .safe) (a .openings-first) (a .list .now) (x .last .0) (x .last .1 .1 .1 .0) (x .result) (b .pre .1 .1) (x .ensures .1)))
+    (b .pre .0, ((search needs, omega (arith, x .ensures .0, cells-few (a .rows) (a .columns) (b .pre .0))), first-going (a .rows) (a .columns) (a .work .now) (a .safe) (a .list .now) (x .last .0) (x .last .1 .1 .1 .0) _ (x .result) _ (b .pre .1 .1) (x .ensures .1)))
 
 same-length : tie.Need-same-length
 same-length c = search needs
