@@ -1,5 +1,10 @@
 -- `start::load::load_cell`: five numbers are put, one after the other. Assumes nothing.
 use borrow.Author.Needs.{needs}
+use Prim.Native.Nat.{_+_, _*_}
+use mathlib.Core.Path.{_∙_, ap}
+use mathlib.Core.List.{List}
+use lib.IntN.{ℤ}
+use Rattle.area.specs.Numbers.{putAt}
 use Rattle.start.proofs.load.load_cell.Statement.{statement}
 use Rattle.start.proofs.load.load_cell.Tie as tie
 
@@ -37,7 +42,17 @@ same-length : tie.Need-same-length
 same-length c = search needs
 
 returns : tie.Need-returns
-returns c = cc
+returns c =
+    let fifth = c .before in
+    let fourth = fifth .before .before .before in
+    let third = fourth .before .before .before in
+    let second = third .before .before .before in
+    let first = second .before .before .before in
+    let at = 5 * first .before .before .args .index in
+    fifth .put5 .ensures ∙ ap (λ (w : List ℤ). putAt w (at + 4) 0)
+    (fourth .put4 .ensures ∙ ap (λ (w : List ℤ). putAt w (at + 3) 0)
+    (third .put3 .ensures ∙ ap (λ (w : List ℤ). putAt w (at + 2) (first .before .before .args .kind))
+    (second .put2 .ensures ∙ ap (λ (w : List ℤ). putAt w (at + 1) 0) (first .put .ensures))))
 
 pub load-cell-spec : {M : Type 1} → statement M
 load-cell-spec =

@@ -52,7 +52,8 @@ loop-again : tie.Need-loop-again Inv-loop μ-loop
 loop-again c =
     let l = c .before .before .before .before .before .before .before .loop in
     let a = c .before .before .before .before .before .before .before .before .args in
-    let e : c .before .put .last .0 ≡ settleCell (l .work) (l .index) = cc in (
+    let e : c .before .put .last .0 ≡ settleCell (l .work) (l .index)
+    = c .before .put .ensures ∙ ap (λ (w : List ℤ). putAt w (5 * l .index + 4) 0) (c .before .before .before .before .lower-premium .ensures) in (
       omega arith,
       e ∙ ap (λ (w : List ℤ). settleCell w (l .index)) (l .inv .1) ∙ sym (fold-more settleCell (a .work .now) 0 (l .index) (omega arith)),
       ap length e ∙ length-settle (l .work) (l .index) ∙ l .inv .2,
