@@ -3,3 +3,4 @@ pub mod Cells
 pub mod Tests
 pub mod Rows
 pub mod Held
+pub mod Sides

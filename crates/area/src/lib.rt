@@ -4,10 +4,12 @@ ghost use Prim.Native.Nat.{ℕ, _+_, _*_, _-_, _<_, _≤_, min};
 ghost use lib.ListN.{length, getD};
 ghost use lib.IntN.{pos};
 ghost use mathlib.Core.Bool.{not};
+ghost use mathlib.Core.List.{[]};
 ghost use lib.Dec.{eqb};
 ghost use Rattle.game.specs.Lists.{bit, count, range};
 ghost use Rattle.game.specs.Grid.{isMine, number};
 ghost use Rattle.area.specs.Numbers.{numberAt, putAt, putLowered, gridOf, rowMine};
+ghost use Rattle.area.specs.Squares.{Neighbour};
 ghost use Rattle.area.specs.Stages.{Shape};
 
 // Whether the value at a place of the grid is a mine.
@@ -36,6 +38,14 @@ pub fn put(work: &mut [i32], at: usize, value: usize)
     work[at] = (value % 2147483648) as i32;
 }
 
+// The index of the cell in a row and a column.
+pub fn cell(rows: usize, columns: usize, row: usize, column: usize) -> usize
+    requires { ⌜ (row < rows) × (column < columns) × (rows ≤ 255) × (columns ≤ 255) ⌝ }
+    ensures { λ r. ⌜ (r ≡ column * rows + row) × (r < rows * columns) ⌝ }
+{
+    column * rows + row
+}
+
 // The first of the rows or columns beside x.
 pub fn lower(x: usize) -> usize
     ensures { λ r. ⌜ r ≡ x - 1 ⌝ }
@@ -49,6 +59,29 @@ pub fn upper(x: usize, n: usize) -> usize
     ensures { λ r. ⌜ r ≡ min (x + 2) n ⌝ }
 {
     if x + 1 < n { x + 2 } else { n }
+}
+
+// The cell so many rows down and columns right in the square of a cell, or the number of cells where that is off the grid.
+pub fn near(rows: usize, columns: usize, index: usize, down: usize, right: usize) -> usize
+    requires { ⌜ Shape rows columns ⌝ }
+    requires { ⌜ (index < rows * columns) × (down < 3) × (right < 3) ⌝ }
+    ensures { λ r. ⌜ Neighbour (gridOf rows columns []) index down right r ⌝ }
+{
+    let row = index % rows + down;
+    let column = index / rows + right;
+    if row == 0 {
+        return rows * columns;
+    }
+    if row > rows {
+        return rows * columns;
+    }
+    if column == 0 {
+        return rows * columns;
+    }
+    if column > columns {
+        return rows * columns;
+    }
+    (column - 1) * rows + (row - 1)
 }
 
 // The mines of a row, in the columns from one up to another.

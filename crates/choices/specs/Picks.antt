@@ -22,6 +22,10 @@ abbrev pub betterAt : Bool → List ℤ → Best → ℕ → Best
 betterAt openedOnly w b i =
     cond (ltb (b .top) (numberAt w (5 * i + 2)) && lookedAt openedOnly w i) (record { top = numberAt w (5 * i + 2); at = i }) b
 
+-- the same, once the cells of a column have been looked at
+abbrev pub columnBest : Bool → List ℤ → ℕ → Best → ℕ → Best
+columnBest openedOnly w rows b column = fold (λ d row. betterAt openedOnly w d (column * rows + row)) b (range 0 rows)
+
 -- the highest raised premium of 10 or more among n cells, and the lowest cell that has it; 9 and n if there is none
 abbrev pub bestOf : Bool → List ℤ → ℕ → Best
 bestOf openedOnly w n = fold (betterAt openedOnly w) (record { top = 9; at = n }) (range 0 n)

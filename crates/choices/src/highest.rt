@@ -9,9 +9,9 @@ ghost use lib.ListN.{length};
 ghost use Rattle.game.specs.Grid.{Grid, size};
 ghost use Rattle.game.specs.Position.{Position};
 ghost use Rattle.game.specs.Rounds.{topCells};
-ghost use Rattle.area.specs.Stages.{Stands};
+ghost use Rattle.area.specs.Stages.{Shape, Stands};
 ghost use Rattle.choices.specs.Tests.{lookedAt};
-ghost use Rattle.choices.specs.Picks.{foundFirst, betterAt, bestOf};
+ghost use Rattle.choices.specs.Picks.{foundFirst, betterAt, columnBest, bestOf};
 
 // Whether a step may look at the cell.
 pub fn looked(work: &[i32], index: usize, opened_only: bool) -> bool
@@ -42,26 +42,50 @@ pub fn better(work: &[i32], index: usize, opened_only: bool, best: Best) -> Best
     best
 }
 
-// The highest raised premium of 10 or more, and the lowest cell that has it: one scan.
-pub fn scan(work: &[i32], cells: usize, opened_only: bool) -> Best
-    requires { ⌜ 5 * cells ≤ length (now work) ⌝ }
-    ensures { λ r. ⌜ r ≡ bestOf «opened_only» (now (work .entry)) cells ⌝ }
+// The best so far, once the cells of a column have been looked at.
+pub fn scan_column(
+    work: &[i32],
+    rows: usize,
+    columns: usize,
+    column: usize,
+    opened_only: bool,
+    best: Best,
+) -> Best
+    requires { ⌜ Shape rows columns ⌝ }
+    requires { ⌜ (5 * (rows * columns) ≤ length (now work)) × (column < columns) ⌝ }
+    ensures { λ r. ⌜ r ≡ columnBest «opened_only» (now (work .entry)) rows best column ⌝ }
 {
-    let mut found = Best { top: 9, at: cells };
-    for index in 0..cells {
+    let mut found = best;
+    for row in 0..rows {
+        let index = area::cell(rows, columns, row, column);
         found = better(work, index, opened_only, found);
     }
     found
 }
 
-// The lowest of the cells of highest premium, if that is 0 or more.
-pub fn best(work: &[i32], cells: usize, opened_only: bool) -> Found
-    requires { ⌜ 5 * cells ≤ length (now work) ⌝ }
-    ensures { λ r. ⌜ ((rows columns : ℕ) (g : Grid) (s : Position) (old : List ℤ) → Stands rows columns g s old (now (work .entry)) → size g ≡ cells → r ≡ foundFirst (topCells «opened_only» g s)) ⌝ }
+// The highest raised premium of 10 or more, and the lowest cell that has it: one scan, column after column.
+pub fn scan(work: &[i32], rows: usize, columns: usize, opened_only: bool) -> Best
+    requires { ⌜ Shape rows columns ⌝ }
+    requires { ⌜ 5 * (rows * columns) ≤ length (now work) ⌝ }
+    ensures { λ r. ⌜ r ≡ bestOf «opened_only» (now (work .entry)) (rows * columns) ⌝ }
 {
-    let found = scan(work, cells, opened_only);
+    let cells = rows * columns;
+    let mut found = Best { top: 9, at: cells };
+    for column in 0..columns {
+        found = scan_column(work, rows, columns, column, opened_only, found);
+    }
+    found
+}
+
+// The lowest of the cells of highest premium, if that is 0 or more.
+pub fn best(work: &[i32], rows: usize, columns: usize, opened_only: bool) -> Found
+    requires { ⌜ Shape rows columns ⌝ }
+    requires { ⌜ 5 * (rows * columns) ≤ length (now work) ⌝ }
+    ensures { λ r. ⌜ ((g : Grid) (s : Position) (old : List ℤ) → Stands rows columns g s old (now (work .entry)) → r ≡ foundFirst (topCells «opened_only» g s)) ⌝ }
+{
+    let found = scan(work, rows, columns, opened_only);
     let at = found.at;
-    if at < cells {
+    if at < rows * columns {
         Found::At(at)
     } else {
         Found::Nothing

@@ -12,16 +12,17 @@ ghost use Rattle.game.specs.Grid.{Grid, size};
 ghost use Rattle.game.specs.Lists.{count, keep, range};
 ghost use Rattle.game.specs.Position.{Position};
 ghost use Rattle.game.specs.Rounds.{choice};
-ghost use Rattle.area.specs.Stages.{Stands};
+ghost use Rattle.area.specs.Stages.{Shape, Stands};
 ghost use Rattle.choices.specs.Tests.{candidateAt};
 ghost use Rattle.choices.specs.Picks.{candidatesOf, forClick};
 
 // The highest raised premium, at least 9: below 10 the step is one L.
-pub fn top(work: &[i32], cells: usize) -> usize
-    requires { ⌜ 5 * cells ≤ length (now work) ⌝ }
-    ensures { λ r. ⌜ ((rows columns : ℕ) (g : Grid) (s : Position) (old : List ℤ) → Stands rows columns g s old (now (work .entry)) → size g ≡ cells → (ltb r 10 ≡ forClick (choice false g s)) × (keep (candidateAt r (now (work .entry))) (range 0 cells) ≡ candidatesOf (choice false g s))) ⌝ }
+pub fn top(work: &[i32], rows: usize, columns: usize) -> usize
+    requires { ⌜ Shape rows columns ⌝ }
+    requires { ⌜ 5 * (rows * columns) ≤ length (now work) ⌝ }
+    ensures { λ r. ⌜ ((g : Grid) (s : Position) (old : List ℤ) → Stands rows columns g s old (now (work .entry)) → (ltb r 10 ≡ forClick (choice false g s)) × (keep (candidateAt r (now (work .entry))) (range 0 (rows * columns)) ≡ candidatesOf (choice false g s))) ⌝ }
 {
-    let found = highest::scan(work, cells, false);
+    let found = highest::scan(work, rows, columns, false);
     found.top
 }
 

@@ -221,12 +221,14 @@ pub fold-ext {ℓ} : {S : Type ℓ} (f h : S → ℕ → S) (s : S) (xs : List �
 fold-ext f h s [] e = refl
 fold-ext f h s (x ∷ xs) e = ap (λ t. fold f t xs) (e s x) ∙ fold-ext f h (h s x) xs e
 
+pub concat-map-append {ℓ κ} : {A : Type ℓ} {B : Type κ} (f : A → List B) (xs ys : List A) → concat-map f (xs ++ ys) ≡ concat-map f xs ++ concat-map f ys
+concat-map-append f [] ys = refl
+concat-map-append f (x ∷ xs) ys =
+    ap (λ l. f x ++ l) (concat-map-append f xs ys) ∙ sym (append-assoc (f x) (concat-map f xs) (concat-map f ys))
+
 pub concat-map-more : (f : ℕ → List ℕ) (a b : ℕ) → a ≤ b → concat-map f (range a (b + 1)) ≡ concat-map f (range a b) ++ f b
-concat-map-more f a b h = ap (concat-map f) (range-more a b h) ∙ append-one (range a b)
-  where
-    append-one : (xs : List ℕ) → concat-map f (xs ++ (b ∷ [])) ≡ concat-map f xs ++ f b
-    append-one [] = append-nil (f b)
-    append-one (x ∷ xs) = ap (λ (l : List ℕ). f x ++ l) (append-one xs) ∙ sym (append-assoc (f x) (concat-map f xs) (f b))
+concat-map-more f a b h =
+    ap (concat-map f) (range-more a b h) ∙ concat-map-append f (range a b) (b ∷ []) ∙ ap (λ (l : List ℕ). concat-map f (range a b) ++ l) (append-nil (f b))
 
 -- ---- a walk by column and row is a walk in index order
 

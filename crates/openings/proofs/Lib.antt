@@ -1,4 +1,3 @@
-pub mod Cells
 pub mod Edges
 pub mod Changes
 pub mod Frees

@@ -16,7 +16,7 @@ use Rattle.game.specs.Grid.{Grid, size, zeroCell}
 use Rattle.game.specs.Lists.{count, fold, has, range, some-of}
 use Rattle.game.specs.Openings.{Joined, gather, holds, joinedTo, labels, openings, places}
 use Rattle.openings.specs.Marks.{edgeFirst, firstOf, kindOf, secondOf, shaped}
-use Rattle.openings.specs.Spread.{Begun, Labelling, Opened}
+use Rattle.openings.specs.Spread.{Begun, Labelling, Numbered, Opened, partFive, upto}
 use Rattle.game.proofs.Areas.{laid-at, laid-length, laid-only, laid-past}
 use Rattle.game.proofs.Chains.{joined-last, joined-sym}
 use Rattle.game.proofs.Members.{fold-inv, fold-more, has-range}
@@ -25,10 +25,6 @@ use Rattle.game.proofs.Truth.{and-both, and-left, and-right, no→false}
 use Rattle.game.proofs.Zeros.{Zero}
 use Rattle.openings.proofs.Exact.{exact-no, exact-yes, kind-zero, zero-kind}
 use Rattle.openings.proofs.Places.{earlier, first-after, places-held, places-not, second-after, zero-labelled}
-
--- a cell's five numbers while the openings os are labelled
-unfoldable pub partFive : Grid → List (List ℕ) → ℕ → List ℤ
-partFive g os i = pos (getD (places g i 1 os) 0 0) ∷ pos (getD (places g i 1 os) 1 0) ∷ pos (kind g i) ∷ pos 0 ∷ pos 0 ∷ []
 
 part-length : (g : Grid) (os : List (List ℕ)) (i : ℕ) → length (partFive g os i) ≡ 5
 unfolding partFive
@@ -139,21 +135,9 @@ module _ (g : Grid) (os : List (List ℕ)) (good-os : Good g os) (i : ℕ) (hi :
 
 -- ---- the openings gathered up to a cell
 
--- the openings whose lowest 0-cells are below i
-abbrev upto : Grid → ℕ → List (List ℕ)
-upto g i = fold (gather g) [] (range 0 i)
-
 good-upto : (g : Grid) (i : ℕ) → i ≤ size g → Good g (upto g i)
 good-upto g i h =
     fold-inv (Good g) (gather g) (range 0 i) (λ os x t p. good-gather g os x (omega (arith, has-range 0 i x t .1)) p) [] (good-none g)
-
--- the work area w, w₀ before, once the cells below i were looked at
-pub record Numbered (rows columns : ℕ) (w₀ : List ℤ) (i count : ℕ) (w : List ℤ) : Type 0 where
-  pub inside : i ≤ rows * columns
-  pub few : count ≤ i
-  pub long : length w ≡ length w₀
-  pub parts : (g : Grid) (old : List ℤ) → g .rows ≡ rows → g .columns ≡ columns → 5 * size g ≤ length old → w₀ ≡ laid (loadedFive g) (size g) old
-      → (count ≡ length (upto g i)) × (w ≡ laid (partFive g (upto g i)) (size g) old)
 
 module _ (rows columns : ℕ) (w₀ : List ℤ) where
   pub numbered-none : Numbered rows columns w₀ 0 0 w₀

@@ -1,5 +1,5 @@
 -- The neighbours of a 0-cell one after another, each by a border label or by its own opening. Assumes nothing.
-use Prim.Native.Nat.{ℕ, _*_, _+_, _<_, _≤_}
+use Prim.Native.Nat.{ℕ, _%_, _*_, _+_, _/_, _<_, _≤_}
 use native.Mathlib.Omega.{arith}
 use native.Mathlib.Decide.{ℕ-discrete}
 use mathlib.Core.Path.{_∙_, _≡_, ap, refl, subst}
@@ -10,10 +10,11 @@ use lib.Dec.{T, eqb, ltb}
 use lib.IntN.{pos, ℤ}
 use lib.ListN.{getD, length}
 use Rattle.area.specs.Numbers.{natural}
+use Rattle.area.specs.Squares.{Neighbour}
 use Rattle.game.specs.Calls.{shape}
 use Rattle.game.specs.Grid.{Grid, size, square}
 use Rattle.game.specs.Lists.{has}
-use Rattle.openings.specs.Marks.{Fresh, Neighbour, Ready, bordered, firstOf, freeOf, kindOf, marked}
+use Rattle.openings.specs.Marks.{Fresh, Ready, bordered, firstOf, freeOf, kindOf, marked}
 use Rattle.openings.specs.Spread.{Change, ClearFrom, Closed, Edge, Opened, Reach, Side, Visited, here, next, turn}
 use Rattle.game.proofs.Squares.{in-own-square, square→, →square}
 use Rattle.openings.proofs.Changes.{change-from, closed-then, edge-some, edge-then, kinds-stay, mark-change, refl-change, side-then, stays, then-side, trans-change}
@@ -50,13 +51,13 @@ bordering g op o from source at w w1 room r t q = rw q (go (ltb at (size g)) ref
         same x q = omega arith
 
 -- the neighbour number n of a 0-cell is one of its square, and the only one of that number
-beside-of : (g : Grid) (i n r : ℕ) → i < size g → n < 9 → Neighbour g i n r → r < size g → T (has r (square g i))
+beside-of : (g : Grid) (i n r : ℕ) → i < size g → n < 9 → Neighbour g i (n / 3) (n % 3) r → r < size g → T (has r (square g i))
 beside-of g i n r h l nb hr =
     let a = nb .row hr in
     let b = nb .column hr in
     →square g i r h hr (record { north = omega arith; south = omega arith; west = omega arith; east = omega arith })
 
-only-of : (g : Grid) (i n r : ℕ) → i < size g → Neighbour g i n r → (y : ℕ) → T (has y (square g i)) → turn g i y ≡ n → r ≡ y
+only-of : (g : Grid) (i n r : ℕ) → i < size g → Neighbour g i (n / 3) (n % 3) r → (y : ℕ) → T (has y (square g i)) → turn g i y ≡ n → r ≡ y
 only-of g i n r h nb y t e =
     let s = square→ g i y h t in
     let c = s .1 in
@@ -92,7 +93,7 @@ module _ (g : Grid) (op : ℕ) (o : 1 ≤ op) where
     pub side : (y : ℕ) → T (has y (square g i)) → turn g i y ≡ n → Side (kindOf w) op w w2 y
     pub clear : ClearFrom g 0 w → ClearFrom g 0 w2
 
-  pub stepped : (w w1 w2 : List ℤ) (i n at : ℕ) → i < size g → kindOf w i ≡ 1 → n < 9 → 5 * size g ≤ length w → Neighbour g i n at
+  pub stepped : (w w1 w2 : List ℤ) (i n at : ℕ) → i < size g → kindOf w i ≡ 1 → n < 9 → 5 * size g ≤ length w → Neighbour g i (n / 3) (n % 3) at
       → w1 ≡ bordered (size g) w at op → Opened g (kindOf w1) op at w1 w2 → Stepped i n w w2
   stepped w w1 w2 i n at h e l room nb q p1 =
       let k = kindOf w in
@@ -151,7 +152,7 @@ module _ (g : Grid) (op : ℕ) (o : 1 ≤ op) where
       }
 
   -- a border label leaves no more 0-cells without label
-  pub border-free : (w w1 : List ℤ) (i n at : ℕ) → i < size g → kindOf w i ≡ 1 → n < 9 → 5 * size g ≤ length w → Neighbour g i n at
+  pub border-free : (w w1 : List ℤ) (i n at : ℕ) → i < size g → kindOf w i ≡ 1 → n < 9 → 5 * size g ≤ length w → Neighbour g i (n / 3) (n % 3) at
       → w1 ≡ bordered (size g) w at op → freeOf (size g) w1 ≤ freeOf (size g) w
   border-free w w1 i n at h e l room nb q =
       free-le g (kindOf w) op o i w w1 (bordering g op o i i at w w1 room (here h e) (beside-of g i n at h l nb) q .change)

@@ -76,9 +76,3 @@ pub record Ready (rows columns op : ℕ) (w : List ℤ) : Type 0 where
   pub room : 5 * (rows * columns) ≤ length w
   pub some-label : 1 ≤ op
   pub fits : op < 2147483648
-
--- r is the neighbour number k of the cell i, by row, then column; off the grid it is no cell
-pub record Neighbour (g : Grid) (i k r : ℕ) : Type 0 where
-  pub row : r < size g → rowOf g r + 1 ≡ rowOf g i + k / 3
-  pub column : r < size g → columnOf g r + 1 ≡ columnOf g i + k % 3
-  pub found : (y : ℕ) → y < size g → rowOf g y + 1 ≡ rowOf g i + k / 3 → columnOf g y + 1 ≡ columnOf g i + k % 3 → r ≡ y

@@ -2,15 +2,15 @@
 use Prim.Native.Nat.{ℕ, _+_, _-_, _*_, _<_, _≤_}
 use mathlib.Core.Path.{_≡_}
 use mathlib.Core.Logic.{_⊎_}
-use mathlib.Core.List.{List}
+use mathlib.Core.List.{List, [], _∷_}
 use lib.Dec.{T}
 use lib.IntN.{ℤ, pos}
 use lib.ListN.{getD, length}
 use Rattle.game.specs.Grid.{Grid, columnOf, rowOf, size, square}
-use Rattle.game.specs.Lists.{has}
-use Rattle.game.specs.Openings.{openings}
+use Rattle.game.specs.Lists.{fold, has, range}
+use Rattle.game.specs.Openings.{gather, openings, places}
 use Rattle.game.specs.Area.{laid}
-use Rattle.area.specs.Stages.{loadedFive, labelledFive}
+use Rattle.area.specs.Stages.{kind, labelledFive, loadedFive}
 use Rattle.openings.specs.Marks.{edgeFirst, edgeSecond, firstOf, secondOf}
 
 -- a chain of 0-cells from a on, each in the square of the one before
@@ -91,3 +91,19 @@ abbrev pub Labelling : ℕ → ℕ → List ℤ → ℕ → List ℤ → Type 0
 Labelling rows columns w r w′ =
     (g : Grid) (old : List ℤ) → g .rows ≡ rows → g .columns ≡ columns → 5 * size g ≤ length old
     → w ≡ laid (loadedFive g) (size g) old → (r ≡ length (openings g)) × (w′ ≡ laid (labelledFive g) (size g) old)
+
+-- a cell's five numbers while the openings os are labelled
+unfoldable pub partFive : Grid → List (List ℕ) → ℕ → List ℤ
+partFive g os i = pos (getD (places g i 1 os) 0 0) ∷ pos (getD (places g i 1 os) 1 0) ∷ pos (kind g i) ∷ pos 0 ∷ pos 0 ∷ []
+
+-- the openings whose lowest 0-cells are below i
+abbrev pub upto : Grid → ℕ → List (List ℕ)
+upto g i = fold (gather g) [] (range 0 i)
+
+-- the work area w, w₀ before, once the cells below i were looked at
+pub record Numbered (rows columns : ℕ) (w₀ : List ℤ) (i count : ℕ) (w : List ℤ) : Type 0 where
+  pub inside : i ≤ rows * columns
+  pub few : count ≤ i
+  pub long : length w ≡ length w₀
+  pub parts : (g : Grid) (old : List ℤ) → g .rows ≡ rows → g .columns ≡ columns → 5 * size g ≤ length old → w₀ ≡ laid (loadedFive g) (size g) old
+      → (count ≡ length (upto g i)) × (w ≡ laid (partFive g (upto g i)) (size g) old)

@@ -6,7 +6,6 @@ ghost use Rattle.openings.specs.Spread.{Opened, Visited};
 use super::marks::border;
 use super::marks::fresh;
 use super::marks::mark;
-use super::marks::near;
 
 // Labels the opening of a 0-cell without label; any other cell stays as it is.
 pub fn label_cell(work: &mut [i32], rows: usize, columns: usize, op: usize, index: usize)
@@ -32,7 +31,7 @@ pub fn visit(work: &mut [i32], rows: usize, columns: usize, op: usize, index: us
     if k >= 9 {
         return;
     }
-    let at = near(rows, columns, index, k);
+    let at = area::near(rows, columns, index, k / 3, k % 3);
     border(work, rows * columns, at, op);
     label_cell(work, rows, columns, op, at);
     visit(work, rows, columns, op, index, k + 1);

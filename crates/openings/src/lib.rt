@@ -1,9 +1,12 @@
 // Labels of the openings: by functions that call each other up to 512 cells, by waiting cells above.
 ghost use Prim.Native.Nat.{_+_, _*_, _<_, _≤_};
 ghost use lib.ListN.{length};
+ghost use lib.IntN.{ℤ};
+ghost use mathlib.Core.Path.{_≡_};
+ghost use mathlib.Core.List.{List};
 ghost use Rattle.area.specs.Stages.{Shape};
 ghost use Rattle.openings.specs.Marks.{Ready, kindOf, shaped};
-ghost use Rattle.openings.specs.Spread.{Begun, Labelling, Opened};
+ghost use Rattle.openings.specs.Spread.{Begun, Labelling, Numbered, Opened};
 use cycle::label_cell;
 use marks::fresh;
 use waiting::spread;
@@ -39,6 +42,21 @@ fn begin(work: &mut [i32], rows: usize, columns: usize, count: usize, index: usi
     count + 1
 }
 
+// Labels the openings whose lowest 0-cells are in a column, after those of the columns before it. Answers how many there are now.
+fn label_column(work: &mut [i32], rows: usize, columns: usize, count: usize, column: usize) -> usize
+    requires { ⌜ Shape rows columns ⌝ }
+    requires { ⌜ (5 * (rows * columns) ≤ length (now work)) × (column < columns) × (count ≤ column * rows) ⌝ }
+    ensures { λ r. ⌜ (length (now (work .exit)) ≡ length (now (work .entry))) × (r ≤ count + rows) ⌝ }
+    ensures { λ r. ⌜ ((w₀ : List ℤ) → Numbered rows columns w₀ (column * rows) count (now (work .entry)) → Numbered rows columns w₀ (column * rows + rows) r (now (work .exit))) ⌝ }
+{
+    let mut found = count;
+    for row in 0..rows {
+        let index = area::cell(rows, columns, row, column);
+        found = begin(work, rows, columns, found, index);
+    }
+    found
+}
+
 // Labels every opening, numbered from 1 by its lowest 0-cell. Answers how many there are.
 pub fn label(work: &mut [i32], rows: usize, columns: usize) -> usize
     requires { ⌜ Shape rows columns ⌝ }
@@ -46,10 +64,8 @@ pub fn label(work: &mut [i32], rows: usize, columns: usize) -> usize
     ensures { λ r. ⌜ Labelling rows columns (now (work .entry)) r (now (work .exit)) ⌝ }
 {
     let mut count: usize = 0;
-    let mut i: usize = 0;
-    while i < rows * columns {
-        count = begin(work, rows, columns, count, i);
-        i += 1;
+    for column in 0..columns {
+        count = label_column(work, rows, columns, count, column);
     }
     count
 }

@@ -1,33 +1,9 @@
-// One cell: its kind and labels in the work area, its neighbours, one more label.
+// One cell: its kind and labels in the work area, one more label.
 ghost use mathlib.Core.Path.{_≡_};
 ghost use Prim.Native.Nat.{_+_, _*_, _<_, _≤_};
 ghost use lib.ListN.{length};
 ghost use Rattle.area.specs.Stages.{Shape};
-ghost use Rattle.openings.specs.Marks.{Neighbour, edgeFirst, edgeSecond, freshCell, bordered, marked, numberedOf, shaped};
-
-// The neighbour number k, of nine, of a cell, or the number of cells where it is off the grid.
-pub fn near(rows: usize, columns: usize, index: usize, k: usize) -> usize
-    requires { ⌜ Shape rows columns ⌝ }
-    requires { ⌜ index < rows * columns ⌝ }
-    requires { ⌜ k < 9 ⌝ }
-    ensures { λ r. ⌜ Neighbour (shaped rows columns) index k r ⌝ }
-{
-    let row = index % rows + k / 3;
-    let column = index / rows + k % 3;
-    if row == 0 {
-        return rows * columns;
-    }
-    if row > rows {
-        return rows * columns;
-    }
-    if column == 0 {
-        return rows * columns;
-    }
-    if column > columns {
-        return rows * columns;
-    }
-    (column - 1) * rows + (row - 1)
-}
+ghost use Rattle.openings.specs.Marks.{edgeFirst, edgeSecond, freshCell, bordered, marked, numberedOf};
 
 // Whether the cell is a 0-cell without label.
 pub fn fresh(work: &[i32], cells: usize, index: usize) -> bool

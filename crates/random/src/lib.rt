@@ -68,7 +68,7 @@ pub fn step(
         → Stepping rows columns g s old (draw (now (draws .entry)) (state .next) (width (choice false g s))) (now (list .entry)) state (now (work .entry)) (now (work .exit)) (now (list .exit)) r) ⌝ }
 {
     let cells = rows * columns;
-    let top = choices::ties::top(work, cells);
+    let top = choices::ties::top(work, rows, columns);
     let candidates = choices::ties::count(work, cells, top);
     let drawn = draws::draw(draws, state.next, candidates);
     let Drawn::Place(place, next) = drawn else {

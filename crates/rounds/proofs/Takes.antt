@@ -47,13 +47,13 @@ module _ (rows columns : ℕ) (w : List ℤ) (r : Found) where
       omega (arith, u .inside, ap₂ _*_ (h .stands .rows-are) (h .stands .columns-are))
 
   pub top-inside : (openedOnly : Bool) (i : ℕ) → Standing rows columns w
-      → ((y x : ℕ) (g : Grid) (s : Position) (old : List ℤ) → Stands y x g s old w → size g ≡ rows * columns → r ≡ foundFirst (topCells openedOnly g s)) → r ≡ At i
+      → ((g : Grid) (s : Position) (old : List ℤ) → Stands rows columns g s old w → r ≡ foundFirst (topCells openedOnly g s)) → r ≡ At i
       → i < rows * columns
   top-inside openedOnly i h f e =
       let g = h .grid in
       let s = h .position in
       let z = ap₂ _*_ (h .stands .rows-are) (h .stands .columns-are) in
-      let t = top→ openedOnly g s i (found-has (topCells openedOnly g s) r i e (f rows columns g s (h .old) (h .stands) z) .0) in
+      let t = top→ openedOnly g s i (found-has (topCells openedOnly g s) r i e (f g s (h .old) (h .stands)) .0) in
       omega (arith, looked→ openedOnly g s i (t .is-looked) .0)
 
   module _ (g : Grid) (s : Position) (old : List ℤ) (list : List ℕ) (t : State) (w′ : List ℤ) (list′ : List ℕ) (t′ : State) where

@@ -53,7 +53,7 @@ pub fn step(
         → 1 ≤ closedSafe g s → state .closed ≡ closedSafe g s
         → Made rows columns g s old (stepOf g s (choice «opened_only» g s) 0 .moves) (now (list .entry)) state (now (work .exit)) (now (list .exit)) r) ⌝ }
 {
-    let found = choices::highest::best(work, rows * columns, opened_only);
+    let found = choices::highest::best(work, rows, columns, opened_only);
     match found {
         Found::At(index) => moves::act(work, rows, columns, list, state, index),
         Found::Nothing => click_lowest(work, rows, columns, list, state),

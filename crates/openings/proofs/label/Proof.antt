@@ -1,73 +1,65 @@
--- `label`: once the cells below i were looked at, the openings with a 0-cell among them are labelled; the cells left fall. Assumes nothing.
+-- `label`: once the columns before one were looked at, the openings that begin in them are labelled; the columns left fall. Assumes nothing.
 use Rattle.openings.proofs.label.Statement.{statement}
 use Rattle.openings.proofs.label.Tie as tie
 use native.Mathlib.Omega.{arith}
-use Prim.Native.Nat.{ℕ, _*_, _-_}
-use mathlib.Core.Path.{_≡_, subst}
-use Rattle.openings.proofs.Cells.{cells-small}
-use Rattle.openings.proofs.Numbers.{Numbered, numbered-all, numbered-more, numbered-none}
+use native.Mathlib.Nat.{mul-comm, suc-mul}
+use native.Mathlib.Numerals.{add-one}
+use Prim.Native.Nat.{ℕ, _*_, _+_, _-_, _≤_}
+use mathlib.Core.Path.{_∙_, _≡_, ap, refl, subst, sym}
+use lib.ListN.{length}
+use Rattle.openings.specs.Spread.{Numbered}
+use Rattle.openings.proofs.Numbers.{numbered-all, numbered-none}
 
 abbrev Inv-loop : tie.InvT-loop
-Inv-loop work₀ rows columns count₀ i₀ work count i = Numbered rows columns work₀ i count work
+Inv-loop work₀ rows columns count₀ column₀ work count column =
+    (column ≤ columns) × (length work ≡ length work₀) × (count ≤ column * rows) × Numbered rows columns work₀ (column * rows) count work
 
 abbrev μ-loop : tie.MeasureT-loop
-μ-loop work₀ rows columns count₀ i₀ work count i = rows * columns - i
+μ-loop work₀ rows columns count₀ column₀ work count column = columns - column
 
 loop-holds : tie.Need-loop-holds Inv-loop μ-loop
-loop-holds c = numbered-none (c .args .rows) (c .args .columns) (c .args .work .now)
+loop-holds c = (omega arith, refl, omega arith, subst (λ (k : ℕ). Numbered (c .args .rows) (c .args .columns) (c .args .work .now) k 0 (c .args .work .now)) (none (c .args .rows)) (numbered-none (c .args .rows) (c .args .columns) (c .args .work .now)))
+  where
+    none : (rows : ℕ) → 0 ≡ 0 * rows
+    none rows = omega arith
 
-mul-loop : tie.Need-mul-loop Inv-loop μ-loop
-mul-loop c = omega (arith, cells-small (c .before .args .rows) (c .before .args .columns) (c .before .pre .0))
+label-column-requires : tie.Need-label-column-requires Inv-loop μ-loop
+label-column-requires c κs = let l = c .before .before .loop .inv in (c .before .before .before .pre .0, (omega (arith, l .1), omega arith, l .2))
 
-begin-requires : tie.Need-begin-requires Inv-loop μ-loop
-begin-requires c κs =
-    let s = c .before .before .before in
-    let n = c .before .before .loop .inv in
-    let h = c .before .loop-test .taken in (
-      record {
-        shape = s .pre .0;
-        room = omega (arith, n .long, s .pre .1);
-        some-label = omega arith;
-        fits = omega (arith, cells-small (s .args .rows) (s .args .columns) (s .pre .0), n .few, h);
-      },
-      h,
-    )
-
-add-i : tie.Need-add-i Inv-loop μ-loop
-add-i c = omega arith
+add-column : tie.Need-add-column Inv-loop μ-loop
+add-column c = omega arith
 
 loop-less : tie.Need-loop-less Inv-loop μ-loop
 loop-less c = omega arith
 
+-- one column more
+next-column : (rows column : ℕ) → column * rows + rows ≡ (column + 1) * rows
+next-column rows column = sym (rw (add-one, suc-mul))
+
 loop-again : tie.Need-loop-again Inv-loop μ-loop
 loop-again c =
-    let s = c .before .before .before .before .before in
+    let b = c .before .label-column in
     let l = c .before .before .before .before .loop in
-    numbered-more (s .args .rows) (s .args .columns) (s .args .work .now) (l .i) (l .count) (c .before .begin .result) (l .work) (c .before .begin .last .0)
-    (l .inv) (c .before .before .before .loop-test .taken) (c .before .begin .ensures)
+    let a = c .before .before .before .before .before .args in
+    let e = next-column (a .rows) (l .column) in (
+      omega arith,
+      b .ensures .0 .0 ∙ l .inv .1,
+      omega (arith, b .ensures .0 .1, l .inv .2, e),
+      subst (λ (k : ℕ). Numbered (a .rows) (a .columns) (a .work .now) k (b .result) (b .last .0)) e (b .ensures .1 (a .work .now) (l .inv .3)),
+    )
 
 same-length : tie.Need-same-length Inv-loop μ-loop
-same-length c = c .before .loop .inv .long
+same-length c = c .before .loop .inv .1
 
 returns : tie.Need-returns Inv-loop μ-loop
 returns c =
     let s = c .before .before in
     let l = c .before .loop in
-    let e : l .i ≡ s .args .rows * s .args .columns = omega arith in
+    let e : l .column ≡ s .args .columns = omega arith in
     numbered-all (s .args .rows) (s .args .columns) (s .args .work .now) (l .count) (l .work)
-    (subst (λ (i : ℕ). Numbered (s .args .rows) (s .args .columns) (s .args .work .now) i (l .count) (l .work)) e (l .inv))
+    (subst (λ (i : ℕ). Numbered (s .args .rows) (s .args .columns) (s .args .work .now) i (l .count) (l .work)) (ap (λ (k : ℕ). k * s .args .rows) e ∙ mul-comm (s .args .columns) (s .args .rows)) (l .inv .3))
 
 pub label-spec : {M : Type 1} → statement M
 label-spec =
     tie.close
-    (tie.spec
-    Inv-loop
-    μ-loop
-    loop-holds
-    mul-loop
-    begin-requires
-    add-i
-    loop-less
-    loop-again
-    same-length
-    returns)
+    (tie.spec Inv-loop μ-loop loop-holds label-column-requires add-column loop-less loop-again same-length returns)

@@ -1,6 +1,5 @@
 -- `random::step`: the cells counted are those of the choice, and the one at the drawn place is taken. Assumes nothing.
 use Prim.Native.Nat.{_*_}
-use mathlib.Core.Path.{ap₂}
 use Rattle.game.proofs.Played.{reached-played}
 use Rattle.random.proofs.Takes.{picked-inside, step-dry, step-went}
 use borrow.Author.Needs.{needs}
@@ -35,7 +34,7 @@ returns c =
     let t = n .before .before in
     let a = t .before .before .before .before .args in
     λ g s old st h e. step-dry (a .rows) (a .columns) g s old (a .work .now) (t .top .result) (n .count .result) (a .rows * a .columns) (a .draws .now) (a .list .now) (a .state) (d .draw .result)
-    (t .top .ensures (a .rows) (a .columns) g s old st (ap₂ _*_ (st .rows-are) (st .columns-are))) (n .count .ensures .0) (d .draw .ensures) (c .enum-told .given .1)
+    (t .top .ensures g s old st) (n .count .ensures .0) (d .draw .ensures) (c .enum-told .given .1)
 
 pick-requires : tie.Need-pick-requires
 pick-requires c κs = search needs
@@ -62,7 +61,7 @@ returns-2 c =
     let t = n .before .before in
     let a = t .before .before .before .before .args in
     λ g s old st h e. step-went (a .rows) (a .columns) g s old (a .work .now) (t .top .result) (n .count .result) (a .rows * a .columns) (a .draws .now) (a .list .now) (a .state) (d .draw .result)
-    (t .top .ensures (a .rows) (a .columns) g s old st (ap₂ _*_ (st .rows-are) (st .columns-are))) (n .count .ensures .0) (d .draw .ensures) _ _ (p .pick .result) (m .take .last .0) (m .take .last .1 .1 .1 .0) (m .take .result)
+    (t .top .ensures g s old st) (n .count .ensures .0) (d .draw .ensures) _ _ (p .pick .result) (m .take .last .0) (m .take .last .1 .1 .1 .0) (m .take .result)
     (reached-played g s (st .reached)) h (o .drawn .given .1) (p .pick .ensures) (λ k u z. m .take .ensures g s old st k u z e)
 
 pub step-spec : {M : Type 1} → statement M

@@ -5,7 +5,7 @@ use Prim.Native.Nat.{ℕ, _+_, _-_, _*_, _<_}
 use native.Mathlib.Omega.{arith}
 use mathlib.Core.Path.{_≡_, _∙_}
 use Rattle.openings.specs.Marks.{freeOf, kindOf, marked, shaped}
-use Rattle.openings.proofs.Cells.{cells-small}
+use Rattle.area.proofs.Cells.{cells-few}
 use Rattle.openings.proofs.Edges.{fresh-no, fresh-yes, marked-kind}
 use Rattle.openings.proofs.Changes.{kind-stays}
 use Rattle.openings.proofs.Frees.{free-le, free-marked}
@@ -21,7 +21,7 @@ use Rattle.openings.proofs.cycle.+label_cell+visit.Lts-visit as visit-l
 use Rattle.openings.proofs.marks.border.Reads as border-reads
 use Rattle.openings.proofs.marks.fresh.Reads as fresh-reads
 use Rattle.openings.proofs.marks.mark.Reads as mark-reads
-use Rattle.openings.proofs.marks.near.Reads as near-reads
+use Rattle.area.proofs.near.Reads as near-reads
 use Rattle.openings.proofs.cycle.+label_cell+visit.{statement}
 use Rattle.openings.proofs.cycle.+label_cell+visit.Tie.{close}
 
@@ -53,7 +53,7 @@ label-cell-mul-fresh : (t : ℕ) → label-cell-lts.Need-mul-fresh (
   visit-below t,
   visit.Post,
 ) (label-cell-at t) label-cell.Post
-label-cell-mul-fresh t c = omega (arith, cells-small (c .before .args .rows) (c .before .args .columns) (c .before .pre .1 .shape))
+label-cell-mul-fresh t c = omega (arith, cells-few (c .before .args .rows) (c .before .args .columns) (c .before .pre .1 .shape))
 
 label-cell-fresh-requires : (t : ℕ) → label-cell-lts.Need-fresh-requires (
   fresh-reads.Asked,
@@ -193,7 +193,7 @@ visit-near-requires : (t : ℕ) → visit-lts.Need-near-requires (
   visit-below t,
   visit.Post,
 ) (visit-at t) visit.Post
-visit-near-requires t c κs = (c .before .pre .1 .0 .shape, (c .before .pre .1 .1 .0, c .if1 .left))
+visit-near-requires t c κs = (c .before .pre .1 .0 .shape, (c .before .pre .1 .1 .0, omega arith, omega arith))
 
 visit-mul-border : (t : ℕ) → visit-lts.Need-mul-border (
   near-reads.Asked,
@@ -207,7 +207,7 @@ visit-mul-border : (t : ℕ) → visit-lts.Need-mul-border (
 ) (visit-at t) visit.Post
 visit-mul-border t c =
     let s = c .before .before .before in
-    omega (arith, cells-small (s .args .rows) (s .args .columns) (s .pre .1 .0 .shape))
+    omega (arith, cells-few (s .args .rows) (s .args .columns) (s .pre .1 .0 .shape))
 
 visit-border-requires : (t : ℕ) → visit-lts.Need-border-requires (
   near-reads.Asked,

@@ -9,7 +9,7 @@ use lib.IntN.{ℤ}
 use lib.ListN.{length}
 use Rattle.openings.specs.Marks.{freeOf, kindOf, shaped}
 use Rattle.openings.specs.Waits.{InSquare, Pushed, Waited}
-use Rattle.openings.proofs.Cells.{cells-small}
+use Rattle.area.proofs.Cells.{cells-few}
 use Rattle.openings.proofs.Frees.{free-few}
 use Rattle.openings.proofs.Takes.{Spreading, spread-first, spread-last, spread-more, taken-less, taken-visitable}
 use Rattle.openings.proofs.Visits.{ready-again}
@@ -36,19 +36,19 @@ so c = again c (c .before .before .before .before .before .args .work .now) (c .
 
 -- the place of the cell taken
 few : (c : tie.In-loop Inv-loop μ-loop) → (c .before .loop .top - 1 < c .before .before .before .before .before .args .rows * c .before .before .before .before .before .args .columns) × (c .before .before .before .before .before .args .rows * c .before .before .before .before .before .args .columns ≤ 65025)
-few c = (omega (arith, so c .places, c .loop-test .taken), cells-small (c .before .before .before .before .before .args .rows) (c .before .before .before .before .before .args .columns) (c .before .before .before .before .before .pre .shape))
+few c = (omega (arith, so c .places, c .loop-test .taken), cells-few (c .before .before .before .before .before .args .rows) (c .before .before .before .before .before .args .columns) (c .before .before .before .before .before .pre .shape))
 
 room : (c : tie.In-loop Inv-loop μ-loop) → 5 * (c .before .before .before .before .before .args .rows * c .before .before .before .before .before .args .columns) ≤ length (c .before .loop .work)
 room c = omega (arith, so c .change .long, c .before .before .before .before .before .pre .room)
 
 mul-wait : tie.Need-mul-wait Inv-loop μ-loop
-mul-wait c = omega (arith, cells-small (c .before .args .rows) (c .before .args .columns) (c .before .pre .shape))
+mul-wait c = omega (arith, cells-few (c .before .args .rows) (c .before .args .columns) (c .before .pre .shape))
 
 wait-requires : tie.Need-wait-requires Inv-loop μ-loop
 wait-requires c κs =
     let s = c .before in
     let a = s .args in
-    (s .pre .room, (omega (arith, cells-small (a .rows) (a .columns) (s .pre .shape)), ((s .pre .some-label, s .pre .fits), omega (arith, free-few (a .rows * a .columns) (a .work .now)))))
+    (s .pre .room, (omega (arith, cells-few (a .rows) (a .columns) (s .pre .shape)), ((s .pre .some-label, s .pre .fits), omega (arith, free-few (a .rows * a .columns) (a .work .now)))))
 
 loop-holds : tie.Need-loop-holds Inv-loop μ-loop
 loop-holds c =

@@ -12,7 +12,8 @@ use Rattle.game.specs.Lists.{has}
 use Rattle.game.proofs.Squares.{square→}
 use Rattle.openings.specs.Marks.{kindOf, shaped}
 use Rattle.openings.specs.Waits.{InRow, InRowBefore, Pushed, Visitable}
-use Rattle.openings.proofs.Cells.{cells-small, column-of}
+use Rattle.area.proofs.Cells.{cells-few}
+use Rattle.area.proofs.Sides.{column-of}
 use Rattle.openings.proofs.Stacks.{beside-at, border-places, pushed-again, pushed-all, pushed-cell, row-all, row-more, row-none, visitable-again}
 
 abbrev Inv-loop : tie.InvT-loop
@@ -37,7 +38,7 @@ at-below : (c : tie.In-loop Inv-loop μ-loop) → c .before .loop .column * c .b
 at-below c =
     let s = c .before .before .before .before in
     let a = s .args in
-    omega (arith, cells-small (a .rows) (a .columns) (s .pre .0 .shape), square→ (shaped (a .rows) (a .columns)) (a .index) _ (s .pre .1 .0 .inside) (beside c) .0)
+    omega (arith, cells-few (a .rows) (a .columns) (s .pre .0 .shape), square→ (shaped (a .rows) (a .columns)) (a .index) _ (s .pre .1 .0 .inside) (beside c) .0)
 
 -- it may be visited still
 visitable : (c : tie.In-loop Inv-loop μ-loop) → Visitable (c .before .before .before .before .args .rows * c .before .before .before .before .args .columns)
@@ -77,13 +78,13 @@ add-at : tie.Need-add-at Inv-loop μ-loop
 add-at c = omega (arith, at-below c)
 
 mul-border : tie.Need-mul-border Inv-loop μ-loop
-mul-border c = omega (arith, cells-small (c .before .before .before .before .before .args .rows) (c .before .before .before .before .before .args .columns) (c .before .before .before .before .before .pre .0 .shape))
+mul-border c = omega (arith, cells-few (c .before .before .before .before .before .args .rows) (c .before .before .before .before .before .args .columns) (c .before .before .before .before .before .pre .0 .shape))
 
 border-requires : tie.Need-border-requires Inv-loop μ-loop
 border-requires c κs = (room (c .before), c .before .before .before .before .before .pre .0 .fits)
 
 mul-wait : tie.Need-mul-wait Inv-loop μ-loop
-mul-wait c = omega (arith, cells-small (c .before .before .before .before .before .before .before .before .args .rows) (c .before .before .before .before .before .before .before .before .args .columns) (c .before .before .before .before .before .before .before .before .pre .0 .shape))
+mul-wait c = omega (arith, cells-few (c .before .before .before .before .before .before .before .before .args .rows) (c .before .before .before .before .before .before .before .before .args .columns) (c .before .before .before .before .before .before .before .before .pre .0 .shape))
 
 wait-requires : tie.Need-wait-requires Inv-loop μ-loop
 wait-requires c κs =
@@ -94,7 +95,7 @@ wait-requires c κs =
     let b = c .before .before .border in (
       omega (arith, room (c .before .before .before .before), b .kept .0),
       (
-        omega (arith, cells-small (a .rows) (a .columns) (s .pre .0 .shape)),
+        omega (arith, cells-few (a .rows) (a .columns) (s .pre .0 .shape)),
         (
           (s .pre .0 .some-label, s .pre .0 .fits),
           border-places (shaped (a .rows) (a .columns)) (a .op) (s .pre .0 .some-label) (a .index) (l .work) (b .last .0) (l .column * a .rows + a .row) (l .waiting)

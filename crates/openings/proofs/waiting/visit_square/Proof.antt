@@ -6,7 +6,7 @@ use Prim.Native.Nat.{_+_, _-_, _≤_}
 use native.Mathlib.Omega.{arith}
 use Rattle.openings.specs.Marks.{kindOf, shaped}
 use Rattle.openings.specs.Waits.{BeforeRow, InRow, InSquare, Pushed}
-use Rattle.openings.proofs.Cells.{row-of}
+use Rattle.area.proofs.Sides.{row-of}
 use Rattle.openings.proofs.Stacks.{pushed-again, pushed-all, rows-all, rows-more, rows-none, visitable-again}
 use Rattle.openings.proofs.Visits.{ready-again}
 

@@ -1,16 +1,10 @@
 -- `rounds::steps::step`: the search finds the first cell of highest premium; where none reaches 0, the step is one L. Assumes nothing.
-use Prim.Native.Nat.{_*_}
 use native.Mathlib.Omega.{arith}
-use mathlib.Core.Path.{ap₂}
 use Rattle.game.proofs.Played.{reached-played}
-use Rattle.area.proofs.Cells.{cells-few}
 use Rattle.rounds.proofs.Takes.{click-taken, top-inside, top-taken}
 use borrow.Author.Needs.{needs}
 use Rattle.rounds.proofs.steps.step.Statement.{statement}
 use Rattle.rounds.proofs.steps.step.Tie as tie
-
-mul-best : tie.Need-mul-best
-mul-best c = omega (arith, cells-few _ _ (c .before .before .pre .0))
 
 best-requires : tie.Need-best-requires
 best-requires c κs = search needs
@@ -45,7 +39,7 @@ returns c =
     let m = k .before .before in
     let a = m .before .before .before .args in
     λ g s old st n e. top-taken (a .rows) (a .columns) (a .work .now) (m .best .result) g s old (a .list .now) (a .state) (x .act .last .0) (x .act .last .1 .1 .1 .0) (x .act .result)
-    (a .opened-only) (m .best .ensures (a .rows) (a .columns) g s old st (ap₂ _*_ (st .rows-are) (st .columns-are)))
+    (a .opened-only) (m .best .ensures g s old st)
     (k .found .given .0 .0) (k .found .given .1) (λ t z. x .act .ensures g s old st t z e)
 
 same-length-3 : tie.Need-same-length-3
@@ -62,14 +56,13 @@ returns-2 c =
     let a = m .before .before .before .args in
     let y = x .click-lowest in
     λ g s old st n e. click-taken (a .rows) (a .columns) (a .work .now) (m .best .result) g s old (a .list .now) (a .state) (y .last .0) (y .last .1 .1 .1 .0) (y .result)
-    (a .opened-only) (m .best .ensures (a .rows) (a .columns) g s old st (ap₂ _*_ (st .rows-are) (st .columns-are)))
+    (a .opened-only) (m .best .ensures g s old st)
     (reached-played g s (st .reached)) n (k .enum-told .given .1) (λ l. y .ensures g s old st l e)
 
 pub step-spec : {M : Type 1} → statement M
 step-spec =
     tie.close
     (tie.spec
-    mul-best
     best-requires
     enum-known-found
     act-requires

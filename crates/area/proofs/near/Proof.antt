@@ -1,23 +1,24 @@
--- `marks::near`: the row and the column, each counted from 1, are tested one after the other. Assumes nothing.
+-- `area::near`: the row and the column, each counted from 1, are tested one after the other. Assumes nothing.
 use borrow.Author.Needs.{needs}
-use Rattle.openings.proofs.marks.near.Statement.{statement}
-use Rattle.openings.proofs.marks.near.Tie as tie
+use Rattle.area.proofs.near.Statement.{statement}
+use Rattle.area.proofs.near.Tie as tie
 use native.Mathlib.Omega.{arith}
-use Rattle.openings.proofs.Cells.{cell-below, cells-small, column-of, off-grid, on-grid, row-of}
+use Rattle.area.proofs.Cells.{cells-few}
+use Rattle.area.proofs.Sides.{column-of, near-below, off-grid, on-grid, row-of}
 use Prim.Native.Nat.{ℕ, _%_, _*_, _+_, _-_, _/_, _<_, _≤_}
 use mathlib.Core.Path.{_≡_, refl}
 
 -- the row and the column of the neighbour, counted from 1
 abbrev row : tie.Start → ℕ
-row c = c .args .index % c .args .rows + c .args .k / 3
+row c = c .args .index % c .args .rows + c .args .down
 
 abbrev column : tie.Start → ℕ
-column c = c .args .index / c .args .rows + c .args .k % 3
+column c = c .args .index / c .args .rows + c .args .right
 
 below : (c : tie.Start) → (row c ≡ 0 → ⊥) → row c ≤ c .args .rows → (column c ≡ 0 → ⊥) → column c ≤ c .args .columns
     → (column c - 1) * c .args .rows + (row c - 1) < 65026
 below c f h e k =
-    omega (arith, cell-below _ _ (c .pre .0) (row c) (column c) (omega arith) h (omega arith) k, cells-small _ _ (c .pre .0))
+    omega (arith, near-below _ _ (c .pre .0) (row c) (column c) (omega arith) h (omega arith) k, cells-few _ _ (c .pre .0))
 
 rem-row : tie.Need-rem-row
 rem-row c = search needs
@@ -32,28 +33,28 @@ add-column : tie.Need-add-column
 add-column c = omega (arith, column-of _ _ (c .pre .0) (c .args .index) (c .pre .1 .0))
 
 mul-result : tie.Need-mul-result
-mul-result c = omega (arith, cells-small _ _ (c .before .pre .0))
+mul-result c = omega (arith, cells-few _ _ (c .before .pre .0))
 
 returns : tie.Need-returns
-returns c = off-grid _ _ (c .before .pre .0) _ _ (λ y h a b. omega arith)
+returns c = off-grid _ _ (c .before .pre .0) _ _ _ (λ y h a b. omega arith)
 
 mul-result-2 : tie.Need-mul-result-2
-mul-result-2 c = omega (arith, cells-small _ _ (c .before .before .pre .0))
+mul-result-2 c = omega (arith, cells-few _ _ (c .before .before .pre .0))
 
 returns-2 : tie.Need-returns-2
-returns-2 c = off-grid _ _ (c .before .before .pre .0) _ _ (λ y h a b. omega (arith, row-of _ _ (c .before .before .pre .0) y))
+returns-2 c = off-grid _ _ (c .before .before .pre .0) _ _ _ (λ y h a b. omega (arith, row-of _ _ (c .before .before .pre .0) y))
 
 mul-result-3 : tie.Need-mul-result-3
-mul-result-3 c = omega (arith, cells-small _ _ (c .before .before .before .pre .0))
+mul-result-3 c = omega (arith, cells-few _ _ (c .before .before .before .pre .0))
 
 returns-3 : tie.Need-returns-3
-returns-3 c = off-grid _ _ (c .before .before .before .pre .0) _ _ (λ y h a b. omega arith)
+returns-3 c = off-grid _ _ (c .before .before .before .pre .0) _ _ _ (λ y h a b. omega arith)
 
 mul-result-4 : tie.Need-mul-result-4
-mul-result-4 c = omega (arith, cells-small _ _ (c .before .before .before .before .pre .0))
+mul-result-4 c = omega (arith, cells-few _ _ (c .before .before .before .before .pre .0))
 
 returns-4 : tie.Need-returns-4
-returns-4 c = off-grid _ _ (c .before .before .before .before .pre .0) _ _ (λ y h a b. omega (arith, column-of _ _ (c .before .before .before .before .pre .0) y h))
+returns-4 c = off-grid _ _ (c .before .before .before .before .pre .0) _ _ _ (λ y h a b. omega (arith, column-of _ _ (c .before .before .before .before .pre .0) y h))
 
 sub-result : tie.Need-sub-result
 sub-result c = search needs
@@ -69,7 +70,7 @@ add-result c = omega (arith, below (c .before .before .before .before) (c .befor
 
 returns-5 : tie.Need-returns-5
 returns-5 c =
-    on-grid _ _ (c .before .before .before .before .pre .0) _ _ (row (c .before .before .before .before)) (column (c .before .before .before .before)) refl refl
+    on-grid _ _ (c .before .before .before .before .pre .0) _ _ _ (row (c .before .before .before .before)) (column (c .before .before .before .before)) refl refl
     (omega arith) (c .before .before .if2 .left) (omega arith) (c .if4 .left)
 
 pub near-spec : {M : Type 1} → statement M
