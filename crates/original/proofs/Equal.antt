@@ -1,9 +1,22 @@
--- Demand 2: the three entries of zini.rs give the clicks of the defined rounds, and consume the bytes of their draws. Assumes nothing.
-use Prim.Native.Nat.{_≤_}
+-- Demand 2: the three entries of zini.rs give the clicks of the defined rounds, and consume the bytes of their draws; so do the calls. Assumes nothing.
+use Prim.Native.Nat.{ℕ, _<_, _≤_}
 use native.Mathlib.Omega.{arith}
 use native.Mathlib.Nat.{mul-le-mul-right}
+use mathlib.Core.Path.{_∙_, _≡_, ap, refl, subst, sym}
+use mathlib.Core.Bool.{Bool, _||_, false, true}
+use mathlib.Core.List.{List, [], _++_, _∷_}
+use mathlib.Core.Option.{Option, none, some}
+use borrow.Author.Tests.{eqb-false, ltb-false}
+use lib.Dec.{T, eqb, ltb}
+use lib.IntN.{ℤ}
+use lib.ListN.{length}
+use Rattle.game.specs.Calls.{Check, Refusal, boardCheck, drawnSearch, firstGiven, gives, greedyCall, gridChecks, listCheck, openingsFirstCall, playedRound, randomSearchCall, rounds, roundsCheck, shape, shapeCheck, sideOut, unless, unlessListed, workCheck}
 use Rattle.game.specs.Grid.{Grid, size}
-use Rattle.original.specs.Equal.{Equal, Within}
+use Rattle.game.specs.Lists.{Each}
+use Rattle.game.specs.Moves.{Move}
+use Rattle.game.specs.Rounds.{Searched, greedySteps, movesOf, openingsFirstSteps, randomSearch}
+use Rattle.original.specs.Entries.{cal-hzini, cal-rzini, cal-zini}
+use Rattle.original.specs.Equal.{CallsEqual, Equal, Within, answerUnless, answered, searchAnswer}
 use Rattle.original.proofs.Lowest.{greedy-equal, openings-first-equal}
 use Rattle.original.proofs.Randoms.{random-equal}
 
@@ -17,4 +30,88 @@ equal g w =
       greedy = greedy-equal g;
       openings-first = openings-first-equal g;
       random-search = λ bytes rounds small some-rounds. random-equal g bytes (few-cells g w) small rounds some-rounds;
+    }
+
+-- ---- the calls
+
+or-no : (a b : Bool) → (a || b) ≡ false → (a ≡ false) × (b ≡ false)
+or-no false b e = (refl, e)
+or-no true b e = absurd (subst T e tt)
+
+-- a side that is not out lies within the limits
+side-within : (n : ℕ) → sideOut n ≡ false → (1 ≤ n) × (n ≤ 255)
+side-within n e =
+    let h = or-no (eqb n 0) (ltb 255 n) e in
+    let f = eqb-false n 0 (h .0) in
+    (omega arith, ltb-false 255 n (h .1))
+
+-- where the checks refuse nothing, the first of them didn't
+first-passed : (b : Bool) (f : Refusal) (cs : List Check) → firstGiven (record { given = b; refusal = f } ∷ cs) ≡ none → b ≡ false
+first-passed false f cs e = refl
+first-passed true f cs e = absurd (subst given e tt)
+  where
+    given : Option Refusal → Type 0
+    given none = ⊥
+    given (some y) = Unit {0}
+
+-- nor the last
+last-passed : (cs : List Check) (b : Bool) (f : Refusal) → firstGiven (cs ++ record { given = b; refusal = f } ∷ []) ≡ none → b ≡ false
+last-passed [] b f e = first-passed b f [] e
+last-passed (c ∷ cs) b f e = go (c .given) (λ h. last-passed cs b f h) e
+  where
+    go : (d : Bool) → (firstGiven (cs ++ record { given = b; refusal = f } ∷ []) ≡ none → b ≡ false)
+        → _≡_ {A = Option Refusal} (elim d [ true ↦ some (c .refusal) | false ↦ firstGiven (cs ++ record { given = b; refusal = f } ∷ []) ]) none → b ≡ false
+    go false h e = h e
+    go true h e = absurd (subst given e tt)
+      where
+        given : Option Refusal → Type 0
+        given none = ⊥
+        given (some y) = Unit {0}
+
+-- so the grid is within the limits
+checked-within : (g : Grid) (cs : List Check) → firstGiven (shapeCheck g ∷ cs) ≡ none → Within g
+checked-within g cs e =
+    let h = or-no (sideOut (g .rows)) (sideOut (g .columns)) (first-passed (sideOut (g .rows) || sideOut (g .columns)) shape cs e) in
+    let r = side-within (g .rows) (h .0) in
+    let c = side-within (g .columns) (h .1) in
+    record { some-rows = r .0; few-rows = r .1; some-columns = c .0; few-columns = c .1 }
+
+-- a call with a list answers the clicks of its round, unless it is refused
+round-answer : (g : Grid) (ws : List ℤ) (ms : List ℕ) (played : List Move) (clicks : ℕ) → (Within g → clicks ≡ length played)
+    → unlessListed (firstGiven (gridChecks g ws ++ listCheck g ms ∷ [])) ws ms (playedRound g played ws ms) .answer
+    ≡ answerUnless (firstGiven (gridChecks g ws ++ listCheck g ms ∷ [])) (gives (clicks ∷ []))
+round-answer g ws ms played clicks q =
+    go (firstGiven (gridChecks g ws ++ listCheck g ms ∷ [])) (λ e. checked-within g (boardCheck g ∷ workCheck g ws ∷ listCheck g ms ∷ []) e)
+  where
+    go : (o : Option Refusal) → (o ≡ none → Within g) → unlessListed o ws ms (playedRound g played ws ms) .answer ≡ answerUnless o (gives (clicks ∷ []))
+    go (some f) w = refl
+    go none w = ap (λ (n : ℕ). gives (n ∷ [])) (sym (q (w refl)))
+
+-- what a search answers for what it came to
+searched-answer : (g : Grid) (ws : List ℤ) (o : Option Searched) → drawnSearch g o ws .answer ≡ searchAnswer (answered o)
+searched-answer g ws none = refl
+searched-answer g ws (some r) = refl
+
+search-answer : (g : Grid) (ws : List ℤ) (bytes : List ℕ) (n : ℕ) → Each (λ b. b < 256) bytes
+    → unless (firstGiven (gridChecks g ws ++ roundsCheck n ∷ [])) ws (drawnSearch g (randomSearch g bytes n) ws) .answer
+    ≡ answerUnless (firstGiven (gridChecks g ws ++ roundsCheck n ∷ [])) (searchAnswer (cal-rzini g bytes n))
+search-answer g ws bytes n small =
+    go (firstGiven (gridChecks g ws ++ roundsCheck n ∷ [])) (λ e. (checked-within g (boardCheck g ∷ workCheck g ws ∷ roundsCheck n ∷ []) e, some-rounds e))
+  where
+    some-rounds : firstGiven (gridChecks g ws ++ roundsCheck n ∷ []) ≡ none → 1 ≤ n
+    some-rounds e = let f = eqb-false n 0 (last-passed (gridChecks g ws) (eqb n 0) rounds e) in omega arith
+
+    go : (o : Option Refusal) → (o ≡ none → Within g × (1 ≤ n)) → unless o ws (drawnSearch g (randomSearch g bytes n) ws) .answer ≡ answerUnless o (searchAnswer (cal-rzini g bytes n))
+    go (some f) w = refl
+    go none w =
+        searched-answer g ws (randomSearch g bytes n) ∙ ap searchAnswer (sym (equal g (w refl .0) .random-search bytes n small (w refl .1)))
+
+-- the clicks that greedy, openings-first and random search answer are the Rust's
+pub calls-equal : (g : Grid) (ws : List ℤ) (ms : List ℕ) → CallsEqual g ws ms
+unfolding greedyCall openingsFirstCall randomSearchCall
+calls-equal g ws ms =
+    record {
+      greedy = round-answer g ws ms (movesOf (greedySteps g)) (cal-zini g) (λ w. equal g w .greedy);
+      openings-first = round-answer g ws ms (movesOf (openingsFirstSteps g)) (cal-hzini g) (λ w. equal g w .openings-first);
+      random-search = λ bytes rounds small. search-answer g ws bytes rounds small;
     }

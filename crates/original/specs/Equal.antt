@@ -1,11 +1,13 @@
--- Demand 2 as statements: the clicks of zini.rs are those of the defined rounds. Assumes nothing.
+-- Demand 2 as statements: the clicks of zini.rs are those of the defined rounds, and those that the calls answer. Assumes nothing.
 use Prim.Native.Nat.{ℕ, _≤_, _<_}
 use mathlib.Core.Path.{_≡_}
-use mathlib.Core.List.{List}
+use mathlib.Core.List.{List, [], _++_, _∷_}
 use mathlib.Core.Option.{Option, none, some}
+use lib.IntN.{ℤ}
 use lib.ListN.{length}
 use Rattle.game.specs.Lists.{Each}
 use Rattle.game.specs.Grid.{Grid, size}
+use Rattle.game.specs.Calls.{Answer, Refusal, draws, firstGiven, gives, greedyCall, gridChecks, listCheck, openingsFirstCall, randomSearchCall, refuses, roundsCheck}
 use Rattle.game.specs.Rounds.{movesOf, greedySteps, openingsFirstSteps, Searched, randomSearch}
 use Rattle.original.specs.Rounds.{Rolled}
 use Rattle.original.specs.Entries.{cal-zini, cal-hzini, cal-rzini}
@@ -28,3 +30,20 @@ pub record Equal (g : Grid) : Type 0 where
   pub openings-first : cal-hzini g ≡ length (movesOf (openingsFirstSteps g))
   pub random-search : (bytes : List ℕ) (rounds : ℕ) → Each (λ b. b < 256) bytes → 1 ≤ rounds
       → cal-rzini g bytes rounds ≡ answered (randomSearch g bytes rounds)
+
+-- a call's answer, unless its checks refuse it
+abbrev pub answerUnless : Option Refusal → Answer → Answer
+answerUnless (some f) a = refuses f
+answerUnless none a = a
+
+-- what a search answers for what cal_rzini gives: clicks and bytes used; DRAWS where the Rust runs dry
+abbrev pub searchAnswer : Option Rolled → Answer
+searchAnswer none = refuses draws
+searchAnswer (some r) = gives (r .clicks ∷ r .next ∷ [])
+
+-- the calls of any grid, work area and list: each answers what the Rust gives, unless its checks refuse it
+pub record CallsEqual (g : Grid) (ws : List ℤ) (ms : List ℕ) : Type 0 where
+  pub greedy : greedyCall g ws ms .answer ≡ answerUnless (firstGiven (gridChecks g ws ++ listCheck g ms ∷ [])) (gives (cal-zini g ∷ []))
+  pub openings-first : openingsFirstCall g ws ms .answer ≡ answerUnless (firstGiven (gridChecks g ws ++ listCheck g ms ∷ [])) (gives (cal-hzini g ∷ []))
+  pub random-search : (bytes : List ℕ) (rounds : ℕ) → Each (λ b. b < 256) bytes
+      → randomSearchCall g ws bytes rounds .answer ≡ answerUnless (firstGiven (gridChecks g ws ++ roundsCheck rounds ∷ [])) (searchAnswer (cal-rzini g bytes rounds))
