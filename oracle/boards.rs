@@ -46,11 +46,18 @@ impl Board {
     pub fn plain(dice: &mut Dice, rows: usize, columns: usize, percent: usize) -> Board {
         let mut value = |_| if dice.below(100) < percent { -1 } else { 0 };
         let values = (0..rows * columns).map(&mut value).collect();
-        Board { rows, columns, values }
+        Board {
+            rows,
+            columns,
+            values,
+        }
     }
 
     /// The rows as the Rust takes them.
     pub fn by_rows(&self) -> Vec<Vec<i32>> {
-        self.values.chunks(self.columns).map(<[i32]>::to_vec).collect()
+        self.values
+            .chunks(self.columns)
+            .map(<[i32]>::to_vec)
+            .collect()
     }
 }

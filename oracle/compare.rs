@@ -41,7 +41,12 @@ fn search(total: &mut Compared, board: &Board, draws: &[u8], rounds: usize) -> O
     if rounds == 1 {
         same(board, &what, lent.random_round(draws), expected);
         if let Some((clicks, _)) = rust {
-            same(board, "replay of the random round", lent.replay(clicks), (0, clicks, 0));
+            same(
+                board,
+                "replay of the random round",
+                lent.replay(clicks),
+                (0, clicks, 0),
+            );
         }
     }
     total.searches += 1;
@@ -57,13 +62,33 @@ fn compare(total: &mut Compared, dice: &mut Dice, board: &Board, rounds: usize) 
     let mut lent = Lent::new(board);
     let greedy = original::greedy(board);
     same(board, "greedy", lent.greedy(), (0, greedy, 0));
-    same(board, "replay of greedy", lent.replay(greedy), (0, greedy, 0));
+    same(
+        board,
+        "replay of greedy",
+        lent.replay(greedy),
+        (0, greedy, 0),
+    );
     let openings_first = original::openings_first(board);
-    same(board, "openings-first", lent.openings_first(), (0, openings_first, 0));
-    same(board, "replay of openings-first", lent.replay(openings_first), (0, openings_first, 0));
+    same(
+        board,
+        "openings-first",
+        lent.openings_first(),
+        (0, openings_first, 0),
+    );
+    same(
+        board,
+        "replay of openings-first",
+        lent.replay(openings_first),
+        (0, openings_first, 0),
+    );
     let (number, units, _) = lent.three_bv();
     let most = greedy.max(openings_first).max(units);
-    same(board, "3BV, at least the clicks", (number, units, 0), (0, most, 0));
+    same(
+        board,
+        "3BV, at least the clicks",
+        (number, units, 0),
+        (0, most, 0),
+    );
     let enough = 4 * units as usize * rounds;
     let spare = dice.below(4);
     let draws = dice.bytes(enough + spare);
@@ -103,8 +128,14 @@ fn compare_random(total: &mut Compared, dice: &mut Dice, rows: usize, columns: u
 
 /// A grid whose mines are the bits of a number.
 fn of_bits(rows: usize, columns: usize, bits: u32) -> Board {
-    let values = (0..rows * columns).map(|k| -((bits >> k & 1) as i32)).collect();
-    Board { rows, columns, values }
+    let values = (0..rows * columns)
+        .map(|k| -((bits >> k & 1) as i32))
+        .collect();
+    Board {
+        rows,
+        columns,
+        values,
+    }
 }
 
 /// Every grid of up to 4 by 4, with all mine sets.
@@ -156,7 +187,7 @@ fn league(total: &mut Compared, dice: &mut Dice) {
 
 /// 255 by 255, from no mines to nothing else.
 fn largest(total: &mut Compared, dice: &mut Dice) {
-    for percent in [0, 1, 5, 20, 90, 100] {
+    for percent in [0, 1, 2, 5, 10, 15, 20, 30, 90, 99, 100] {
         let board = varied(dice, 255, 255, percent);
         compare(total, dice, &board, 1);
     }
@@ -173,19 +204,39 @@ fn part(whole: &mut Compared, name: &str, run: impl FnOnce(&mut Compared)) {
 }
 
 fn run() {
-    let seed = std::env::args().nth(1).map_or(7, |word| word.parse().expect("a seed is a number"));
+    let seed = std::env::args()
+        .nth(1)
+        .map_or(7, |word| word.parse().expect("a seed is a number"));
     let mut dice = Dice(seed);
     let mut whole = Compared::default();
-    part(&mut whole, "every grid up to 4 by 4", |total| small(total, &mut dice));
-    part(&mut whole, "1 by n and n by 1", |total| lines(total, &mut dice));
-    part(&mut whole, "512 and 513 cells", |total| edges(total, &mut dice));
-    part(&mut whole, "sides up to 12", |total| shapes(total, &mut dice, 12, 20000));
-    part(&mut whole, "sides up to 40", |total| shapes(total, &mut dice, 40, 3000));
+    part(&mut whole, "every grid up to 4 by 4", |total| {
+        small(total, &mut dice)
+    });
+    part(&mut whole, "1 by n and n by 1", |total| {
+        lines(total, &mut dice)
+    });
+    part(&mut whole, "512 and 513 cells", |total| {
+        edges(total, &mut dice)
+    });
+    part(&mut whole, "sides up to 12", |total| {
+        shapes(total, &mut dice, 12, 20000)
+    });
+    part(&mut whole, "sides up to 40", |total| {
+        shapes(total, &mut dice, 40, 3000)
+    });
     part(&mut whole, "16 by 30", |total| league(total, &mut dice));
-    part(&mut whole, "sides up to 255", |total| shapes(total, &mut dice, 255, 24));
+    part(&mut whole, "sides up to 255", |total| {
+        shapes(total, &mut dice, 255, 48)
+    });
     part(&mut whole, "255 by 255", |total| largest(total, &mut dice));
-    let Compared { boards, searches, dry } = whole;
-    println!("{boards} boards compared, greedy, openings-first and {searches} random searches, {dry} of them dry: no difference");
+    let Compared {
+        boards,
+        searches,
+        dry,
+    } = whole;
+    println!(
+        "{boards} boards compared, greedy, openings-first and {searches} random searches, {dry} of them dry: no difference"
+    );
 }
 
 fn main() {

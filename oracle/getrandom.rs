@@ -27,9 +27,10 @@ pub fn lend(bytes: &[u8]) {
     });
 }
 
-/// How many of the lent bytes were handed out.
-pub fn used() -> usize {
-    LENT.with_borrow(|lent| lent.used)
+/// Takes the bytes back, and answers how many were handed out, or nothing where a request was not met.
+pub fn take_back() -> Option<usize> {
+    let lent = LENT.take();
+    (!lent.dry).then_some(lent.used)
 }
 
 /// Whether a request was not met.

@@ -4,25 +4,34 @@ use std::panic;
 
 #[allow(unexpected_cfgs, dead_code)]
 pub mod safe_board {
-    include!(concat!(env!("ORACLE_FOLDER"), "/src--base--src--safe_board.rs.txt"));
+    include!(concat!(
+        env!("ORACLE_FOLDER"),
+        "/src--base--src--safe_board.rs.txt"
+    ));
 }
 
 mod zini {
-    include!(concat!(env!("ORACLE_FOLDER"), "/src--base--src--zini.rs.txt"));
+    include!(concat!(
+        env!("ORACLE_FOLDER"),
+        "/src--base--src--zini.rs.txt"
+    ));
 }
 
 /// A stack for 65,025 calls deep.
 const STACK: usize = 1 << 29;
 
 /// Runs on a stack that is deep enough, with nothing printed where the Rust panics for want of bytes.
-pub fn on_a_deep_stack<T: Send + 'static>(run: fn() -> T) -> T {
+pub fn on_a_deep_stack(run: fn()) {
     panic::set_hook(Box::new(|info| {
         if !getrandom::is_dry() {
             eprintln!("{info}");
         }
     }));
-    let thread = std::thread::Builder::new().stack_size(STACK).spawn(run);
-    thread.unwrap().join().unwrap_or_else(|_| std::process::exit(2))
+    let builder = std::thread::Builder::new().stack_size(STACK);
+    let thread = builder.spawn(run).expect("room for the stack");
+    if thread.join().is_err() {
+        std::process::exit(2);
+    }
 }
 
 /// Clicks of `cal_zini`.
@@ -40,9 +49,9 @@ pub fn random_search(board: &Board, draws: &[u8], rounds: usize) -> Option<(u64,
     getrandom::lend(draws);
     let by_rows = board.by_rows();
     let clicks = panic::catch_unwind(|| zini::cal_rzini(&by_rows, rounds));
-    match clicks {
-        Ok(clicks) => Some((clicks as u64, getrandom::used() as u64)),
-        Err(_) if getrandom::is_dry() => None,
-        Err(panic) => panic::resume_unwind(panic),
+    match (clicks, getrandom::take_back()) {
+        (Ok(clicks), used) => Some((clicks as u64, used? as u64)),
+        (Err(_), None) => None,
+        (Err(panic), Some(_)) => panic::resume_unwind(panic),
     }
 }

@@ -15,22 +15,33 @@ fn single(number: usize) -> u8 {
 
 /// Two bytes, high first.
 fn pair(number: u64) -> [u8; 2] {
-    u16::try_from(number).expect("two bytes hold it").to_be_bytes()
+    u16::try_from(number)
+        .expect("two bytes hold it")
+        .to_be_bytes()
 }
 
 /// The mine bits row by row, high bit first, the last byte padded with 0 bits.
 fn mine_bits(board: &Board) -> Vec<u8> {
     let bit = |(k, value): (usize, &i32)| u8::from(*value == -1) << (7 - k);
-    board.values.chunks(8).map(|eight| eight.iter().enumerate().map(bit).sum()).collect()
+    board
+        .values
+        .chunks(8)
+        .map(|eight| eight.iter().enumerate().map(bit).sum())
+        .collect()
 }
 
 /// Draws for a board: as many as the Rust uses and a few more, or, one time in five, too few.
 fn draws_for(dice: &mut Dice, board: &Board, rounds: usize) -> Vec<u8> {
     let mut draws = dice.bytes(4 * board.cells() * rounds);
-    let (_, used) = original::random_search(board, &draws, rounds).expect("four bytes a cell are enough");
+    let (_, used) =
+        original::random_search(board, &draws, rounds).expect("four bytes a cell are enough");
     let used = used as usize;
     let short = used > 0 && dice.below(5) == 0;
-    let kept = if short { dice.below(used) } else { used + dice.below(4) };
+    let kept = if short {
+        dice.below(used)
+    } else {
+        used + dice.below(4)
+    };
     draws.truncate(kept);
     draws
 }
@@ -54,7 +65,12 @@ fn line(dice: &mut Dice, board: &Board, rounds: usize) {
 }
 
 /// So many boards of these sides, from one density to another.
-fn boards(dice: &mut Dice, count: usize, sides: fn(&mut Dice) -> (usize, usize), densities: (usize, usize)) {
+fn boards(
+    dice: &mut Dice,
+    count: usize,
+    sides: fn(&mut Dice) -> (usize, usize),
+    densities: (usize, usize),
+) {
     for _ in 0..count {
         let (rows, columns) = sides(dice);
         let percent = dice.from_to(densities.0, densities.1);
@@ -80,10 +96,20 @@ fn large(dice: &mut Dice) -> (usize, usize) {
 
 fn run() {
     let mut dice = Dice(11);
-    boards(&mut dice, 2000, |dice| (dice.from_to(1, 8), dice.from_to(1, 8)), (0, 100));
+    boards(
+        &mut dice,
+        2000,
+        |dice| (dice.from_to(1, 8), dice.from_to(1, 8)),
+        (0, 100),
+    );
     boards(&mut dice, 100, |dice| (1, dice.from_to(1, 255)), (0, 100));
     boards(&mut dice, 100, |dice| (dice.from_to(1, 255), 1), (0, 100));
-    boards(&mut dice, 500, |dice| (dice.from_to(1, 20), dice.from_to(1, 20)), (0, 100));
+    boards(
+        &mut dice,
+        500,
+        |dice| (dice.from_to(1, 20), dice.from_to(1, 20)),
+        (0, 100),
+    );
     boards(&mut dice, 300, |_| (16, 30), (10, 30));
     boards(&mut dice, 40, edge, (5, 60));
     boards(&mut dice, 30, large, (0, 100));

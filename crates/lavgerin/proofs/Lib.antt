@@ -1,2 +1,2 @@
 -- What the proofs of the C names share.
-mod Returns
+pub mod Returns

@@ -36,3 +36,22 @@ module _ {promise : ListOutcome} {a came : Answer} {work : List ℤ} {list : Lis
   -- two answers and a list
   pub returned-list-two : {before2 after2 : ℕ} → after2 ≡ told came 1 before2 → ReturnedListTwo promise n work list before after before2 after2
   returned-list-two {before2} second = record { first = returned-list; second = as-told 1 before2 (sym so ∙ kept .answers) second }
+
+-- ---- there is only one such answer
+
+pub returned-once : (p : Outcome) (n n′ : ℕ) (w w′ : List ℤ) (b a a′ : ℕ) → Returned p n w b a → Returned p n′ w′ b a′ → (n ≡ n′) × (w ≡ w′) × (a ≡ a′)
+returned-once p n n′ w w′ b a a′ k k′ = (k .answers ∙ sym (k′ .answers), k .leaves ∙ sym (k′ .leaves), k .tells ∙ sym (k′ .tells))
+
+pub two-once : (p : Outcome) (n n′ : ℕ) (w w′ : List ℤ) (b a a′ b2 a2 a2′ : ℕ) → ReturnedTwo p n w b a b2 a2 → ReturnedTwo p n′ w′ b a′ b2 a2′ → (n ≡ n′) × (w ≡ w′) × (a ≡ a′) × (a2 ≡ a2′)
+two-once p n n′ w w′ b a a′ b2 a2 a2′ k k′ =
+    let e = returned-once p n n′ w w′ b a a′ (k .first) (k′ .first) in
+    (e .0, e .1, e .2, k .second ∙ sym (k′ .second))
+
+pub list-once : (p : ListOutcome) (n n′ : ℕ) (w w′ : List ℤ) (l l′ : List ℕ) (b a a′ : ℕ) → ReturnedList p n w l b a → ReturnedList p n′ w′ l′ b a′ → (n ≡ n′) × (w ≡ w′) × (l ≡ l′) × (a ≡ a′)
+list-once p n n′ w w′ l l′ b a a′ k k′ =
+    (k .answers ∙ sym (k′ .answers), k .leaves ∙ sym (k′ .leaves), k .lists ∙ sym (k′ .lists), k .tells ∙ sym (k′ .tells))
+
+pub list-two-once : (p : ListOutcome) (n n′ : ℕ) (w w′ : List ℤ) (l l′ : List ℕ) (b a a′ b2 a2 a2′ : ℕ) → ReturnedListTwo p n w l b a b2 a2 → ReturnedListTwo p n′ w′ l′ b a′ b2 a2′ → (n ≡ n′) × (w ≡ w′) × (l ≡ l′) × (a ≡ a′) × (a2 ≡ a2′)
+list-two-once p n n′ w w′ l l′ b a a′ b2 a2 a2′ k k′ =
+    let e = list-once p n n′ w w′ l l′ b a a′ (k .first) (k′ .first) in
+    (e .0, e .1, e .2, e .3, k .second ∙ sym (k′ .second))
