@@ -1,0 +1,2 @@
+-- What the proofs of the C names share.
+pub mod Returns

@@ -1,0 +1,57 @@
+-- A call that keeps its promise keeps it as C sees it: the number and the values of the answer that came are those promised. Assumes nothing.
+use Prim.Native.Nat.{ℕ}
+use mathlib.Core.Path.{_≡_, ap, sym, _∙_}
+use mathlib.Core.List.{List}
+use lib.IntN.{ℤ}
+use Rattle.game.specs.Calls.{Answer, ListOutcome, Outcome}
+use Rattle.zini.specs.Answers.{Kept, KeptList}
+use Rattle.lavgerin.specs.Names.{Returned, ReturnedList, ReturnedListTwo, ReturnedTwo, told}
+
+-- the answer's number, carried from the answer that came to the one promised
+as-number : {promised came : Answer} {n : ℕ} → came ≡ promised → n ≡ came .number → n ≡ promised .number
+as-number same e = e ∙ ap (λ (a : Answer). a .number) same
+
+-- a value of the answer, carried likewise
+as-told : {promised came : Answer} (place before : ℕ) {after : ℕ} → came ≡ promised → after ≡ told came place before → after ≡ told promised place before
+as-told place before same e = e ∙ ap (λ (a : Answer). told a place before) same
+
+module _ {promise : Outcome} {a came : Answer} {work : List ℤ} (kept : Kept promise a work) (so : a ≡ came) {n before after : ℕ} (number : n ≡ came .number) (first : after ≡ told came 0 before) where
+  -- one answer
+  pub returned : Returned promise n work before after
+  returned =
+      let same = sym so ∙ kept .answers in
+      record { answers = as-number same number; leaves = kept .leaves; tells = as-told 0 before same first }
+
+  -- two answers
+  pub returned-two : {before2 after2 : ℕ} → after2 ≡ told came 1 before2 → ReturnedTwo promise n work before after before2 after2
+  returned-two {before2} second = record { first = returned; second = as-told 1 before2 (sym so ∙ kept .answers) second }
+
+module _ {promise : ListOutcome} {a came : Answer} {work : List ℤ} {list : List ℕ} (kept : KeptList promise a work list) (so : a ≡ came) {n before after : ℕ} (number : n ≡ came .number) (first : after ≡ told came 0 before) where
+  -- one answer and a list
+  pub returned-list : ReturnedList promise n work list before after
+  returned-list =
+      let same = sym so ∙ kept .answers in
+      record { answers = as-number same number; leaves = kept .leaves; lists = kept .lists; tells = as-told 0 before same first }
+
+  -- two answers and a list
+  pub returned-list-two : {before2 after2 : ℕ} → after2 ≡ told came 1 before2 → ReturnedListTwo promise n work list before after before2 after2
+  returned-list-two {before2} second = record { first = returned-list; second = as-told 1 before2 (sym so ∙ kept .answers) second }
+
+-- ---- there is only one such answer
+
+pub returned-once : (p : Outcome) (n n′ : ℕ) (w w′ : List ℤ) (b a a′ : ℕ) → Returned p n w b a → Returned p n′ w′ b a′ → (n ≡ n′) × (w ≡ w′) × (a ≡ a′)
+returned-once p n n′ w w′ b a a′ k k′ = (k .answers ∙ sym (k′ .answers), k .leaves ∙ sym (k′ .leaves), k .tells ∙ sym (k′ .tells))
+
+pub two-once : (p : Outcome) (n n′ : ℕ) (w w′ : List ℤ) (b a a′ b2 a2 a2′ : ℕ) → ReturnedTwo p n w b a b2 a2 → ReturnedTwo p n′ w′ b a′ b2 a2′ → (n ≡ n′) × (w ≡ w′) × (a ≡ a′) × (a2 ≡ a2′)
+two-once p n n′ w w′ b a a′ b2 a2 a2′ k k′ =
+    let e = returned-once p n n′ w w′ b a a′ (k .first) (k′ .first) in
+    (e .0, e .1, e .2, k .second ∙ sym (k′ .second))
+
+pub list-once : (p : ListOutcome) (n n′ : ℕ) (w w′ : List ℤ) (l l′ : List ℕ) (b a a′ : ℕ) → ReturnedList p n w l b a → ReturnedList p n′ w′ l′ b a′ → (n ≡ n′) × (w ≡ w′) × (l ≡ l′) × (a ≡ a′)
+list-once p n n′ w w′ l l′ b a a′ k k′ =
+    (k .answers ∙ sym (k′ .answers), k .leaves ∙ sym (k′ .leaves), k .lists ∙ sym (k′ .lists), k .tells ∙ sym (k′ .tells))
+
+pub list-two-once : (p : ListOutcome) (n n′ : ℕ) (w w′ : List ℤ) (l l′ : List ℕ) (b a a′ b2 a2 a2′ : ℕ) → ReturnedListTwo p n w l b a b2 a2 → ReturnedListTwo p n′ w′ l′ b a′ b2 a2′ → (n ≡ n′) × (w ≡ w′) × (l ≡ l′) × (a ≡ a′) × (a2 ≡ a2′)
+list-two-once p n n′ w w′ l l′ b a a′ b2 a2 a2′ k k′ =
+    let e = list-once p n n′ w w′ l l′ b a a′ (k .first) (k′ .first) in
+    (e .0, e .1, e .2, e .3, k .second ∙ sym (k′ .second))

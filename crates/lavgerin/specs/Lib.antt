@@ -1,0 +1,2 @@
+-- What the C names promise.
+pub mod Names

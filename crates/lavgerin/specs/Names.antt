@@ -1,0 +1,34 @@
+-- The promises of the calls as C sees them: a number returned, and answers behind pointers. Assumes nothing.
+use Prim.Native.Nat.{ℕ}
+use mathlib.Core.Path.{_≡_}
+use mathlib.Core.List.{List}
+use lib.IntN.{ℤ}
+use lib.ListN.{getD}
+use Rattle.game.specs.Calls.{Answer, ListOutcome, Outcome}
+
+-- what stands behind an answer pointer after a call: the answer's value of that place, or what stood there if it has none
+abbrev pub told : Answer → ℕ → ℕ → ℕ
+told a place before = getD (a .values) place before
+
+-- a call without a list, as C sees it: the number returned, the work area and one answer at exit
+pub record Returned (promise : Outcome) (number : ℕ) (work : List ℤ) (before after : ℕ) : Type 0 where
+  pub answers : number ≡ promise .answer .number
+  pub leaves : work ≡ promise .work
+  pub tells : after ≡ told (promise .answer) 0 before
+
+-- the same with two answers
+pub record ReturnedTwo (promise : Outcome) (number : ℕ) (work : List ℤ) (before after before2 after2 : ℕ) : Type 0 where
+  pub first : Returned promise number work before after
+  pub second : after2 ≡ told (promise .answer) 1 before2
+
+-- a call with a list, as C sees it: the number returned, the work area, the list and one answer at exit
+pub record ReturnedList (promise : ListOutcome) (number : ℕ) (work : List ℤ) (list : List ℕ) (before after : ℕ) : Type 0 where
+  pub answers : number ≡ promise .answer .number
+  pub leaves : work ≡ promise .work
+  pub lists : list ≡ promise .list
+  pub tells : after ≡ told (promise .answer) 0 before
+
+-- the same with two answers
+pub record ReturnedListTwo (promise : ListOutcome) (number : ℕ) (work : List ℤ) (list : List ℕ) (before after before2 after2 : ℕ) : Type 0 where
+  pub first : ReturnedList promise number work list before after
+  pub second : after2 ≡ told (promise .answer) 1 before2

@@ -1,0 +1,169 @@
+// The calls under C names. Each returns the refusal's number, 0 for success; answers go through pointers, and what stands there is left alone where an answer has no such value.
+use zini::Counted;
+use zini::Priced;
+use zini::Refusal;
+use zini::Replayed;
+use zini::Rolled;
+ghost use mathlib.Core.Path.{_≡_};
+ghost use Rattle.game.specs.Calls.{greedyCall, numberOf, openingsFirstCall, randomRoundCall, randomSearchCall, replayCall, threeBVCall};
+ghost use Rattle.area.specs.Numbers.{gridOf};
+ghost use Rattle.zini.specs.Answers.{named};
+ghost use Rattle.lavgerin.specs.Names.{Returned, ReturnedList, ReturnedListTwo, ReturnedTwo};
+
+// A refusal's number.
+fn number_of(refusal: Refusal) -> u8
+    ensures { λ r. ⌜ r ≡ numberOf (named refusal) ⌝ }
+{
+    match refusal {
+        Refusal::Shape => 1,
+        Refusal::Board => 2,
+        Refusal::Work => 3,
+        Refusal::Trace => 4,
+        Refusal::Rounds => 5,
+        Refusal::Draws => 6,
+    }
+}
+
+// 3BV of a grid.
+#[no_mangle]
+pub extern "C" fn lavgerin_three_bv(
+    rows: usize,
+    columns: usize,
+    grid: &[i32],
+    work: &mut [i32],
+    units: &mut u64,
+) -> u8
+    ensures { λ r. ⌜ Returned (threeBVCall (gridOf rows columns (now (grid .entry))) (now (work .entry))) r (now (work .exit)) (now (units .entry)) (now (units .exit)) ⌝ }
+{
+    let answer = zini::count::three_bv(rows, columns, grid, work);
+    match answer {
+        Counted::Units(count) => {
+            *units = count as u64;
+            0
+        }
+        Counted::Refused(refusal) => number_of(refusal),
+    }
+}
+
+// Greedy ZiNi: its clicks, and its moves in the list.
+#[no_mangle]
+pub extern "C" fn lavgerin_greedy(
+    rows: usize,
+    columns: usize,
+    grid: &[i32],
+    work: &mut [i32],
+    list: &mut [u32],
+    clicks: &mut u64,
+) -> u8
+    ensures { λ r. ⌜ ReturnedList (greedyCall (gridOf rows columns (now (grid .entry))) (now (work .entry)) (now (list .entry))) r (now (work .exit)) (now (list .exit)) (now (clicks .entry)) (now (clicks .exit)) ⌝ }
+{
+    let answer = zini::prices::greedy(rows, columns, grid, work, list);
+    match answer {
+        Priced::Clicks(count) => {
+            *clicks = count as u64;
+            0
+        }
+        Priced::Refused(refusal) => number_of(refusal),
+    }
+}
+
+// Openings-first ZiNi: its clicks, and its moves in the list.
+#[no_mangle]
+pub extern "C" fn lavgerin_openings_first(
+    rows: usize,
+    columns: usize,
+    grid: &[i32],
+    work: &mut [i32],
+    list: &mut [u32],
+    clicks: &mut u64,
+) -> u8
+    ensures { λ r. ⌜ ReturnedList (openingsFirstCall (gridOf rows columns (now (grid .entry))) (now (work .entry)) (now (list .entry))) r (now (work .exit)) (now (list .exit)) (now (clicks .entry)) (now (clicks .exit)) ⌝ }
+{
+    let answer = zini::prices::openings_first(rows, columns, grid, work, list);
+    match answer {
+        Priced::Clicks(count) => {
+            *clicks = count as u64;
+            0
+        }
+        Priced::Refused(refusal) => number_of(refusal),
+    }
+}
+
+// A single random round: its clicks, its moves in the list, and the draw bytes used.
+#[no_mangle]
+pub extern "C" fn lavgerin_random_round(
+    rows: usize,
+    columns: usize,
+    grid: &[i32],
+    work: &mut [i32],
+    list: &mut [u32],
+    draws: &[u8],
+    clicks: &mut u64,
+    used: &mut u64,
+) -> u8
+    ensures { λ r. ⌜ ReturnedListTwo (randomRoundCall (gridOf rows columns (now (grid .entry))) (now (work .entry)) (now (list .entry)) (now (draws .entry))) r (now (work .exit)) (now (list .exit)) (now (clicks .entry)) (now (clicks .exit)) (now (used .entry)) (now (used .exit)) ⌝ }
+{
+    let answer = zini::rolls::random_round(rows, columns, grid, work, list, draws);
+    match answer {
+        Rolled::Clicks(count, bytes) => {
+            *clicks = count as u64;
+            *used = bytes as u64;
+            0
+        }
+        Rolled::Refused(refusal) => number_of(refusal),
+    }
+}
+
+// Random search over so many rounds: the least clicks, and the draw bytes used.
+#[no_mangle]
+pub extern "C" fn lavgerin_random_search(
+    rows: usize,
+    columns: usize,
+    grid: &[i32],
+    work: &mut [i32],
+    draws: &[u8],
+    rounds: usize,
+    clicks: &mut u64,
+    used: &mut u64,
+) -> u8
+    ensures { λ r. ⌜ ReturnedTwo (randomSearchCall (gridOf rows columns (now (grid .entry))) (now (work .entry)) (now (draws .entry)) rounds) r (now (work .exit)) (now (clicks .entry)) (now (clicks .exit)) (now (used .entry)) (now (used .exit)) ⌝ }
+{
+    let answer = zini::rolls::random_search(rows, columns, grid, work, draws, rounds);
+    match answer {
+        Rolled::Clicks(least, bytes) => {
+            *clicks = least as u64;
+            *used = bytes as u64;
+            0
+        }
+        Rolled::Refused(refusal) => number_of(refusal),
+    }
+}
+
+// The first moves of a list are played on a board: how many were made, or the place of the bad one, and the safe cells still closed.
+#[no_mangle]
+pub extern "C" fn lavgerin_replay(
+    rows: usize,
+    columns: usize,
+    grid: &[i32],
+    work: &mut [i32],
+    list: &[u32],
+    count: usize,
+    made: &mut u64,
+    closed: &mut u64,
+) -> u8
+    ensures { λ r. ⌜ ReturnedTwo (replayCall (gridOf rows columns (now (grid .entry))) (now (work .entry)) (now (list .entry)) count) r (now (work .exit)) (now (made .entry)) (now (made .exit)) (now (closed .entry)) (now (closed .exit)) ⌝ }
+{
+    let answer = zini::replays::replay(rows, columns, grid, work, list, count);
+    match answer {
+        Replayed::Played(moves, left) => {
+            *made = moves as u64;
+            *closed = left as u64;
+            0
+        }
+        Replayed::Move(place) => {
+            *made = place as u64;
+            7
+        }
+        Replayed::Refused(refusal) => number_of(refusal),
+    }
+}

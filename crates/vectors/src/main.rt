@@ -1,0 +1,356 @@
+// Replays the Rust's stored answers (docs/VECTORS.md) from standard input, and says how many boards there were and how many differ.
+use zini::Priced;
+use zini::Refusal;
+use zini::Rolled;
+ghost use Prim.Native.Nat.{_≤_};
+
+// What is said of a line.
+enum Seen {
+    End,
+    Right,
+    Wrong,
+}
+
+// A random search's answer: its number, 0 for success, and its clicks and bytes, 0 for none.
+struct Search {
+    number: usize,
+    clicks: usize,
+    used: usize,
+}
+
+// The value of a hexadecimal digit, 0 for any other byte.
+fn digit(b: u8) -> usize
+    ensures { λ r. ⌜ r ≤ 15 ⌝ }
+{
+    match b {
+        48..=57 => b as usize - 48,
+        65..=70 => b as usize - 55,
+        _ => 0,
+    }
+}
+
+// The value of the digit at a place, 0 past the end.
+fn digit_at(line: &[u8], place: usize) -> usize
+    ensures { λ r. ⌜ r ≤ 15 ⌝ }
+{
+    if place >= line.len() {
+        return 0;
+    }
+    digit(line[place])
+}
+
+// The byte at a place, two digits each.
+fn byte_at(line: &[u8], place: usize) -> usize
+    ensures { λ r. ⌜ r ≤ 255 ⌝ }
+{
+    if place >= 65535 {
+        return 0;
+    }
+    16 * digit_at(line, 2 * place) + digit_at(line, 2 * place + 1)
+}
+
+// The number of two bytes, high first.
+fn pair_at(line: &[u8], place: usize) -> usize
+    ensures { λ r. ⌜ r ≤ 65535 ⌝ }
+{
+    if place >= 65535 {
+        return 0;
+    }
+    256 * byte_at(line, place) + byte_at(line, place + 1)
+}
+
+// A mine where the bit is set: the bits follow twelve bytes, high bit first.
+fn value(line: &[u8], cell: usize) -> i32 {
+    if cell >= 2048 {
+        return 0;
+    }
+    let byte = byte_at(line, 12 + cell / 8);
+    if (byte >> (7 - cell % 8)) % 2 == 1 {
+        -1
+    } else {
+        0
+    }
+}
+
+// The grid of a line.
+fn lay_mines(line: &[u8], grid: &mut [i32]) {
+    let mut k = 0;
+    while k < grid.len() {
+        let v = value(line, k);
+        grid[k] = v;
+        k += 1;
+    }
+}
+
+// Where the draws of a line begin.
+fn draws_from(cells: usize) -> usize
+    ensures { λ r. ⌜ r ≤ 269 ⌝ }
+{
+    if cells > 2048 {
+        return 0;
+    }
+    12 + (cells + 7) / 8
+}
+
+// How many draw bytes a line has.
+fn draws_in(line: &[u8], cells: usize) -> usize
+    ensures { λ r. ⌜ r ≤ 4096 ⌝ }
+{
+    let from = draws_from(cells);
+    let bytes = line.len() / 2;
+    if bytes < from {
+        return 0;
+    }
+    if 4096 < bytes - from {
+        return 0;
+    }
+    bytes - from
+}
+
+// A byte of the draws, which begin at a place.
+fn draw_at(line: &[u8], from: usize, place: usize) -> u8 {
+    if from > 269 {
+        return 0;
+    }
+    if place >= 4096 {
+        return 0;
+    }
+    byte_at(line, from + place) as u8
+}
+
+// The draws of a line, from a place on.
+fn take_draws(line: &[u8], from: usize, draws: &mut [u8]) {
+    let mut k = 0;
+    while k < draws.len() {
+        draws[k] = draw_at(line, from, k);
+        k += 1;
+    }
+}
+
+// A figure beside the Rust's: 1 and a line printed where they differ.
+fn differs(number: u64, name: &[u8], ours: usize, rust: usize) -> u64
+    ensures { λ r. ⌜ r ≤ 1 ⌝ }
+{
+    if ours == rust {
+        return 0;
+    }
+    io::write_all(1, b"line ");
+    io::print_decimal(1, number);
+    io::write_all(1, name);
+    io::print_decimal(1, ours as u64);
+    io::write_all(1, b", the Rust ");
+    io::print_decimal(1, rust as u64);
+    io::write_all(1, b"\n");
+    1
+}
+
+// A round's clicks, or more than any round has where it was refused.
+fn clicks_of(answer: Priced) -> usize {
+    match answer {
+        Priced::Clicks(clicks) => clicks,
+        Priced::Refused(_refusal) => 65536,
+    }
+}
+
+// A refusal's number where the draws ran dry; no other is expected.
+fn number_of(refusal: Refusal) -> usize {
+    match refusal {
+        Refusal::Draws => 6,
+        _ => 255,
+    }
+}
+
+// A random search's answer taken apart.
+fn taken_apart(answer: Rolled) -> Search {
+    match answer {
+        Rolled::Clicks(clicks, used) => Search {
+            number: 0,
+            clicks,
+            used,
+        },
+        Rolled::Refused(refusal) => Search {
+            number: number_of(refusal),
+            clicks: 0,
+            used: 0,
+        },
+    }
+}
+
+// Greedy beside the Rust.
+fn greedy(number: u64, line: &[u8], grid: &[i32]) -> u64
+    ensures { λ r. ⌜ r ≤ 1 ⌝ }
+{
+    let mut work = [0i32; 10240];
+    let mut list = [0u32; 2048];
+    let answer = zini::prices::greedy(
+        byte_at(line, 0),
+        byte_at(line, 1),
+        grid,
+        &mut work,
+        &mut list,
+    );
+    differs(number, b": greedy ", clicks_of(answer), pair_at(line, 3))
+}
+
+// Openings-first beside the Rust.
+fn openings_first(number: u64, line: &[u8], grid: &[i32]) -> u64
+    ensures { λ r. ⌜ r ≤ 1 ⌝ }
+{
+    let mut work = [0i32; 10240];
+    let mut list = [0u32; 2048];
+    let answer = zini::prices::openings_first(
+        byte_at(line, 0),
+        byte_at(line, 1),
+        grid,
+        &mut work,
+        &mut list,
+    );
+    differs(
+        number,
+        b": openings-first ",
+        clicks_of(answer),
+        pair_at(line, 5),
+    )
+}
+
+// A random search's three figures beside the Rust's.
+fn search_differs(number: u64, line: &[u8], search: Search) -> u64
+    ensures { λ r. ⌜ r ≤ 3 ⌝ }
+{
+    differs(number, b": search answer ", search.number, byte_at(line, 7))
+        + differs(number, b": search clicks ", search.clicks, pair_at(line, 8))
+        + differs(number, b": search bytes ", search.used, pair_at(line, 10))
+}
+
+// Random search beside the Rust.
+fn random_search(number: u64, line: &[u8], grid: &[i32], draws: &mut [u8]) -> u64
+    ensures { λ r. ⌜ r ≤ 3 ⌝ }
+{
+    let mut work = [0i32; 10240];
+    take_draws(line, draws_from(grid.len()), draws);
+    let answer = zini::rolls::random_search(
+        byte_at(line, 0),
+        byte_at(line, 1),
+        grid,
+        &mut work,
+        draws,
+        byte_at(line, 2),
+    );
+    search_differs(number, line, taken_apart(answer))
+}
+
+// Random search with the draws of a line.
+fn with_draws(number: u64, line: &[u8], grid: &[i32]) -> u64
+    ensures { λ r. ⌜ r ≤ 3 ⌝ }
+{
+    let mut draws = [0u8; 4096];
+    let count = draws_in(line, grid.len());
+    random_search(number, line, grid, &mut draws[..count])
+}
+
+// The three ways on a line's board: how many figures differ.
+fn price(number: u64, line: &[u8], grid: &mut [i32]) -> u64
+    ensures { λ r. ⌜ r ≤ 5 ⌝ }
+{
+    lay_mines(line, grid);
+    greedy(number, line, grid) + openings_first(number, line, grid) + with_draws(number, line, grid)
+}
+
+// A line that holds no board.
+fn malformed(number: u64) -> Seen {
+    io::write_all(1, b"line ");
+    io::print_decimal(1, number);
+    io::write_all(1, b": no board\n");
+    Seen::Wrong
+}
+
+// A line's board, priced.
+fn replay_board(number: u64, line: &[u8]) -> Seen {
+    let cells = byte_at(line, 0) * byte_at(line, 1);
+    if 2048 < cells {
+        return malformed(number);
+    }
+    let mut grid = [0i32; 2048];
+    let wrong = price(number, line, &mut grid[..cells]);
+    if wrong == 0 { Seen::Right } else { Seen::Wrong }
+}
+
+// Whether a line feed ends it.
+fn is_ended(line: &[u8]) -> bool {
+    if line.len() == 0 {
+        return false;
+    }
+    line[line.len() - 1] == 10
+}
+
+// Reads the rest of a line, and prices its board.
+fn replay_rest(number: u64, line: &mut [u8]) -> Seen {
+    let got = io::read_full(0, line);
+    if got < line.len() {
+        return malformed(number);
+    }
+    if !is_ended(line) {
+        return malformed(number);
+    }
+    replay_board(number, line)
+}
+
+// A line whose length was read: two digits a byte, and the line feed.
+fn replay_line(number: u64, bytes: usize) -> Seen {
+    if 4095 < bytes {
+        return malformed(number);
+    }
+    let mut line = [0u8; 8192];
+    replay_rest(number, &mut line[..2 * bytes + 1])
+}
+
+// The next line, if there is one.
+fn replay_next(number: u64) -> Seen {
+    let mut head = [0u8; 4];
+    let got = io::read_full(0, &mut head);
+    if got < 4 {
+        return Seen::End;
+    }
+    replay_line(number, pair_at(&head, 0))
+}
+
+// How many boards there were, and how many differ.
+fn report(boards: u64, wrong: u64) {
+    io::print_decimal(1, boards);
+    io::write_all(1, b" boards, ");
+    io::print_decimal(1, wrong);
+    io::write_all(1, b" wrong\n");
+}
+
+// 1 for a line with a wrong figure.
+fn wrong_in(seen: Seen) -> u64
+    ensures { λ r. ⌜ r ≤ 1 ⌝ }
+{
+    match seen {
+        Seen::Wrong => 1,
+        _ => 0,
+    }
+}
+
+// Whether the input has ended.
+fn is_end(seen: Seen) -> bool {
+    match seen {
+        Seen::End => true,
+        _ => false,
+    }
+}
+
+// Every line: no input has a million of them.
+fn main() {
+    let mut boards: u64 = 0;
+    let mut wrong: u64 = 0;
+    while boards < 1000000 {
+        let seen = replay_next(boards + 1);
+        if is_end(seen) {
+            break;
+        }
+        wrong += wrong_in(seen);
+        boards += 1;
+    }
+    report(boards, wrong);
+}
