@@ -1,0 +1,1 @@
+// Lines of hexadecimal: boards, prices and stored moves.
