@@ -1,2 +1,5 @@
 pub mod Digits
 pub mod Bytes
+pub mod Bits
+pub mod Runs
+pub mod Priced
