@@ -3,3 +3,5 @@ pub mod Bytes
 pub mod Bits
 pub mod Runs
 pub mod Priced
+pub mod Verdict
+pub mod Calls
