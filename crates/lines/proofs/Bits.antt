@@ -51,11 +51,11 @@ module _ (line : List ℕ) (k : ℕ) (room : 2 * (k / 8) + 6 ≤ length line) wh
   digit-bit =
       elim (decLt (k % 8) 4) [
         | yes h ↦ let place : 4 + k / 4 ≡ 2 * (2 + k / 8) = omega arith in
-          ap (λ (n : ℕ). hexValue (getD line n 0) / 2 ^ (3 - k % 4) % 2) place
-          ∙ sym (high-bits high low (k % 4) (value-small _) (omega arith)) ∙ byte-bit (7 - k % 4) (omega arith)
+            ap (λ (n : ℕ). hexValue (getD line n 0) / 2 ^ (3 - k % 4) % 2) place
+            ∙ sym (high-bits high low (k % 4) (value-small _) (omega arith)) ∙ byte-bit (7 - k % 4) (omega arith)
         | no h ↦ let place : 4 + k / 4 ≡ 2 * (2 + k / 8) + 1 = omega arith in
-          ap (λ (n : ℕ). hexValue (getD line n 0) / 2 ^ (3 - k % 4) % 2) place
-          ∙ sym (low-bits high low (k % 4) (value-small _) (omega arith)) ∙ byte-bit (3 - k % 4) (omega arith)
+            ap (λ (n : ℕ). hexValue (getD line n 0) / 2 ^ (3 - k % 4) % 2) place
+            ∙ sym (low-bits high low (k % 4) (value-small _) (omega arith)) ∙ byte-bit (3 - k % 4) (omega arith)
       ]
 
   pub mine-here : eqb (hexValue (getD line (4 + k / 4) 0) / 2 ^ (3 - k % 4) % 2) 1 ≡ mineBit (bytesOf line) k

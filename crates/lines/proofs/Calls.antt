@@ -57,8 +57,9 @@ module _ (line : List ℕ) (lent : List ℤ) where
   kept-short e h =
       subst (λ (x : GridOutcome). KeptGrid x (refuses board) lent) (outcome (some board) (by none true e (lt-ltb (length lent) (size (lineGrid line)) h))) (record { answers = refl; leaves = refl })
 
-  pub kept-read : (new : List ℤ) → lineRefusal line ≡ none → size (lineGrid line) ≤ length lent → new ≡ begun (lineGrid line .values) lent
-      → KeptGrid (boardLineCall line lent) (gives (lineGrid line .rows ∷ lineGrid line .columns ∷ [])) new
+  pub kept-read : (new : List ℤ) (rows columns : ℕ) → lineRefusal line ≡ none → size (lineGrid line) ≤ length lent → rows ≡ lineGrid line .rows → columns ≡ lineGrid line .columns
+      → new ≡ begun (lineGrid line .values) lent → KeptGrid (boardLineCall line lent) (gives (rows ∷ columns ∷ [])) new
   unfolding read
-  kept-read new e h q =
-      subst (λ (x : GridOutcome). KeptGrid x (gives (lineGrid line .rows ∷ lineGrid line .columns ∷ [])) new) (outcome none (by none false e (le-ltb (length lent) (size (lineGrid line)) h))) (record { answers = refl; leaves = q })
+  kept-read new rows columns e h r c q =
+      subst (λ (x : GridOutcome). KeptGrid x (gives (rows ∷ columns ∷ [])) new) (outcome none (by none false e (le-ltb (length lent) (size (lineGrid line)) h)))
+      (record { answers = λ i. gives (r i ∷ c i ∷ []); leaves = q })

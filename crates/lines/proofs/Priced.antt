@@ -41,8 +41,8 @@ unfolding priceDigits
 price-there at p old a b c new h e f g k =
     k
     ∙ ap (λ (l : List ℕ). sets l (at + 10) (twoDigits (p .openings-first)))
-        (g ∙ ap (λ (l : List ℕ). sets l (at + 6) (twoDigits (p .greedy)))
-          (f ∙ ap (λ (l : List ℕ). sets l (at + 2) (twoDigits (p .units))) e ∙ sets-more old at (at + 2) (byteDigits (p .number % 256)) (twoDigits (p .units)) refl)
-        ∙ sets-more old at (at + 6) (byteDigits (p .number % 256) ++ twoDigits (p .units)) (twoDigits (p .greedy)) refl)
+    (g ∙ ap (λ (l : List ℕ). sets l (at + 6) (twoDigits (p .greedy)))
+    (f ∙ ap (λ (l : List ℕ). sets l (at + 2) (twoDigits (p .units))) e ∙ sets-more old at (at + 2) (byteDigits (p .number % 256)) (twoDigits (p .units)) refl)
+    ∙ sets-more old at (at + 6) (byteDigits (p .number % 256) ++ twoDigits (p .units)) (twoDigits (p .greedy)) refl)
     ∙ sets-more old at (at + 10) ((byteDigits (p .number % 256) ++ twoDigits (p .units)) ++ twoDigits (p .greedy)) (twoDigits (p .openings-first)) refl
     ∙ put-there at (priceDigits p) old (omega (arith, length-price p))

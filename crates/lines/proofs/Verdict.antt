@@ -1,19 +1,23 @@
 -- The checks of a board line by their tests: the first that is given, and what holds where none is. Assumes nothing.
 use Prim.Native.Nat.{ℕ, _+_, _*_, _/_, _%_, _<_, _≤_}
 use native.Mathlib.Omega.{arith}
+use native.Mathlib.Decide.{decLe}
+use native.Mathlib.Nat.{mul-le-mul-left}
 use mathlib.Core.Path.{_≡_, ap, refl, subst, sym, _∙_}
 use mathlib.Core.Bool.{Bool, true, false, not, _||_}
 use mathlib.Core.List.{List, [], _∷_, _++_}
 use mathlib.Core.Option.{Option, none, some}
 use lib.Dec.{eqb, ltb}
-use lib.ListN.{getD, length}
+use lib.ListN.{getD, length, length-take, take}
+use lib.Seq.{take-all}
 use borrow.Author.Tests.{eq-eqb, eqb-false, eqb-true, le-ltb, lt-ltb, ltb-false, ne-eqb, not-false}
 use Rattle.game.specs.Lists.{range, some-of}
 use Rattle.game.specs.Grid.{size}
 use Rattle.game.specs.Calls.{Refusal, firstGiven, frame, shape, sideOut, size-over}
 use Rattle.lines.specs.Hex.{bytesOf, isWrong}
-use Rattle.lines.specs.BoardLine.{bitBytes, digitsRefused, gridOfBytes, lineGrid, lineRefusal, mineBit}
+use Rattle.lines.specs.BoardLine.{bitBytes, digitsRefused, gridOfBytes, lineGrid, lineRefusal, mineBit, valueOf}
 use Rattle.lines.proofs.Bytes.{length-bytes}
+use Rattle.lines.proofs.Runs.{length-cells}
 
 none≢some : {x : Refusal} → some x ≡ none → ⊥
 none≢some e = subst given e tt
@@ -38,11 +42,20 @@ pub record Digits (line : List ℕ) : Type 0 where
 abbrev any : Bool → Bool → Bool → Bool → Bool
 any a b c d = a || (b || ((c || d) || false))
 
+or-none : (d : Bool) → d ≡ (d || false)
+or-none true = refl
+or-none false = refl
+
 module _ (line : List ℕ) where
   pub digits-by : (a b c d : Bool) → some-of isWrong line ≡ a → eqb (length line % 2) 1 ≡ b → ltb (length line) 4 ≡ c → ltb 516 (length line) ≡ d
       → any a b c d ≡ digitsRefused line
   unfolding digitsRefused
   digits-by a b c d e f g h = sym (λ i. any (e i) (f i) (g i) (h i))
+
+  pub digits-last : some-of isWrong line ≡ false → (length line % 2 ≡ 1 → ⊥) → 4 ≤ length line → ltb 516 (length line) ≡ digitsRefused line
+  digits-last e f g =
+      or-none (ltb 516 (length line))
+      ∙ digits-by false false false (ltb 516 (length line)) e (ne-eqb (length line % 2) 1 f) (le-ltb (length line) 4 g) refl
 
   pub digits-good : digitsRefused line ≡ false → Digits line
   unfolding digitsRefused
@@ -67,26 +80,15 @@ module _ (line : List ℕ) where
 abbrev verdict : Bool → Bool → Bool → Bool → Bool → Bool → Bool → Option Refusal
 verdict a b c s o n p =
     firstGiven (
-      record { given = a; refusal = frame }
-      ∷ record { given = b; refusal = frame }
-      ∷ record { given = c; refusal = frame }
-      ∷ record { given = s; refusal = shape }
-      ∷ record { given = o; refusal = size-over }
-      ∷ record { given = n; refusal = frame }
-      ∷ record { given = p; refusal = frame }
-      ∷ []
+    record { given = a; refusal = frame }
+    ∷ record { given = b; refusal = frame }
+    ∷ record { given = c; refusal = frame }
+    ∷ record { given = s; refusal = shape }
+    ∷ record { given = o; refusal = size-over }
+    ∷ record { given = n; refusal = frame }
+    ∷ record { given = p; refusal = frame }
+    ∷ []
     )
-
-pub digits-frame : (line : List ℕ) → digitsRefused line ≡ true → some frame ≡ lineRefusal line
-unfolding digitsRefused lineRefusal gridOfBytes
-digits-frame line e = go (some-of isWrong line) (eqb (length line % 2) 1) (ltb (length line) 4) (ltb 516 (length line)) _ _ _ _ e
-  where
-    go : (a b c d s o n p : Bool) → any a b c d ≡ true → some frame ≡ verdict a b (c || d) s o n p
-    go true b c d s o n p e = refl
-    go false true c d s o n p e = refl
-    go false false true d s o n p e = refl
-    go false false false true s o n p e = refl
-    go false false false false s o n p e = absurd (true≢false (sym e))
 
 -- the line's first two bytes
 abbrev pub rowsByte : List ℕ → ℕ
@@ -100,6 +102,18 @@ cellsOf line = rowsByte line * columnsByte line
 
 abbrev pub paddingSet : List ℕ → Bool
 paddingSet line = some-of (mineBit (bytesOf line)) (range (cellsOf line) (8 * bitBytes (cellsOf line)))
+
+pub digits-frame : (line : List ℕ) → digitsRefused line ≡ true → some frame ≡ lineRefusal line
+unfolding digitsRefused lineRefusal gridOfBytes
+digits-frame line e = go (some-of isWrong line) (eqb (length line % 2) 1) (ltb (length line) 4) (ltb 516 (length line))
+    (sideOut (rowsByte line) || sideOut (columnsByte line)) (ltb 2048 (cellsOf line)) (not (eqb (length (bytesOf line)) (2 + bitBytes (cellsOf line)))) (paddingSet line) e
+  where
+    go : (a b c d s o n p : Bool) → any a b c d ≡ true → some frame ≡ verdict a b (c || d) s o n p
+    go true b c d s o n p e = refl
+    go false true c d s o n p e = refl
+    go false false true d s o n p e = refl
+    go false false false true s o n p e = refl
+    go false false false false s o n p e = absurd (true≢false (sym e))
 
 side-none : (n : ℕ) → n ≡ 0 → sideOut n ≡ true
 side-none n e = ap (λ (t : Bool). t || ltb 255 n) (eq-eqb n 0 e)
@@ -185,7 +199,7 @@ pub passed : (line : List ℕ) → lineRefusal line ≡ none → Passed line
 unfolding lineRefusal gridOfBytes digitsRefused
 passed line e =
     let q = none-given (some-of isWrong line) (eqb (length line % 2) 1) (ltb (length line) 4 || ltb 516 (length line)) (sideOut (rowsByte line) || sideOut (columnsByte line))
-        (ltb 2048 (cellsOf line)) (not (eqb (length (bytesOf line)) (2 + bitBytes (cellsOf line)))) (paddingSet line) e in
+    (ltb 2048 (cellsOf line)) (not (eqb (length (bytesOf line)) (2 + bitBytes (cellsOf line)))) (paddingSet line) e in
     let d = digits-good line (q .0) in
     let r = either-false (sideOut (rowsByte line)) (sideOut (columnsByte line)) (q .1) in
     let l = length-bytes line in
@@ -199,3 +213,35 @@ passed line e =
       few = ltb-false 2048 (cellsOf line) (q .2);
       bytes = omega arith;
     }
+
+-- a grid's values are as many as its cells
+pub length-values : (line : List ℕ) → length (lineGrid line .values) ≡ size (lineGrid line)
+unfolding gridOfBytes
+length-values line = length-cells (λ k. valueOf (mineBit (bytesOf line) k)) (cellsOf line)
+
+-- ---- a product of two bytes
+
+pub product-small : (a b : ℕ) → a < 256 → b < 256 → a * b ≤ 65025
+product-small a b h k = omega (arith, mul-le-mul-left {m = b} {n = 255} a (omega arith))
+
+-- ---- lines that are too long
+
+pub long-refused : (line : List ℕ) → 516 < length line → lineRefusal line ≡ some frame
+long-refused line h = sym (digits-frame line (sym (digits-by line _ _ _ true refl refl refl (lt-ltb 516 (length line) h)) ∙ long (some-of isWrong line) (eqb (length line % 2) 1) (ltb (length line) 4)))
+  where
+    long : (a b c : Bool) → any a b c true ≡ true
+    long true b c = refl
+    long false true c = refl
+    long false false true = refl
+    long false false false = refl
+
+-- what is past 517 digits changes nothing
+pub lineRefusal-kept : (line : List ℕ) → lineRefusal (take 517 line) ≡ lineRefusal line
+lineRefusal-kept line =
+    elim (decLe (length line) 517) [
+      | yes h ↦ ap lineRefusal (take-all 517 line h)
+      | no h ↦ long-refused (take 517 line) (omega (arith, length-take 517 line)) ∙ sym (long-refused line (omega arith))
+    ]
+
+pub both-refused : (line : List ℕ) → 516 < length line → (lineRefusal (take 517 line) ≡ some frame) × (lineRefusal line ≡ some frame)
+both-refused line h = let e = long-refused line h in (lineRefusal-kept line ∙ e, e)

@@ -52,9 +52,11 @@ loop-again c =
     let a = c .before .before .before .before .args in
     let bytes = bytesOf (a .line .now) in
     let fit : SFits w32 (c .cell-value .result) = subst (SFits w32) (sym (c .cell-value .ensures)) (value-fits (mineBit bytes (l .k))) in
-    let v : ℤ = toZ w32 (ofZ w32 (c .cell-value .result)) in
-    (omega arith, length-set (l .grid) (l .k) v ∙ l .inv .1,
-    fill-more (λ k. valueOf (mineBit bytes k)) (l .k) (a .grid .now) (l .grid) v (l .inv .2) (toZ-ofZ fit ∙ c .cell-value .ensures) (omega arith))
+    let v : ℤ = toZ w32 (ofZ w32 (c .cell-value .result)) in (
+      omega arith,
+      length-set (l .grid) (l .k) v ∙ l .inv .1,
+      fill-more (λ k. valueOf (mineBit bytes k)) (l .k) (a .grid .now) (l .grid) v (l .inv .2) (toZ-ofZ fit ∙ c .cell-value .ensures) (omega arith),
+    )
 
 same-length : tie.Need-same-length Inv-loop μ-loop
 same-length c = c .before .loop .inv .1
