@@ -6,12 +6,13 @@ use mathlib.Core.Bool.{Bool, true, false, not, _||_}
 use mathlib.Core.List.{List, [], _∷_}
 use mathlib.Core.Option.{Option, none, some}
 use lib.Dec.{eqb, ltb}
-use lib.ListN.{getD, length}
+use lib.ListN.{length, take}
 use borrow.Author.Tests.{eq-eqb, eqb-true, le-ltb, lt-ltb, ltb-false, ne-eqb, not-false}
 use Rattle.game.specs.Lists.{some-of}
-use Rattle.game.specs.Calls.{Answer, Refusal, firstGiven, frame, refuses, shape, sideOut, trace}
+use Rattle.game.specs.Area.{begun}
+use Rattle.game.specs.Calls.{Answer, Refusal, firstGiven, frame, gives, refuses, shape, sideOut, trace}
 use Rattle.lines.specs.Hex.{bytesOf, isWrong}
-use Rattle.lines.specs.MoveLine.{RunOutcome, moveLineChecks, storedOf, unlessGiven, writeChecks}
+use Rattle.lines.specs.MoveLine.{RunOutcome, moveLine, moveLineChecks, readMovesCall, storedOf, unlessGiven, writeChecks, writeMovesCall}
 use Rattle.lines.specs.Answers.{KeptRun}
 use Rattle.lines.proofs.Verdict.{columnsByte, either-false, none≢some, rowsByte, side-fine, side-in, side-none}
 use Rattle.lines.proofs.Words.{wordsIn}
@@ -29,11 +30,11 @@ side-many n h = second-holds (eqb n 0) (ltb 255 n) (lt-ltb 255 n h)
 abbrev readVerdict : Bool → Bool → Bool → Bool → Option Refusal
 readVerdict a b s t =
     firstGiven (
-      record { given = a; refusal = frame }
-      ∷ record { given = b; refusal = frame }
-      ∷ record { given = s; refusal = shape }
-      ∷ record { given = t; refusal = trace }
-      ∷ []
+    record { given = a; refusal = frame }
+    ∷ record { given = b; refusal = frame }
+    ∷ record { given = s; refusal = shape }
+    ∷ record { given = t; refusal = trace }
+    ∷ []
     )
 
 module _ (line lent : List ℕ) where
@@ -112,10 +113,10 @@ passed-moves line lent e =
 abbrev writeVerdict : Bool → Bool → Bool → Option Refusal
 writeVerdict s t f =
     firstGiven (
-      record { given = s; refusal = shape }
-      ∷ record { given = t; refusal = trace }
-      ∷ record { given = f; refusal = frame }
-      ∷ []
+    record { given = s; refusal = shape }
+    ∷ record { given = t; refusal = trace }
+    ∷ record { given = f; refusal = frame }
+    ∷ []
     )
 
 module _ (rows columns : ℕ) (list : List ℕ) (n : ℕ) (lent : List ℕ) where
@@ -186,3 +187,23 @@ module _ (o : Option Refusal) (lent : List ℕ) (x : RunOutcome) where
         answers = f ∙ ap (λ (v : Option Refusal). unlessGiven v lent x .answer) e;
         leaves = g ∙ ap (λ (v : Option Refusal). unlessGiven v lent x .run) e;
       }
+
+module _ (line lent : List ℕ) where
+  pub read-refused : (f : Refusal) → some f ≡ firstGiven (moveLineChecks line lent) → KeptRun (readMovesCall line lent) (refuses f) lent
+  unfolding readMovesCall
+  read-refused f e = run-refused (firstGiven (moveLineChecks line lent)) lent _ f e
+
+  pub read-kept : (rows columns n : ℕ) (run : List ℕ) → none ≡ firstGiven (moveLineChecks line lent) → rows ≡ rowsByte line → columns ≡ columnsByte line → n ≡ length (wordsIn line) → run ≡ begun (wordsIn line) lent
+      → KeptRun (readMovesCall line lent) (gives (rows ∷ columns ∷ n ∷ [])) run
+  unfolding readMovesCall storedOf
+  read-kept rows columns n run e r c k w = run-else (firstGiven (moveLineChecks line lent)) lent _ (gives (rows ∷ columns ∷ n ∷ [])) run e (λ i. gives (r i ∷ c i ∷ k i ∷ [])) w
+
+module _ (rows columns : ℕ) (list : List ℕ) (n : ℕ) (lent : List ℕ) where
+  pub write-refused : (f : Refusal) → some f ≡ firstGiven (writeChecks rows columns list n lent) → KeptRun (writeMovesCall rows columns list n lent) (refuses f) lent
+  unfolding writeMovesCall
+  write-refused f e = run-refused (firstGiven (writeChecks rows columns list n lent)) lent _ f e
+
+  pub write-kept : (digits : ℕ) (run : List ℕ) → none ≡ firstGiven (writeChecks rows columns list n lent) → digits ≡ 4 + 8 * n → run ≡ begun (moveLine rows columns (take n list)) lent
+      → KeptRun (writeMovesCall rows columns list n lent) (gives (digits ∷ [])) run
+  unfolding writeMovesCall
+  write-kept digits run e d w = run-else (firstGiven (writeChecks rows columns list n lent)) lent _ (gives (digits ∷ [])) run e (λ i. gives (d i ∷ [])) w

@@ -42,9 +42,11 @@ loop-again : tie.Need-loop-again Inv-loop μ-loop
 loop-again c =
     let l = c .before .before .loop in
     let a = c .before .before .before .before .before .args in
-    let n = length-stored (a .line .now) (omega arith) in
-    (omega arith, length-set (l .list) (l .k) (c .word-at .result) ∙ l .inv .1,
-    list-more (wordsIn (a .line .now)) (a .list .now) (l .list) (l .k) (c .word-at .result) (l .inv .2) (c .word-at .ensures .0) (omega arith) (omega arith))
+    let n = length-stored (a .line .now) (omega arith) in (
+      omega arith,
+      length-set (l .list) (l .k) (c .word-at .result) ∙ l .inv .1,
+      list-more (wordsIn (a .line .now)) (a .list .now) (l .list) (l .k) (c .word-at .result) (l .inv .2) (c .word-at .ensures .0) (omega arith) (omega arith),
+    )
 
 same-length : tie.Need-same-length Inv-loop μ-loop
 same-length c = c .before .loop .inv .1

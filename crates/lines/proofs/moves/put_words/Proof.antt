@@ -52,11 +52,13 @@ loop-again c =
     let old = a .line .now in
     let e = c .before .before .put-word .ensures in
     let ds = concat-map byteDigits (wordBytes (getD list (l .k) 0)) in
-    let n = length-take-le (l .k) list (omega arith) in
-    (omega arith, ap length e ∙ length-sets (l .line) (8 * l .k + 4) ds ∙ l .inv .1,
-    e ∙ ap (λ (r : List ℕ). sets r (8 * l .k + 4) ds) (l .inv .2)
-    ∙ sets-more old 4 (8 * l .k + 4) (wordDigits (take (l .k) list)) ds (omega (arith, length-digits (take (l .k) list)))
-    ∙ ap (sets old 4) (sym (digits-more list (l .k) (omega arith))))
+    let n = length-take-le (l .k) list (omega arith) in (
+      omega arith,
+      ap length e ∙ length-sets (l .line) (8 * l .k + 4) ds ∙ l .inv .1,
+      e ∙ ap (λ (r : List ℕ). sets r (8 * l .k + 4) ds) (l .inv .2)
+          ∙ sets-more old 4 (8 * l .k + 4) (wordDigits (take (l .k) list)) ds (omega (arith, length-digits (take (l .k) list)))
+          ∙ ap (sets old 4) (sym (digits-more list (l .k) (omega arith))),
+    )
 
 same-length : tie.Need-same-length Inv-loop μ-loop
 same-length c = c .before .loop .inv .1

@@ -1,50 +1,58 @@
+-- `lines::moves::write_moves`: refused as the checks say, else the line written. Assumes nothing.
+use native.Mathlib.Omega.{arith}
+use mathlib.Core.Path.{_≡_, ap, sym, _∙_}
+use mathlib.Core.Option.{none}
+use Rattle.game.specs.Calls.{firstGiven}
+use Rattle.lines.specs.MoveLine.{writeChecks}
+use Rattle.lines.specs.Answers.{refusalOf}
+use Rattle.lines.proofs.MoveCalls.{PassedWrite, passed-write, write-kept, write-refused}
 use borrow.Author.Needs.{needs}
 use Rattle.lines.proofs.moves.write_moves.Statement.{statement}
 use Rattle.lines.proofs.moves.write_moves.Tie as tie
-use Rattle.lines.proofs.moves.write_moves.Reads as reads
-use Rattle.lines.proofs.moves.write_moves.Lts as lts
-use Rattle.lines.proofs.moves.check_written.Reads as check-written-reads
-use Rattle.lines.proofs.moves.put_moves.Reads as put-moves-reads
 
--- src/moves.rt:160:9
+-- where nothing is refused
+verdict : (c : tie.After-enum-told)
+    → none ≡ firstGiven (writeChecks (c .before .before .before .before .before .before .args .rows) (c .before .before .before .before .before .before .args .columns) (c .before .before .before .before .before .before .args .list .now) (c .before .before .before .before .before .before .args .count) (c .before .before .before .before .before .before .args .line .now))
+verdict c = ap refusalOf (sym (c .enum-told .given .1)) ∙ c .before .before .check-written .ensures
+
+fine : (c : tie.After-enum-told) → PassedWrite (c .before .before .before .before .before .before .args .rows) (c .before .before .before .before .before .before .args .columns) (c .before .before .before .before .before .before .args .list .now) (c .before .before .before .before .before .before .args .count) (c .before .before .before .before .before .before .args .line .now)
+fine c = passed-write _ _ _ _ _ (sym (verdict c))
+
 check-written-requires : tie.Need-check-written-requires
 check-written-requires c κs = search needs
 
--- src/moves.rt:162:26
 enum-known-checked : tie.Need-enum-known-checked
 enum-known-checked c = search needs
 
--- src/moves.rt:164:51
 enum-told : tie.Need-enum-told
 enum-told c = search needs
 
--- src/moves.rt:164:13
 put-moves-requires : tie.Need-put-moves-requires
-put-moves-requires c κs = ?
+put-moves-requires c κs =
+    let p = fine (c .before) in
+    (omega (arith, p .few-rows), omega (arith, p .few-columns), omega (arith, p .moves), omega (arith, p .room))
 
--- src/moves.rt:165:34
 mul-t14 : tie.Need-mul-t14
-mul-t14 c = ?
+mul-t14 c = omega (arith, fine (c .before .before .before .before) .room)
 
--- src/moves.rt:165:34
 add-t15 : tie.Need-add-t15
-add-t15 c = ?
+add-t15 c = omega (arith, fine (c .before .before .before .before) .room)
 
--- src/moves.rt:151:1
 same-length : tie.Need-same-length
 same-length c = search needs
 
--- src/moves.rt:151:1
 returns : tie.Need-returns
-returns c = ?
+returns c =
+    let a = c .before .before .before .before .before .before .before .args in
+    write-refused (a .rows) (a .columns) (a .list .now) (a .count) (a .line .now) _ (ap refusalOf (sym (c .before .checked .given .1)) ∙ c .before .before .before .check-written .ensures)
 
--- src/moves.rt:151:1
 same-length-2 : tie.Need-same-length-2
 same-length-2 c = search needs
 
--- src/moves.rt:151:1
 returns-2 : tie.Need-returns-2
-returns-2 c = ?
+returns-2 c =
+    let a = c .before .before .before .before .before .before .before .before .before .before .args in
+    write-kept (a .rows) (a .columns) (a .list .now) (a .count) (a .line .now) _ _ (verdict (c .before .before .before .before)) (omega arith) (c .before .before .put-moves .ensures)
 
 pub write-moves-spec : {M : Type 1} → statement M
 write-moves-spec =
