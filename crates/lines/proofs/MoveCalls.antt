@@ -73,6 +73,12 @@ module _ (line lent : List ℕ) where
         pub all-fine : length (wordsIn line) ≤ length lent → none ≡ firstGiven (moveLineChecks line lent)
         all-fine h = by false false false false clean (framed) (shaped) (le-ltb (length lent) (length (wordsIn line)) h)
 
+-- a stored line that only room can refuse
+pub but-room : (line lent : List ℕ) → some-of isWrong line ≡ false → 4 ≤ length line → length line % 8 ≡ 4 → (rowsByte line ≡ 0 → ⊥) → rowsByte line < 256 → (columnsByte line ≡ 0 → ⊥) → columnsByte line < 256
+    → firstGiven (moveLineChecks line lent) ≡ firstGiven (record { given = ltb (length lent) (length (wordsIn line)); refusal = trace } ∷ [])
+but-room line lent clean enough whole rows few-rows columns few-columns =
+    sym (by line lent false false false (ltb (length lent) (length (wordsIn line))) clean (framed line lent clean enough whole) (shaped line lent clean enough whole rows few-rows columns few-columns) refl)
+
 -- a stored line that passes every check
 pub record PassedMoves (line lent : List ℕ) : Type 0 where
   pub clean : some-of isWrong line ≡ false
