@@ -42,20 +42,11 @@ pub record Digits (line : List ℕ) : Type 0 where
 abbrev any : Bool → Bool → Bool → Bool → Bool
 any a b c d = a || (b || ((c || d) || false))
 
-or-none : (d : Bool) → d ≡ (d || false)
-or-none true = refl
-or-none false = refl
-
 module _ (line : List ℕ) where
   pub digits-by : (a b c d : Bool) → some-of isWrong line ≡ a → eqb (length line % 2) 1 ≡ b → ltb (length line) 4 ≡ c → ltb 516 (length line) ≡ d
       → any a b c d ≡ digitsRefused line
   unfolding digitsRefused
   digits-by a b c d e f g h = sym (λ i. any (e i) (f i) (g i) (h i))
-
-  pub digits-last : some-of isWrong line ≡ false → (length line % 2 ≡ 1 → ⊥) → 4 ≤ length line → ltb 516 (length line) ≡ digitsRefused line
-  digits-last e f g =
-      or-none (ltb 516 (length line))
-      ∙ digits-by false false false (ltb 516 (length line)) e (ne-eqb (length line % 2) 1 f) (le-ltb (length line) 4 g) refl
 
   pub digits-good : digitsRefused line ≡ false → Digits line
   unfolding digitsRefused

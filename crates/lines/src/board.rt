@@ -101,7 +101,10 @@ fn digits_refused(line: &[u8]) -> bool
     if line.len() < 4 {
         return true;
     }
-    516 < line.len()
+    if 516 < line.len() {
+        return true;
+    }
+    false
 }
 
 // The checks of a board line, in their order.
