@@ -15,7 +15,7 @@ use Rattle.game.specs.Lists.{range, some-of}
 use Rattle.game.specs.Grid.{size}
 use Rattle.game.specs.Calls.{Refusal, firstGiven, frame, shape, sideOut, size-over}
 use Rattle.lines.specs.Hex.{bytesOf, isWrong}
-use Rattle.lines.specs.BoardLine.{bitBytes, digitsRefused, gridOfBytes, lineGrid, lineRefusal, mineBit, valueOf}
+use Rattle.lines.specs.BoardLine.{bitBetween, bitBytes, digitsRefused, gridOfBytes, lineGrid, lineRefusal, mineBit, valueOf}
 use Rattle.lines.proofs.Bytes.{length-bytes}
 use Rattle.lines.proofs.Runs.{length-cells}
 
@@ -105,6 +105,10 @@ digits-frame line e = go (some-of isWrong line) (eqb (length line % 2) 1) (ltb (
     go false false true d s o n p e = refl
     go false false false true s o n p e = refl
     go false false false false s o n p e = absurd (true≢false (sym e))
+
+pub padding-by : (line : List ℕ) (a b : ℕ) (r : Bool) → r ≡ bitBetween (bytesOf line) a b → a ≡ cellsOf line → b ≡ 8 * bitBytes (cellsOf line) → r ≡ paddingSet line
+unfolding bitBetween
+padding-by line a b r e f g = e ∙ (λ i. bitBetween (bytesOf line) (f i) (g i))
 
 pub side-none : (n : ℕ) → n ≡ 0 → sideOut n ≡ true
 side-none n e = ap (λ (t : Bool). t || ltb 255 n) (eq-eqb n 0 e)

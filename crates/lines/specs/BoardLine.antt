@@ -20,6 +20,10 @@ bitAt bytes k = eqb (getD bytes (k / 8) 0 / 2 ^ (7 - k % 8) % 2) 1
 abbrev pub mineBit : List ℕ → ℕ → Bool
 mineBit bytes k = bitAt bytes (16 + k)
 
+-- one of the mine bits from one place up to another is set
+unfoldable pub bitBetween : List ℕ → ℕ → ℕ → Bool
+bitBetween bytes a b = some-of (mineBit bytes) (range a b)
+
 -- -1 for a mine bit, 0 for another
 abbrev pub valueOf : Bool → ℤ
 valueOf b = cond b (negsuc 0) (pos 0)
