@@ -1,5 +1,5 @@
 -- Bytes of two digits: each stands where its digits stand. Assumes nothing.
-use Prim.Native.Nat.{ℕ, zero, suc, _+_, _-_, _*_, _/_, _%_, _<_, _≤_}
+use Prim.Native.Nat.{ℕ, zero, suc, _+_, _-_, _*_, _/_, _%_, _≤_}
 use native.Mathlib.Omega.{arith}
 use mathlib.Core.Path.{_≡_, ap, refl, sym, _∙_}
 use mathlib.Core.List.{List, [], _∷_, _++_}
@@ -8,7 +8,6 @@ use lib.Seq.{sets}
 use Rattle.game.specs.Lists.{concat-map}
 use Rattle.lines.specs.Hex.{byteDigits, bytesOf, hexValue}
 use Rattle.lines.specs.PriceLine.{twoBytes}
-use Rattle.lines.proofs.Digits.{value-small}
 
 two-more : (k : ℕ) → 2 * suc k ≡ suc (suc (2 * k))
 two-more k = omega arith

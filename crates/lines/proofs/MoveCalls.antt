@@ -1,6 +1,5 @@
 -- The checks of stored lines by their tests, and what reading and writing come to. Assumes nothing.
-use Prim.Native.Nat.{ℕ, _+_, _*_, _/_, _%_, _<_, _≤_}
-use native.Mathlib.Omega.{arith}
+use Prim.Native.Nat.{ℕ, _+_, _*_, _%_, _<_, _≤_}
 use mathlib.Core.Path.{_≡_, ap, refl, sym, _∙_}
 use mathlib.Core.Bool.{Bool, true, false, not, _||_}
 use mathlib.Core.List.{List, [], _∷_}
@@ -11,7 +10,7 @@ use borrow.Author.Tests.{eq-eqb, eqb-true, le-ltb, lt-ltb, ltb-false, ne-eqb, no
 use Rattle.game.specs.Lists.{some-of}
 use Rattle.game.specs.Area.{begun}
 use Rattle.game.specs.Calls.{Answer, Refusal, firstGiven, frame, gives, refuses, shape, sideOut, trace}
-use Rattle.lines.specs.Hex.{bytesOf, isWrong}
+use Rattle.lines.specs.Hex.{isWrong}
 use Rattle.lines.specs.MoveLine.{RunOutcome, moveLine, moveLineChecks, readMovesCall, storedOf, unlessGiven, writeChecks, writeMovesCall}
 use Rattle.lines.specs.Answers.{KeptRun}
 use Rattle.lines.proofs.Verdict.{columnsByte, either-false, none≢some, rowsByte, side-fine, side-in, side-none}

@@ -4,19 +4,19 @@ use native.Mathlib.Omega.{arith}
 use native.Mathlib.Decide.{decLe}
 use mathlib.Core.Path.{_≡_, ap, refl, sym, _∙_}
 use mathlib.Core.Bool.{Bool, true, false, _||_, cond, not}
-use mathlib.Core.List.{List, [], _∷_, _++_}
-use mathlib.Core.Option.{Option, none, some}
-use lib.Dec.{eqb, ltb}
+use mathlib.Core.List.{List, [], _∷_}
+use mathlib.Core.Option.{none}
+use lib.Dec.{ltb}
 use lib.ListN.{drop, getD, length, length-drop}
 use Rattle.game.specs.Lists.{Each, concat-map, some-of}
 use Rattle.game.specs.Calls.{firstGiven, trace}
 use Rattle.lines.specs.Hex.{byteDigits, bytesOf, hexDigit, hexValue, isDecimal, isLetter, isWrong}
-use Rattle.lines.specs.MoveLine.{Stored, moveLine, moveLineChecks, storedOf, wordBytes, wordsOf}
+use Rattle.lines.specs.MoveLine.{moveLine, moveLineChecks, storedOf, wordBytes, wordsOf}
 use Rattle.lines.proofs.Digits.{from-low, high-digit, inside, low-digit, over, to-high, value-small}
 use Rattle.lines.proofs.Bytes.{length-bytes}
 use Rattle.lines.proofs.Verdict.{columnsByte, either-false, rowsByte, true≢false}
 use Rattle.lines.proofs.Words.{length-line, wordsIn}
-use Rattle.lines.proofs.MoveCalls.{PassedMoves, but-room, passed-moves}
+use Rattle.lines.proofs.MoveCalls.{but-room, passed-moves}
 
 -- numbers below a limit
 abbrev pub Below : ℕ → List ℕ → Type 0

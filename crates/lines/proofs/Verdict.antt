@@ -1,17 +1,17 @@
 -- The checks of a board line by their tests: the first that is given, and what holds where none is. Assumes nothing.
-use Prim.Native.Nat.{ℕ, _+_, _*_, _/_, _%_, _<_, _≤_}
+use Prim.Native.Nat.{ℕ, _+_, _*_, _%_, _<_, _≤_}
 use native.Mathlib.Omega.{arith}
 use native.Mathlib.Decide.{decLe}
 use native.Mathlib.Nat.{mul-le-mul-left}
 use mathlib.Core.Path.{_≡_, ap, refl, subst, sym, _∙_}
 use mathlib.Core.Bool.{Bool, true, false, not, _||_}
-use mathlib.Core.List.{List, [], _∷_, _++_}
+use mathlib.Core.List.{List, [], _∷_}
 use mathlib.Core.Option.{Option, none, some}
 use lib.Dec.{eqb, ltb}
 use lib.ListN.{getD, length, length-take, take}
 use lib.Seq.{take-all}
 use borrow.Author.Tests.{eq-eqb, eqb-false, eqb-true, le-ltb, lt-ltb, ltb-false, ne-eqb, not-false}
-use Rattle.game.specs.Lists.{range, some-of}
+use Rattle.game.specs.Lists.{some-of}
 use Rattle.game.specs.Grid.{size}
 use Rattle.game.specs.Calls.{Refusal, firstGiven, frame, shape, sideOut, size-over}
 use Rattle.lines.specs.Hex.{bytesOf, isWrong}
@@ -92,7 +92,7 @@ abbrev pub cellsOf : List ℕ → ℕ
 cellsOf line = rowsByte line * columnsByte line
 
 abbrev pub paddingSet : List ℕ → Bool
-paddingSet line = some-of (mineBit (bytesOf line)) (range (cellsOf line) (8 * bitBytes (cellsOf line)))
+paddingSet line = bitBetween (bytesOf line) (cellsOf line) (8 * bitBytes (cellsOf line))
 
 pub digits-frame : (line : List ℕ) → digitsRefused line ≡ true → some frame ≡ lineRefusal line
 unfolding digitsRefused lineRefusal gridOfBytes
@@ -107,7 +107,6 @@ digits-frame line e = go (some-of isWrong line) (eqb (length line % 2) 1) (ltb (
     go false false false false s o n p e = absurd (true≢false (sym e))
 
 pub padding-by : (line : List ℕ) (a b : ℕ) (r : Bool) → r ≡ bitBetween (bytesOf line) a b → a ≡ cellsOf line → b ≡ 8 * bitBytes (cellsOf line) → r ≡ paddingSet line
-unfolding bitBetween
 padding-by line a b r e f g = e ∙ (λ i. bitBetween (bytesOf line) (f i) (g i))
 
 pub side-none : (n : ℕ) → n ≡ 0 → sideOut n ≡ true

@@ -5,12 +5,11 @@ use native.Mathlib.Nat.{zero-add}
 use native.Mathlib.Numerals.{add-one}
 use mathlib.Core.Path.{_≡_, ap, refl, sym, _∙_}
 use mathlib.Core.List.{List, [], _∷_, _++_, append-assoc}
-use lib.ListN.{drop, getD, length, length-append, length-drop, set, take}
+use lib.ListN.{drop, getD, length, length-drop, set, take}
 use lib.Seq.{getD-drop, length-take-le, sets, sets-eq, take-suc}
 use Rattle.game.specs.Lists.{concat-map}
 use Rattle.game.specs.Area.{begun}
 use Rattle.lines.specs.Hex.{byteDigits, bytesOf}
-use Rattle.lines.specs.PriceLine.{twoBytes}
 use Rattle.lines.specs.MoveLine.{moveLine, wordBytes, wordDigits, wordsOf}
 use Rattle.lines.proofs.Bytes.{length-bytes, sets-more}
 use Rattle.lines.proofs.Priced.{twoDigits}

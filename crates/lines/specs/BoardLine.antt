@@ -72,7 +72,7 @@ bytesCheck g bytes = record { given = not (eqb (length bytes) (2 + bitBytes (siz
 -- FRAME: a padding bit is set
 abbrev pub paddingCheck : Grid → List ℕ → Check
 paddingCheck g bytes =
-    record { given = some-of (mineBit bytes) (range (size g) (8 * bitBytes (size g))); refusal = frame }
+    record { given = bitBetween bytes (size g) (8 * bitBytes (size g)); refusal = frame }
 
 -- the checks of a board line, in their order
 abbrev pub boardLineChecks : List ℕ → List Check

@@ -1,8 +1,7 @@
 -- `lines::board::bit_between`: what is passed has no bit set. Assumes nothing.
-use Prim.Native.Nat.{ℕ, _-_, _≤_}
+use Prim.Native.Nat.{_-_, _≤_}
 use native.Mathlib.Omega.{arith}
 use mathlib.Core.Path.{_≡_, refl, sym, _∙_}
-use mathlib.Core.Bool.{Bool}
 use borrow.Author.Needs.{needs}
 use Rattle.game.specs.Lists.{range, some-of}
 use Rattle.lines.specs.Hex.{bytesOf}

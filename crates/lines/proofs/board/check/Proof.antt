@@ -4,7 +4,6 @@ use native.Mathlib.Omega.{arith}
 use mathlib.Core.Path.{_≡_, sym, _∙_}
 use mathlib.Core.Bool.{false}
 use mathlib.Core.List.{List}
-use lib.ListN.{length}
 use Rattle.lines.specs.BoardLine.{digitsRefused}
 use Rattle.lines.proofs.Verdict.{Digits, all-fine, cellsOf, columnsByte, digits-frame, digits-good, many-cells, no-columns, no-rows, other-bytes, padding-by, padding-set, paddingSet, product-small, rowsByte}
 use borrow.Author.Needs.{needs}
