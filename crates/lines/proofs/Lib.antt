@@ -1,0 +1,10 @@
+pub mod Digits
+pub mod Bytes
+pub mod Bits
+pub mod Runs
+pub mod Priced
+pub mod Verdict
+pub mod Calls
+pub mod Words
+pub mod MoveCalls
+pub mod Stores

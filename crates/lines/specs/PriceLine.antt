@@ -1,0 +1,32 @@
+-- A price line: a byte 00 or the refusal, then 3BV, greedy and openings-first clicks, two bytes each, high first. Assumes nothing.
+use Prim.Native.Nat.{ℕ, _/_, _%_}
+use mathlib.Core.List.{List, [], _∷_, _++_}
+use Rattle.game.specs.Lists.{concat-map}
+use Rattle.lines.specs.Hex.{byteDigits}
+use Rattle.lines.specs.declared.price.Price as Struct
+
+-- 00 or the refusal, then 3BV, greedy and openings-first clicks
+pub record Price : Type 0 where
+  pub number : ℕ
+  pub units : ℕ
+  pub greedy : ℕ
+  pub openings-first : ℕ
+
+-- two bytes, high first
+abbrev pub twoBytes : ℕ → List ℕ
+twoBytes n = n / 256 % 256 ∷ n % 256 ∷ []
+
+-- the fourteen digits that are printed
+unfoldable pub priceDigits : Price → List ℕ
+priceDigits p =
+    concat-map byteDigits (p .number % 256 ∷ twoBytes (p .units) ++ twoBytes (p .greedy) ++ twoBytes (p .openings-first))
+
+-- the price that a struct holds
+abbrev pub heldPrice : Struct.Price → Price
+heldPrice p =
+    record {
+      number = p .number;
+      units = p .units;
+      greedy = p .greedy;
+      openings-first = p .«openings_first»;
+    }

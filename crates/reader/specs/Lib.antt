@@ -1,0 +1,3 @@
+-- The board reader: board lines in, prices out.
+pub mod Prices
+pub mod Blocks

@@ -1,0 +1,1 @@
+// The board reader's work on slices: one line priced, and a block of input answered.
