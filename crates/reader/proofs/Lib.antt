@@ -1,0 +1,4 @@
+pub mod Cuts
+pub mod Kept
+pub mod Desks
+pub mod Sessions
