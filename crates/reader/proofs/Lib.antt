@@ -2,3 +2,4 @@ pub mod Cuts
 pub mod Kept
 pub mod Desks
 pub mod Sessions
+pub mod Case

@@ -1,3 +1,4 @@
 -- The board reader: board lines in, prices out.
 pub mod Prices
 pub mod Blocks
+pub mod WholeCase
