@@ -3,3 +3,4 @@ pub mod Kept
 pub mod Desks
 pub mod Sessions
 pub mod Case
+pub mod Figures

@@ -1,4 +1,5 @@
 -- The board reader: board lines in, prices out.
+pub mod Taken
 pub mod Prices
 pub mod Blocks
 pub mod WholeCase
