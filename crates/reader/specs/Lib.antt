@@ -2,4 +2,5 @@
 pub mod Taken
 pub mod Prices
 pub mod Blocks
+pub mod Answers
 pub mod WholeCase
