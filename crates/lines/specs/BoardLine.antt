@@ -24,13 +24,17 @@ mineBit bytes k = bitAt bytes (16 + k)
 abbrev pub valueOf : Bool → ℤ
 valueOf b = cond b (negsuc 0) (pos 0)
 
+-- the values of n cells
+abbrev pub cellValues : List ℕ → ℕ → List ℤ
+cellValues bytes n = map (λ k. valueOf (mineBit bytes k)) (range 0 n)
+
 -- the grid that the bytes of a board line stand for
 unfoldable pub gridOfBytes : List ℕ → Grid
 gridOfBytes bytes =
     record {
       rows = getD bytes 0 0;
       columns = getD bytes 1 0;
-      values = map (λ k. valueOf (mineBit bytes k)) (range 0 (getD bytes 0 0 * getD bytes 1 0));
+      values = cellValues bytes (getD bytes 0 0 * getD bytes 1 0);
     }
 
 -- the grid that a board line stands for
@@ -48,6 +52,10 @@ digitChecks line =
     ∷ record { given = eqb (length line % 2) 1; refusal = frame }
     ∷ record { given = ltb (length line) 4 || ltb 516 (length line); refusal = frame }
     ∷ []
+
+-- one of them is given
+unfoldable pub digitsRefused : List ℕ → Bool
+digitsRefused line = some-of (λ (c : Check). c .given) (digitChecks line)
 
 -- SIZE: over 2,048 cells
 abbrev pub sizeCheck : Grid → Check

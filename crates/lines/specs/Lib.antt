@@ -3,3 +3,5 @@ pub mod Hex
 pub mod BoardLine
 pub mod PriceLine
 pub mod MoveLine
+pub mod Sorts
+pub mod Answers

@@ -3,6 +3,7 @@ use Prim.Native.Nat.{ℕ, _/_, _%_}
 use mathlib.Core.List.{List, [], _∷_, _++_}
 use Rattle.game.specs.Lists.{concat-map}
 use Rattle.lines.specs.Hex.{byteDigits}
+use Rattle.lines.specs.declared.price.Price as Struct
 
 -- 00 or the refusal, then 3BV, greedy and openings-first clicks
 pub record Price : Type 0 where
@@ -19,3 +20,13 @@ twoBytes n = n / 256 % 256 ∷ n % 256 ∷ []
 unfoldable pub priceDigits : Price → List ℕ
 priceDigits p =
     concat-map byteDigits (p .number % 256 ∷ twoBytes (p .units) ++ twoBytes (p .greedy) ++ twoBytes (p .openings-first))
+
+-- the price that a struct holds
+abbrev pub heldPrice : Struct.Price → Price
+heldPrice p =
+    record {
+      number = p .number;
+      units = p .units;
+      greedy = p .greedy;
+      openings-first = p .«openings_first»;
+    }

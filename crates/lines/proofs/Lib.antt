@@ -1,0 +1,7 @@
+pub mod Digits
+pub mod Bytes
+pub mod Bits
+pub mod Runs
+pub mod Priced
+pub mod Verdict
+pub mod Calls

@@ -1,0 +1,28 @@
+-- `lines::hex::digit_of`: a digit to 9, a capital letter above. Assumes nothing.
+use borrow.Author.Needs.{needs}
+use Rattle.lines.proofs.Digits.{high-digit, low-digit}
+use Rattle.lines.proofs.hex.digit_of.Statement.{statement}
+use Rattle.lines.proofs.hex.digit_of.Tie as tie
+
+add-result : tie.Need-add-result
+add-result c = search needs
+
+cast-result : tie.Need-cast-result
+cast-result c = search needs
+
+returns : tie.Need-returns
+returns c = low-digit (c .before .args .value) (c .if1 .taken)
+
+add-result-2 : tie.Need-add-result-2
+add-result-2 c = search needs
+
+cast-result-2 : tie.Need-cast-result-2
+cast-result-2 c = search needs
+
+returns-2 : tie.Need-returns-2
+returns-2 c = high-digit (c .before .args .value) (c .if1 .left)
+
+pub digit-of-spec : {M : Type 1} → statement M
+digit-of-spec =
+    tie.close
+    (tie.spec add-result cast-result returns add-result-2 cast-result-2 returns-2)

@@ -1,0 +1,11 @@
+-- What one byte of a line is: a hex value, the line's end, or wrong. Assumes nothing.
+use Prim.Native.Nat.{ℕ}
+use mathlib.Core.Bool.{_||_, cond}
+use lib.Dec.{eqb}
+use Rattle.lines.specs.Hex.{hexValue, isDecimal, isLetter}
+use Rattle.lines.specs.declared.Sort.{Sort}
+use Rattle.lines.specs.declared.Sort.the-variants.{Digit, End, Wrong}
+
+-- each byte of a line is one of digit, capital letter A to F, line feed, or it is wrong
+unfoldable pub sortOf : ℕ → Sort
+sortOf b = cond (isDecimal b || isLetter b) (Digit (hexValue b)) (cond (eqb b 10) End Wrong)
