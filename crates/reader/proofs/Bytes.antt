@@ -79,11 +79,11 @@ room-left d bs m n r h =
     block-answers bs begun d (own-line (d .held) (d .count) (r .held-room) (r .few)) (r .held-room) (omega (arith, r .out-room)) in
     record {
       room =
-        record {
-          held-room = omega (arith, r .held-room, t .held-whole);
-          few = omega (arith, t .keeps .counted, length-take 517 (cutFrom begun bs .goes-on));
-          out-room = omega (arith, r .out-room, t .out-whole, t .fifteen-each, ended-few begun bs);
-        };
+          record {
+            held-room = omega (arith, r .held-room, t .held-whole);
+            few = omega (arith, t .keeps .counted, length-take 517 (cutFrom begun bs .goes-on));
+            out-room = omega (arith, r .out-room, t .out-whole, t .fifteen-each, ended-few begun bs);
+          };
       held-whole = t .held-whole;
       out-whole = t .out-whole;
     }

@@ -6,3 +6,5 @@ pub mod Bytes
 pub mod Verdict
 pub mod Case
 pub mod Figures
+pub mod Boards
+pub mod Lines

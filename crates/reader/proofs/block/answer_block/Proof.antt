@@ -9,23 +9,23 @@ use Rattle.reader.proofs.block.answer_block.Statement.{statement}
 use Rattle.reader.proofs.block.answer_block.Tie as tie
 
 returns : tie.Need-returns
-returns c = 
+returns c =
     let a = c .before .before .before .before .args in
     block-refused (a .block .now) (a .held .now) (a .count) (a .out .now) work (short-held (a .held .now) (a .count) (a .out .now) (length (a .block .now)) (c .if1 .taken))
 
 returns-2 : tie.Need-returns-2
-returns-2 c = 
+returns-2 c =
     let a = c .before .before .before .before .before .args in
     block-refused (a .block .now) (a .held .now) (a .count) (a .out .now) work (many-kept (a .held .now) (a .count) (a .out .now) (length (a .block .now)) (c .before .if1 .left) (c .if2 .taken))
 
 returns-3 : tie.Need-returns-3
-returns-3 c = 
+returns-3 c =
     let a = c .before .before .before .before .before .before .args in
     block-refused (a .block .now) (a .held .now) (a .count) (a .out .now) trace
     (short-out (a .held .now) (a .count) (a .out .now) (length (a .block .now)) (c .before .before .if1 .left) (c .before .if2 .left) (short-by (length (a .out .now)) (length (a .block .now)) (c .if3 .taken)))
 
 read-block-requires : tie.Need-read-block-requires
-read-block-requires c κs = 
+read-block-requires c κs =
     let a = c .before .before .before .before .before .before .before .before .args in
     record { held-room = c .before .before .before .before .if1 .left; few = c .before .before .before .if2 .left; out-room = omega (arith, room-by (length (a .out .now)) (length (a .block .now)) (c .before .before .if3 .left)) }
 
@@ -36,7 +36,7 @@ same-length-2 : tie.Need-same-length-2
 same-length-2 c = search needs
 
 returns-4 : tie.Need-returns-4
-returns-4 c = 
+returns-4 c =
     let a = c .before .before .before .before .before .before .before .before .before .before .before .before .before .args in
     let r = c .before .before .before .before .read-block in
     block-kept (a .block .now) (a .held .now) (a .count) (a .out .now) (deskAt (r .last .1 .0) (r .result) (r .last .1 .1 .1 .0))

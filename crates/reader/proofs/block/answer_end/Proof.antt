@@ -8,22 +8,22 @@ use Rattle.reader.proofs.block.answer_end.Statement.{statement}
 use Rattle.reader.proofs.block.answer_end.Tie as tie
 
 returns : tie.Need-returns
-returns c = 
+returns c =
     let a = c .before .before .before .args in
     end-refused (a .held .now) (a .count) (a .out .now) work (short-held (a .held .now) (a .count) (a .out .now) 1 (c .if1 .taken))
 
 returns-2 : tie.Need-returns-2
-returns-2 c = 
+returns-2 c =
     let a = c .before .before .before .before .args in
     end-refused (a .held .now) (a .count) (a .out .now) work (many-kept (a .held .now) (a .count) (a .out .now) 1 (c .before .if1 .left) (c .if2 .taken))
 
 returns-3 : tie.Need-returns-3
-returns-3 c = 
+returns-3 c =
     let a = c .before .before .before .before .before .args in
     end-refused (a .held .now) (a .count) (a .out .now) trace (short-out (a .held .now) (a .count) (a .out .now) 1 (c .before .before .if1 .left) (c .before .if2 .left) (c .if3 .taken))
 
 returns-4 : tie.Need-returns-4
-returns-4 c = 
+returns-4 c =
     let a = c .before .before .before .before .before .before .args in
     end-empty (a .held .now) (a .count) (a .out .now) (fine (a .held .now) (a .count) (a .out .now) 1 (c .before .before .before .if1 .left) (c .before .before .if2 .left) (c .before .if3 .left)) (c .if4 .taken)
 
@@ -34,7 +34,7 @@ same-length : tie.Need-same-length
 same-length c = search needs
 
 returns-5 : tie.Need-returns-5
-returns-5 c = 
+returns-5 c =
     let a = c .before .before .before .before .before .before .before .before .before .before .args in
     let r = c .before .before .end-line in
     end-answered (a .held .now) (a .count) (a .out .now) (deskAt (a .held .now) (r .result) (r .last .1 .0))

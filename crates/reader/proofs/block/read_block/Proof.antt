@@ -23,7 +23,7 @@ shared-slice-read-read-byte : tie.Need-shared-slice-read-read-byte Inv-loop μ-l
 shared-slice-read-read-byte c = omega arith
 
 read-byte-requires : tie.Need-read-byte-requires Inv-loop μ-loop
-read-byte-requires c κs = 
+read-byte-requires c κs =
     let s = c .before .before .before .before .before .before .before .before in
     let l = c .before .before .before .before .loop in
     let r = read-room (s .args .block .now) (deskOf (s .args .held .now) (s .args .count) (s .args .out .now)) (s .pre) (l .i) (l .inv .0) (deskAt (l .held) (l .place) (l .out)) (l .inv .1) in
@@ -36,7 +36,7 @@ loop-less : tie.Need-loop-less Inv-loop μ-loop
 loop-less c = omega arith
 
 loop-again : tie.Need-loop-again Inv-loop μ-loop
-loop-again c = 
+loop-again c =
     let s = c .before .before .before .before .before .before .before .before .before .before .before .before .before in
     let l = c .before .before .before .before .before .before .before .before .before .loop in
     let b = s .args .block .now in
@@ -44,19 +44,19 @@ loop-again c =
     (omega arith, c .before .before .before .before .read-byte .ensures ∙ ap (λ (d : Desk). byteRead d (getD b (l .i) 0)) (l .inv .1) ∙ sym (one-more b (l .i) (deskOf (s .args .held .now) (s .args .count) (s .args .out .now)) more))
 
 same-length : tie.Need-same-length Inv-loop μ-loop
-same-length c = 
+same-length c =
     let s = c .before .before .before .before .before in
     let l = c .before .loop in
     read-held (s .args .block .now) (deskOf (s .args .held .now) (s .args .count) (s .args .out .now)) (s .pre) (l .i) (l .inv .0) (deskAt (l .held) (l .place) (l .out)) (l .inv .1)
 
 same-length-2 : tie.Need-same-length-2 Inv-loop μ-loop
-same-length-2 c = 
+same-length-2 c =
     let s = c .before .before .before .before .before in
     let l = c .before .loop in
     read-out (s .args .block .now) (deskOf (s .args .held .now) (s .args .count) (s .args .out .now)) (s .pre) (l .i) (l .inv .0) (deskAt (l .held) (l .place) (l .out)) (l .inv .1)
 
 returns : tie.Need-returns Inv-loop μ-loop
-returns c = 
+returns c =
     let s = c .before .before .before .before .before in
     let l = c .before .loop in
     let all : length (s .args .block .now) ≤ l .i = omega arith in

@@ -16,12 +16,12 @@ same-length-2 : tie.Need-same-length-2
 same-length-2 c = search needs
 
 returns : tie.Need-returns
-returns c = 
+returns c =
     let s = c .before .before .before .before .before .before .before .before .args in
     c .before .before .end-line .ensures ∙ feed-read (deskAt (s .held .now) (s .place) (s .out .now)) (s .byte) (c .before .before .before .before .before .if1 .taken)
 
 returns-2 : tie.Need-returns-2
-returns-2 c = 
+returns-2 c =
     let s = c .before .before .before .before .args in
     full-read (deskAt (s .held .now) (s .place) (s .out .now)) (s .byte) (c .before .if1 .left) (c .if2 .taken)
 
@@ -35,7 +35,7 @@ same-length-3 : tie.Need-same-length-3
 same-length-3 c = search needs
 
 returns-3 : tie.Need-returns-3
-returns-3 c = 
+returns-3 c =
     let s = c .before .before .before .before .args in
     kept-read (deskAt (s .held .now) (s .place) (s .out .now)) (s .byte) (c .before .if1 .left) (c .if2 .left)
 
