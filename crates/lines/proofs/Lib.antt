@@ -5,3 +5,5 @@ pub mod Runs
 pub mod Priced
 pub mod Verdict
 pub mod Calls
+pub mod Words
+pub mod MoveCalls

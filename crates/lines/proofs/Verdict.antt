@@ -19,14 +19,14 @@ use Rattle.lines.specs.BoardLine.{bitBytes, digitsRefused, gridOfBytes, 
 use Rattle.lines.proofs.Bytes.{length-bytes}
 use Rattle.lines.proofs.Runs.{length-cells}
 
-none≢some : {x : Refusal} → some x ≡ none → ⊥
+pub none≢some : {x : Refusal} → some x ≡ none → ⊥
 none≢some e = subst given e tt
   where
     given : Option Refusal → Type 0
     given none = ⊥
     given (some y) = Unit {0}
 
-true≢false : true ≡ false → ⊥
+pub true≢false : true ≡ false → ⊥
 true≢false e = let z : _≡_ {A = ℕ} 0 1 = cc in omega arith
 
 -- ---- the digits alone
@@ -115,10 +115,10 @@ digits-frame line e = go (some-of isWrong line) (eqb (length line % 2) 1) (ltb (
     go false false false true s o n p e = refl
     go false false false false s o n p e = absurd (true≢false (sym e))
 
-side-none : (n : ℕ) → n ≡ 0 → sideOut n ≡ true
+pub side-none : (n : ℕ) → n ≡ 0 → sideOut n ≡ true
 side-none n e = ap (λ (t : Bool). t || ltb 255 n) (eq-eqb n 0 e)
 
-side-fine : (n : ℕ) → (n ≡ 0 → ⊥) → n < 256 → sideOut n ≡ false
+pub side-fine : (n : ℕ) → (n ≡ 0 → ⊥) → n < 256 → sideOut n ≡ false
 side-fine n h k = λ i. ne-eqb n 0 h i || le-ltb 255 n (omega arith) i
 
 module _ (line : List ℕ) (digits : digitsRefused line ≡ false) where
@@ -172,7 +172,7 @@ pub record Passed (line : List ℕ) : Type 0 where
   pub few : size (lineGrid line) ≤ 2048
   pub bytes : length line ≡ 4 + 2 * bitBytes (size (lineGrid line))
 
-side-in : (n : ℕ) → sideOut n ≡ false → (1 ≤ n) × (n ≤ 255)
+pub side-in : (n : ℕ) → sideOut n ≡ false → (1 ≤ n) × (n ≤ 255)
 side-in n e = go (eqb n 0) (ltb 255 n) refl refl e
   where
     go : (a b : Bool) → eqb n 0 ≡ a → ltb 255 n ≡ b → (a || b) ≡ false → (1 ≤ n) × (n ≤ 255)
@@ -180,7 +180,7 @@ side-in n e = go (eqb n 0) (ltb 255 n) refl refl e
     go false true p q e = absurd (true≢false e)
     go false false p q e = let h = eqb-false n 0 p in (omega arith, ltb-false 255 n q)
 
-either-false : (a b : Bool) → (a || b) ≡ false → (a ≡ false) × (b ≡ false)
+pub either-false : (a b : Bool) → (a || b) ≡ false → (a ≡ false) × (b ≡ false)
 either-false true b e = absurd (true≢false e)
 either-false false b e = (refl, e)
 

@@ -22,6 +22,10 @@ wordsOf (a ∷ b ∷ []) = []
 wordsOf (a ∷ []) = []
 wordsOf [] = []
 
+-- the digits of moves
+abbrev pub wordDigits : List ℕ → List ℕ
+wordDigits words = concat-map byteDigits (concat-map wordBytes words)
+
 -- the line of rows, columns and moves
 unfoldable pub moveLine : ℕ → ℕ → List ℕ → List ℕ
 moveLine rows columns words = concat-map byteDigits (rows ∷ columns ∷ concat-map wordBytes words)

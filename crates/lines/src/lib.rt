@@ -2,6 +2,7 @@
 pub mod hex; // one byte of a line, and bytes of two digits
 pub mod board; // board lines
 pub mod price; // price lines
+pub mod moves; // stored move lists
 
 // What one byte of a line is.
 pub enum Sort {
