@@ -249,10 +249,13 @@ def moves_trials():
     """What the stored lines come to."""
     out = []
 
+    def told(numbers, after=""):
+        out.append("".join(f" {n}" for n in numbers) + after)
+
     def read(line, room):
         number, rows, columns, moves = read_moves(line, room)
         left = moves + [9] * (room - len(moves))
-        out.append(" ".join(str(n) for n in [number, rows, columns, len(moves)] + left))
+        told([number, rows, columns, len(moves)] + [part for w in left for part in divmod(w, 65536)])
 
     for n in range(len(P7) + 1):
         read(P7[:n], 4)
@@ -266,20 +269,20 @@ def moves_trials():
         (256, 2, 3, 28), (2, 256, 3, 28), (1, 1, 0, 4), (1, 1, 0, 3), (1, 1, 18446744073709551615, 40),
     ):
         number, line = write_moves(rows, columns, moves, count, room)
-        out.append(f"{number} {len(line)} " + (line + b"." * (room - len(line))).decode())
+        told([number, len(line)], " " + (line + b"." * (room - len(line))).decode())
     base = b"020200010001"
     for place in range(len(base)):
         numbers = [0] * 10
         for value in range(256):
             numbers[read_moves(base[:place] + bytes([value]) + base[place + 1 :], 4)[0]] += 1
-        out.append(" ".join(map(str, [numbers[0], numbers[SHAPE], numbers[FRAME]])))
+        told([numbers[0], numbers[SHAPE], numbers[FRAME]])
     return "\n".join(out).encode() + b"\n"
 
 
 def trials(text):
     """What line_trials prints: the answers, a sum of them for each size of block, then the stored lines."""
     prices = priced(text)
-    sums = b"".join(b"%d %d %d\n" % (size, len(prices), check_sum(prices)) for size in (1, 2, 7, 15, 517, 4096))
+    sums = b"".join(b" %d %d %d\n" % (size, len(prices), check_sum(prices)) for size in (1, 2, 7, 15, 517, 4096))
     return prices + sums + moves_trials()
 
 
