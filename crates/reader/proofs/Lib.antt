@@ -8,3 +8,4 @@ pub mod Case
 pub mod Figures
 pub mod Boards
 pub mod Lines
+pub mod Calls

@@ -20,16 +20,27 @@ answers-join (x ∷ xs) ys =
     ap (λ (l : List ℕ). answerLine x ++ l) (answers-join xs ys) ∙ sym (append-assoc (answerLine x) (concat-map answerLine xs) (concat-map answerLine ys))
 
 -- the lines of a cut that nothing follows
-abbrev allLines : Cut → List (List ℕ)
+abbrev pub allLines : Cut → List (List ℕ)
 allLines c = c .ended ++ lastLine (c .goes-on)
 
 -- what is printed at the end: the line that goes on, if there is one
-end-prints : (begun held : List ℕ) (count : ℕ) (out : List ℕ) → Keeps begun held count → 517 ≤ length held → 15 ≤ length out
+pub end-prints : (begun held : List ℕ) (count : ℕ) (out : List ℕ) → Keeps begun held count → 517 ≤ length held → 15 ≤ length out
     → (t : Bool) → eqb count 0 ≡ t → saidAt (elim t [ true ↦ deskOf held count out | false ↦ byteRead (deskOf held count out) 10 ]) ≡ concat-map answerLine (lastLine begun)
 end-prints [] held count out k h r true e = refl
 end-prints (b ∷ bs) held count out k h r true e = absurd (let z : count ≡ 0 = eqb-true count 0 e in omega (arith, k .counted))
 end-prints [] held count out k h r false e = absurd (eqb-false count 0 e (k .counted))
 end-prints (b ∷ bs) held count out k h r false e = block-answers (10 ∷ []) (b ∷ bs) (deskOf held count out) k h (omega arith) .says
+
+-- a block's answers, and those of the blocks after it
+pub blocks-join : (b : List ℕ) (bs : List (List ℕ)) (begun later : List ℕ) → later ≡ concat-map answerLine (allLines (cutFrom (cutFrom begun b .goes-on) (joined bs)))
+    → concat-map answerLine (cutFrom begun b .ended) ++ later ≡ concat-map answerLine (allLines (cutFrom begun (joined (b ∷ bs))))
+blocks-join b bs begun later e =
+    let c = cutFrom begun b in
+    let c′ = cutFrom (c .goes-on) (joined bs) in
+    ap (λ (l : List ℕ). concat-map answerLine (c .ended) ++ l) e
+    ∙ sym (answers-join (c .ended) (allLines c′))
+    ∙ ap (concat-map answerLine) (sym (append-assoc (c .ended) (c′ .ended) (lastLine (c′ .goes-on))))
+    ∙ ap (λ (x : Cut). concat-map answerLine (allLines x)) (sym (cut-joins begun b (joined bs)))
 
 -- what is printed from the beginning of a line on
 session-from : (blocks : List (List ℕ)) (begun held : List ℕ) (count : ℕ) (out : List ℕ) → Keeps begun held count → 517 ≤ length held → 15 ≤ length out → Each (Fits out) blocks
@@ -38,14 +49,9 @@ session-from [] begun held count out k h r fits = end-prints begun held count ou
 session-from (b ∷ bs) begun held count out k h r (f, fits) =
     let d = blockRead (deskOf held count out) b in
     let t : Told (cutFrom begun b) (deskOf held count out) d = block-answers b begun (deskOf held count out) k h (omega arith) in
-    let c = cutFrom begun b in
-    let c′ = cutFrom (c .goes-on) (joined bs) in
-    let later = session-from bs (c .goes-on) (d .held) (d .count) (d .out) (t .keeps) (omega (arith, t .held-whole)) (omega (arith, t .out-whole)) (subst (λ (n : ℕ). Each (λ b. 15 * length b ≤ n) bs) (sym (t .out-whole)) fits) in
-    ap (λ (l : List ℕ). l ++ session bs (d .held) (d .count) (d .out)) (t .says)
-    ∙ ap (λ (l : List ℕ). concat-map answerLine (c .ended) ++ l) later
-    ∙ sym (answers-join (c .ended) (allLines c′))
-    ∙ ap (concat-map answerLine) (sym (append-assoc (c .ended) (c′ .ended) (lastLine (c′ .goes-on))))
-    ∙ ap (λ (x : Cut). concat-map answerLine (allLines x)) (sym (cut-joins begun b (joined bs)))
+    let later =
+    session-from bs (cutFrom begun b .goes-on) (d .held) (d .count) (d .out) (t .keeps) (omega (arith, t .held-whole)) (omega (arith, t .out-whole)) (subst (λ (n : ℕ). Each (λ b. 15 * length b ≤ n) bs) (sym (t .out-whole)) fits) in
+    ap (λ (l : List ℕ). l ++ session bs (d .held) (d .count) (d .out)) (t .says) ∙ blocks-join b bs begun (session bs (d .held) (d .count) (d .out)) later
 
 -- every line of the input is answered, wherever blocks are cut
 pub session-prints : (blocks : List (List ℕ)) (held out : List ℕ) → 517 ≤ length held → 15 ≤ length out → Each (Fits out) blocks → session blocks held 0 out ≡ printed (joined blocks)

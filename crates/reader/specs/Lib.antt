@@ -3,4 +3,5 @@ pub mod Taken
 pub mod Prices
 pub mod Blocks
 pub mod Answers
+pub mod Runs
 pub mod WholeCase
