@@ -1,12 +1,13 @@
 -- Bytes of two digits: each stands where its digits stand. Assumes nothing.
-use Prim.Native.Nat.{ℕ, zero, suc, _+_, _-_, _*_, _/_, _%_, _<_, _≤_}
+use Prim.Native.Nat.{ℕ, zero, suc, _+_, _-_, _*_, _/_, _%_, _≤_}
 use native.Mathlib.Omega.{arith}
 use mathlib.Core.Path.{_≡_, ap, refl, sym, _∙_}
 use mathlib.Core.List.{List, [], _∷_, _++_}
 use lib.ListN.{getD, length}
 use lib.Seq.{sets}
-use Rattle.lines.specs.Hex.{bytesOf, hexValue}
-use Rattle.lines.proofs.Digits.{value-small}
+use Rattle.game.specs.Lists.{concat-map}
+use Rattle.lines.specs.Hex.{byteDigits, bytesOf, hexValue}
+use Rattle.lines.specs.PriceLine.{twoBytes}
 
 two-more : (k : ℕ) → 2 * suc k ≡ suc (suc (2 * k))
 two-more k = omega arith
@@ -34,3 +35,12 @@ sets-more l i j [] ws e = ap (λ (k : ℕ). sets l k ws) (e ∙ bare i)
     bare : (i : ℕ) → i + 0 ≡ i
     bare i = omega arith
 sets-more l i j (v ∷ vs) ws e = sets-more _ (suc i) j vs ws (omega arith)
+
+-- two bytes' digits put one after the other
+pub two-there : (old a new : List ℕ) (at n high low : ℕ) → a ≡ sets old at (byteDigits high) → new ≡ sets a (at + 2) (byteDigits low) → high ≡ n / 256 % 256 → low ≡ n % 256
+    → new ≡ sets old at (concat-map byteDigits (twoBytes n))
+two-there old a new at n high low e f g h =
+    f
+    ∙ (λ i. sets (e i) (at + 2) (byteDigits (h i)))
+    ∙ ap (λ (b : ℕ). sets (sets old at (byteDigits b)) (at + 2) (byteDigits (n % 256))) g
+    ∙ sets-more old at (at + 2) (byteDigits (n / 256 % 256)) (byteDigits (n % 256)) refl

@@ -7,3 +7,4 @@ pub mod Verdict
 pub mod Calls
 pub mod Words
 pub mod MoveCalls
+pub mod Stores

@@ -1,6 +1,5 @@
 -- The checks of stored lines by their tests, and what reading and writing come to. Assumes nothing.
-use Prim.Native.Nat.{ℕ, _+_, _*_, _/_, _%_, _<_, _≤_}
-use native.Mathlib.Omega.{arith}
+use Prim.Native.Nat.{ℕ, _+_, _*_, _%_, _<_, _≤_}
 use mathlib.Core.Path.{_≡_, ap, refl, sym, _∙_}
 use mathlib.Core.Bool.{Bool, true, false, not, _||_}
 use mathlib.Core.List.{List, [], _∷_}
@@ -11,7 +10,7 @@ use borrow.Author.Tests.{eq-eqb, eqb-true, le-ltb, lt-ltb, ltb-false, ne-eqb, no
 use Rattle.game.specs.Lists.{some-of}
 use Rattle.game.specs.Area.{begun}
 use Rattle.game.specs.Calls.{Answer, Refusal, firstGiven, frame, gives, refuses, shape, sideOut, trace}
-use Rattle.lines.specs.Hex.{bytesOf, isWrong}
+use Rattle.lines.specs.Hex.{isWrong}
 use Rattle.lines.specs.MoveLine.{RunOutcome, moveLine, moveLineChecks, readMovesCall, storedOf, unlessGiven, writeChecks, writeMovesCall}
 use Rattle.lines.specs.Answers.{KeptRun}
 use Rattle.lines.proofs.Verdict.{columnsByte, either-false, none≢some, rowsByte, side-fine, side-in, side-none}
@@ -72,6 +71,12 @@ module _ (line lent : List ℕ) where
 
         pub all-fine : length (wordsIn line) ≤ length lent → none ≡ firstGiven (moveLineChecks line lent)
         all-fine h = by false false false false clean (framed) (shaped) (le-ltb (length lent) (length (wordsIn line)) h)
+
+-- a stored line that only room can refuse
+pub but-room : (line lent : List ℕ) → some-of isWrong line ≡ false → 4 ≤ length line → length line % 8 ≡ 4 → (rowsByte line ≡ 0 → ⊥) → rowsByte line < 256 → (columnsByte line ≡ 0 → ⊥) → columnsByte line < 256
+    → firstGiven (moveLineChecks line lent) ≡ firstGiven (record { given = ltb (length lent) (length (wordsIn line)); refusal = trace } ∷ [])
+but-room line lent clean enough whole rows few-rows columns few-columns =
+    sym (by line lent false false false (ltb (length lent) (length (wordsIn line))) clean (framed line lent clean enough whole) (shaped line lent clean enough whole rows few-rows columns few-columns) refl)
 
 -- a stored line that passes every check
 pub record PassedMoves (line lent : List ℕ) : Type 0 where
@@ -207,3 +212,8 @@ module _ (rows columns : ℕ) (list : List ℕ) (n : ℕ) (lent : List ℕ) wher
       → KeptRun (writeMovesCall rows columns list n lent) (gives (digits ∷ [])) run
   unfolding writeMovesCall
   write-kept digits run e d w = run-else (firstGiven (writeChecks rows columns list n lent)) lent _ (gives (digits ∷ [])) run e (λ i. gives (d i ∷ [])) w
+
+-- ---- there is only one such answer
+
+pub run-once : (x : RunOutcome) (a a′ : Answer) (r r′ : List ℕ) → KeptRun x a r → KeptRun x a′ r′ → (a ≡ a′) × (r ≡ r′)
+run-once x a a′ r r′ k k′ = (k .answers ∙ sym (k′ .answers), k .leaves ∙ sym (k′ .leaves))

@@ -34,15 +34,17 @@ length-price p = refl
 pub price-none : (at : ℕ) (p : Price) (old : List ℕ) → length old < at + 14 → old ≡ putDigits at (priceDigits p) old
 price-none at p old h = put-none at (priceDigits p) old (omega (arith, length-price p))
 
-pub price-there : (at : ℕ) (p : Price) (old a b c new : List ℕ) → at + 14 ≤ length old
-    → a ≡ sets old at (byteDigits (p .number % 256)) → b ≡ sets a (at + 2) (twoDigits (p .units)) → c ≡ sets b (at + 6) (twoDigits (p .greedy)) → new ≡ sets c (at + 10) (twoDigits (p .openings-first))
+pub price-there : (at : ℕ) (p : Price) (old a b c new : List ℕ) (number units greedy first : ℕ) → at + 14 ≤ length old
+    → a ≡ sets old at (byteDigits number) → b ≡ sets a (at + 2) (twoDigits units) → c ≡ sets b (at + 6) (twoDigits greedy) → new ≡ sets c (at + 10) (twoDigits first)
+    → number ≡ p .number % 256 → units ≡ p .units → greedy ≡ p .greedy → first ≡ p .openings-first
     → new ≡ putDigits at (priceDigits p) old
 unfolding priceDigits
-price-there at p old a b c new h e f g k =
+price-there at p old a b c new number units greedy first h e f g k n u r o =
     k
-    ∙ ap (λ (l : List ℕ). sets l (at + 10) (twoDigits (p .openings-first)))
-    (g ∙ ap (λ (l : List ℕ). sets l (at + 6) (twoDigits (p .greedy)))
-    (f ∙ ap (λ (l : List ℕ). sets l (at + 2) (twoDigits (p .units))) e ∙ sets-more old at (at + 2) (byteDigits (p .number % 256)) (twoDigits (p .units)) refl)
-    ∙ sets-more old at (at + 6) (byteDigits (p .number % 256) ++ twoDigits (p .units)) (twoDigits (p .greedy)) refl)
-    ∙ sets-more old at (at + 10) ((byteDigits (p .number % 256) ++ twoDigits (p .units)) ++ twoDigits (p .greedy)) (twoDigits (p .openings-first)) refl
+    ∙ ap (λ (l : List ℕ). sets l (at + 10) (twoDigits first))
+    (g ∙ ap (λ (l : List ℕ). sets l (at + 6) (twoDigits greedy))
+    (f ∙ ap (λ (l : List ℕ). sets l (at + 2) (twoDigits units)) e ∙ sets-more old at (at + 2) (byteDigits number) (twoDigits units) refl)
+    ∙ sets-more old at (at + 6) (byteDigits number ++ twoDigits units) (twoDigits greedy) refl)
+    ∙ sets-more old at (at + 10) ((byteDigits number ++ twoDigits units) ++ twoDigits greedy) (twoDigits first) refl
+    ∙ (λ i. sets old at (byteDigits (n i) ++ twoDigits (u i) ++ twoDigits (r i) ++ twoDigits (o i)))
     ∙ put-there at (priceDigits p) old (omega (arith, length-price p))

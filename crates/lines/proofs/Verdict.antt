@@ -1,21 +1,21 @@
 -- The checks of a board line by their tests: the first that is given, and what holds where none is. Assumes nothing.
-use Prim.Native.Nat.{ℕ, _+_, _*_, _/_, _%_, _<_, _≤_}
+use Prim.Native.Nat.{ℕ, _+_, _*_, _%_, _<_, _≤_}
 use native.Mathlib.Omega.{arith}
 use native.Mathlib.Decide.{decLe}
 use native.Mathlib.Nat.{mul-le-mul-left}
 use mathlib.Core.Path.{_≡_, ap, refl, subst, sym, _∙_}
 use mathlib.Core.Bool.{Bool, true, false, not, _||_}
-use mathlib.Core.List.{List, [], _∷_, _++_}
+use mathlib.Core.List.{List, [], _∷_}
 use mathlib.Core.Option.{Option, none, some}
 use lib.Dec.{eqb, ltb}
 use lib.ListN.{getD, length, length-take, take}
 use lib.Seq.{take-all}
 use borrow.Author.Tests.{eq-eqb, eqb-false, eqb-true, le-ltb, lt-ltb, ltb-false, ne-eqb, not-false}
-use Rattle.game.specs.Lists.{range, some-of}
+use Rattle.game.specs.Lists.{some-of}
 use Rattle.game.specs.Grid.{size}
 use Rattle.game.specs.Calls.{Refusal, firstGiven, frame, shape, sideOut, size-over}
 use Rattle.lines.specs.Hex.{bytesOf, isWrong}
-use Rattle.lines.specs.BoardLine.{bitBytes, digitsRefused, gridOfBytes, lineGrid, lineRefusal, mineBit, valueOf}
+use Rattle.lines.specs.BoardLine.{bitBetween, bitBytes, digitsRefused, gridOfBytes, lineGrid, lineRefusal, mineBit, valueOf}
 use Rattle.lines.proofs.Bytes.{length-bytes}
 use Rattle.lines.proofs.Runs.{length-cells}
 
@@ -42,20 +42,11 @@ pub record Digits (line : List ℕ) : Type 0 where
 abbrev any : Bool → Bool → Bool → Bool → Bool
 any a b c d = a || (b || ((c || d) || false))
 
-or-none : (d : Bool) → d ≡ (d || false)
-or-none true = refl
-or-none false = refl
-
 module _ (line : List ℕ) where
   pub digits-by : (a b c d : Bool) → some-of isWrong line ≡ a → eqb (length line % 2) 1 ≡ b → ltb (length line) 4 ≡ c → ltb 516 (length line) ≡ d
       → any a b c d ≡ digitsRefused line
   unfolding digitsRefused
   digits-by a b c d e f g h = sym (λ i. any (e i) (f i) (g i) (h i))
-
-  pub digits-last : some-of isWrong line ≡ false → (length line % 2 ≡ 1 → ⊥) → 4 ≤ length line → ltb 516 (length line) ≡ digitsRefused line
-  digits-last e f g =
-      or-none (ltb 516 (length line))
-      ∙ digits-by false false false (ltb 516 (length line)) e (ne-eqb (length line % 2) 1 f) (le-ltb (length line) 4 g) refl
 
   pub digits-good : digitsRefused line ≡ false → Digits line
   unfolding digitsRefused
@@ -101,7 +92,7 @@ abbrev pub cellsOf : List ℕ → ℕ
 cellsOf line = rowsByte line * columnsByte line
 
 abbrev pub paddingSet : List ℕ → Bool
-paddingSet line = some-of (mineBit (bytesOf line)) (range (cellsOf line) (8 * bitBytes (cellsOf line)))
+paddingSet line = bitBetween (bytesOf line) (cellsOf line) (8 * bitBytes (cellsOf line))
 
 pub digits-frame : (line : List ℕ) → digitsRefused line ≡ true → some frame ≡ lineRefusal line
 unfolding digitsRefused lineRefusal gridOfBytes
@@ -114,6 +105,9 @@ digits-frame line e = go (some-of isWrong line) (eqb (length line % 2) 1) (ltb (
     go false false true d s o n p e = refl
     go false false false true s o n p e = refl
     go false false false false s o n p e = absurd (true≢false (sym e))
+
+pub padding-by : (line : List ℕ) (a b : ℕ) (r : Bool) → r ≡ bitBetween (bytesOf line) a b → a ≡ cellsOf line → b ≡ 8 * bitBytes (cellsOf line) → r ≡ paddingSet line
+padding-by line a b r e f g = e ∙ (λ i. bitBetween (bytesOf line) (f i) (g i))
 
 pub side-none : (n : ℕ) → n ≡ 0 → sideOut n ≡ true
 side-none n e = ap (λ (t : Bool). t || ltb 255 n) (eq-eqb n 0 e)

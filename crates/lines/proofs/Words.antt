@@ -5,12 +5,11 @@ use native.Mathlib.Nat.{zero-add}
 use native.Mathlib.Numerals.{add-one}
 use mathlib.Core.Path.{_≡_, ap, refl, sym, _∙_}
 use mathlib.Core.List.{List, [], _∷_, _++_, append-assoc}
-use lib.ListN.{drop, getD, length, length-append, length-drop, set, take}
+use lib.ListN.{drop, getD, length, length-drop, set, take}
 use lib.Seq.{getD-drop, length-take-le, sets, sets-eq, take-suc}
 use Rattle.game.specs.Lists.{concat-map}
 use Rattle.game.specs.Area.{begun}
 use Rattle.lines.specs.Hex.{byteDigits, bytesOf}
-use Rattle.lines.specs.PriceLine.{twoBytes}
 use Rattle.lines.specs.MoveLine.{moveLine, wordBytes, wordDigits, wordsOf}
 use Rattle.lines.proofs.Bytes.{length-bytes, sets-more}
 use Rattle.lines.proofs.Priced.{twoDigits}
@@ -49,10 +48,15 @@ module _ (line : List ℕ) (k : ℕ) (room : 8 * k + 12 ≤ length line) where
   there : (j m : ℕ) → m ≡ 4 * k + (j + 2) → getD (drop 2 (bytesOf line)) (4 * k + j) 0 ≡ getD (bytesOf line) m 0
   there j m e = getD-drop 2 (bytesOf line) (4 * k + j) 0 ∙ ap (λ (n : ℕ). getD (bytesOf line) n 0) (omega arith)
 
-  pub word-here : getD (wordsIn line) k 0 ≡ 16777216 * getD (bytesOf line) (4 * k + 2) 0 + 65536 * getD (bytesOf line) (4 * k + 3) 0 + 256 * getD (bytesOf line) (4 * k + 4) 0 + getD (bytesOf line) (4 * k + 5) 0
+  word-here : getD (wordsIn line) k 0 ≡ 16777216 * getD (bytesOf line) (4 * k + 2) 0 + 65536 * getD (bytesOf line) (4 * k + 3) 0 + 256 * getD (bytesOf line) (4 * k + 4) 0 + getD (bytesOf line) (4 * k + 5) 0
   word-here =
       words-here (drop 2 (bytesOf line)) k (omega (arith, length-drop 2 (bytesOf line), length-bytes line))
       ∙ (λ i. 16777216 * there 0 (4 * k + 2) refl i + 65536 * there 1 (4 * k + 3) refl i + 256 * there 2 (4 * k + 4) refl i + there 3 (4 * k + 5) refl i)
+
+  -- the move of four bytes that were read
+  pub word-read : (a b c d : ℕ) → a ≡ getD (bytesOf line) (4 * k + 2) 0 → b ≡ getD (bytesOf line) (4 * k + 3) 0 → c ≡ getD (bytesOf line) (4 * k + 4) 0 → d ≡ getD (bytesOf line) (4 * k + 5) 0
+      → 16777216 * a + 65536 * b + 256 * c + d ≡ getD (wordsIn line) k 0
+  word-read a b c d e f g h = (λ i. 16777216 * e i + 65536 * f i + 256 * g i + h i) ∙ sym word-here
 
 -- one move more in a list that begins with moves
 pub list-more : (words old now : List ℕ) (k v : ℕ) → now ≡ begun (take k words) old → v ≡ getD words k 0 → k < length words → length words ≤ length old → set now k v ≡ begun (take (k + 1) words) old

@@ -20,6 +20,10 @@ bitAt bytes k = eqb (getD bytes (k / 8) 0 / 2 ^ (7 - k % 8) % 2) 1
 abbrev pub mineBit : List ℕ → ℕ → Bool
 mineBit bytes k = bitAt bytes (16 + k)
 
+-- one of the mine bits from one place up to another is set
+unfoldable pub bitBetween : List ℕ → ℕ → ℕ → Bool
+bitBetween bytes a b = some-of (mineBit bytes) (range a b)
+
 -- -1 for a mine bit, 0 for another
 abbrev pub valueOf : Bool → ℤ
 valueOf b = cond b (negsuc 0) (pos 0)
@@ -68,7 +72,7 @@ bytesCheck g bytes = record { given = not (eqb (length bytes) (2 + bitBytes (siz
 -- FRAME: a padding bit is set
 abbrev pub paddingCheck : Grid → List ℕ → Check
 paddingCheck g bytes =
-    record { given = some-of (mineBit bytes) (range (size g) (8 * bitBytes (size g))); refusal = frame }
+    record { given = bitBetween bytes (size g) (8 * bitBytes (size g)); refusal = frame }
 
 -- the checks of a board line, in their order
 abbrev pub boardLineChecks : List ℕ → List Check

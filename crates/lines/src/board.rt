@@ -6,10 +6,10 @@ ghost use mathlib.Core.Path.{_≡_};
 ghost use mathlib.Core.Option.{none};
 ghost use Prim.Native.Nat.{_+_, _*_, _/_, _%_, _-_, _^_, _<_, _≤_};
 ghost use lib.ListN.{length};
-ghost use Rattle.game.specs.Lists.{range, some-of};
+ghost use Rattle.game.specs.Lists.{some-of};
 ghost use Rattle.game.specs.Area.{begun};
 ghost use Rattle.lines.specs.Hex.{bytesOf, isWrong};
-ghost use Rattle.lines.specs.BoardLine.{boardLineCall, cellValues, digitsRefused, lineRefusal, mineBit, valueOf};
+ghost use Rattle.lines.specs.BoardLine.{bitBetween, boardLineCall, cellValues, digitsRefused, lineRefusal, mineBit, valueOf};
 ghost use Rattle.lines.specs.Answers.{KeptGrid, boardAnswer, refusalOf};
 
 // What reading a board line answers: rows and columns.
@@ -65,7 +65,7 @@ fn cell_value(line: &[u8], k: usize) -> i32
 // Whether a mine bit from one place up to another is set.
 fn bit_between(line: &[u8], from: usize, to: usize) -> bool
     requires { ⌜ (from ≤ to) × (to ≤ 4 * length (now line) - 16) × (length (now line) % 2 ≡ 0) ⌝ }
-    ensures { λ r. ⌜ r ≡ some-of (mineBit (bytesOf (now (line .entry)))) (range from to) ⌝ }
+    ensures { λ r. ⌜ r ≡ bitBetween (bytesOf (now (line .entry))) from to ⌝ }
 {
     let mut k = from;
     while k < to {
@@ -101,7 +101,10 @@ fn digits_refused(line: &[u8]) -> bool
     if line.len() < 4 {
         return true;
     }
-    516 < line.len()
+    if 516 < line.len() {
+        return true;
+    }
+    false
 }
 
 // The checks of a board line, in their order.

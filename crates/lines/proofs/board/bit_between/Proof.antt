@@ -1,12 +1,11 @@
 -- `lines::board::bit_between`: what is passed has no bit set. Assumes nothing.
-use Prim.Native.Nat.{ℕ, _-_, _≤_}
+use Prim.Native.Nat.{_-_, _≤_}
 use native.Mathlib.Omega.{arith}
 use mathlib.Core.Path.{_≡_, refl, sym, _∙_}
-use mathlib.Core.Bool.{Bool}
 use borrow.Author.Needs.{needs}
 use Rattle.game.specs.Lists.{range, some-of}
 use Rattle.lines.specs.Hex.{bytesOf}
-use Rattle.lines.specs.BoardLine.{mineBit}
+use Rattle.lines.specs.BoardLine.{bitBetween, mineBit}
 use Rattle.lines.proofs.Runs.{fails, passes, range-over, range-step}
 use Rattle.lines.proofs.board.bit_between.Statement.{statement}
 use Rattle.lines.proofs.board.bit_between.Tie as tie
@@ -24,6 +23,7 @@ mine-bit-requires : tie.Need-mine-bit-requires Inv-loop μ-loop
 mine-bit-requires c κs = omega arith
 
 returns : tie.Need-returns Inv-loop μ-loop
+unfolding bitBetween
 returns c =
     let l = c .before .before .before .loop in
     let a = c .before .before .before .before .before .args in
@@ -42,6 +42,7 @@ loop-again c =
     (omega arith, fails _ _ _ (l .inv .1 ∙ range-step (mineBit (bytesOf (a .line .now))) (l .k) (a .to) (omega arith)) (sym (c .before .mine-bit .ensures) ∙ c .if1 .left))
 
 returns-2 : tie.Need-returns-2 Inv-loop μ-loop
+unfolding bitBetween
 returns-2 c =
     let l = c .before .loop in
     let a = c .before .before .before .args in

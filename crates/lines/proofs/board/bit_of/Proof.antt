@@ -1,6 +1,5 @@
 -- `lines::board::bit_of`: each place has its power of two. Assumes nothing.
 use native.Mathlib.Omega.{arith}
-use borrow.Author.Needs.{needs}
 use Rattle.lines.proofs.Bits.{bit-at}
 use Rattle.lines.proofs.board.bit_of.Statement.{statement}
 use Rattle.lines.proofs.board.bit_of.Tie as tie

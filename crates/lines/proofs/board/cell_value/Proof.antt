@@ -1,5 +1,5 @@
 -- `lines::board::cell_value`: -1 for a mine bit, 0 for another. Assumes nothing.
-use mathlib.Core.Path.{_≡_, ap, sym, _∙_}
+use mathlib.Core.Path.{ap, sym, _∙_}
 use Rattle.lines.specs.BoardLine.{valueOf}
 use borrow.Author.Needs.{needs}
 use Rattle.lines.proofs.board.cell_value.Statement.{statement}

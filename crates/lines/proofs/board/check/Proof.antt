@@ -1,14 +1,11 @@
 -- `lines::board::check`: the tests in their order. Assumes nothing.
 use Prim.Native.Nat.{ℕ, _*_, _≤_}
 use native.Mathlib.Omega.{arith}
-use mathlib.Core.Path.{_≡_, ap, sym, _∙_}
+use mathlib.Core.Path.{_≡_, sym, _∙_}
 use mathlib.Core.Bool.{false}
 use mathlib.Core.List.{List}
-use lib.ListN.{length}
-use Rattle.game.specs.Lists.{range, some-of}
-use Rattle.lines.specs.Hex.{bytesOf}
-use Rattle.lines.specs.BoardLine.{bitBytes, digitsRefused, mineBit}
-use Rattle.lines.proofs.Verdict.{Digits, all-fine, cellsOf, columnsByte, digits-frame, digits-good, many-cells, no-columns, no-rows, other-bytes, padding-set, paddingSet, product-small, rowsByte}
+use Rattle.lines.specs.BoardLine.{digitsRefused}
+use Rattle.lines.proofs.Verdict.{Digits, all-fine, cellsOf, columnsByte, digits-frame, digits-good, many-cells, no-columns, no-rows, other-bytes, padding-by, padding-set, paddingSet, product-small, rowsByte}
 use borrow.Author.Needs.{needs}
 use Rattle.lines.proofs.board.check.Statement.{statement}
 use Rattle.lines.proofs.board.check.Tie as tie
@@ -94,7 +91,7 @@ bit-between-requires c κs = search needs
 padding-is : (c : tie.After-bit-between) → c .bit-between .result ≡ paddingSet (lineOf (c .before .before .before .before .before))
 padding-is c =
     let b = c .before .before .before .before .before in
-    c .bit-between .ensures ∙ ap (λ (n : ℕ). some-of (mineBit (bytesOf (lineOf b))) (range n (8 * bitBytes n))) (cells-are b)
+    padding-by (lineOf b) _ _ _ (c .bit-between .ensures) (cells-are b) (omega (arith, cells-are b))
 
 returns-6 : tie.Need-returns-6
 returns-6 c =

@@ -1,11 +1,11 @@
 -- `lines::board::digits_refused`: the tests in their order. Assumes nothing.
 use Prim.Native.Nat.{_%_}
 use native.Mathlib.Omega.{arith}
-use mathlib.Core.Path.{_≡_, refl, sym, _∙_}
+use mathlib.Core.Path.{refl, sym, _∙_}
 use mathlib.Core.Bool.{true, false}
 use lib.ListN.{length}
 use borrow.Author.Tests.{eq-eqb, le-ltb, lt-ltb, ne-eqb}
-use Rattle.lines.proofs.Verdict.{digits-by, digits-last}
+use Rattle.lines.proofs.Verdict.{digits-by}
 use borrow.Author.Needs.{needs}
 use Rattle.lines.proofs.board.digits_refused.Statement.{statement}
 use Rattle.lines.proofs.board.digits_refused.Tie as tie
@@ -30,8 +30,13 @@ returns-3 c =
 
 returns-4 : tie.Need-returns-4
 returns-4 c =
-    let line = c .before .before .before .before .before .args .line .now in
-    digits-last line (sym (c .before .before .before .has-wrong .ensures) ∙ c .before .before .if1 .left) (λ e. omega arith) (omega arith)
+    let line = c .before .before .before .before .before .before .args .line .now in
+    digits-by line false false false true (sym (c .before .before .before .before .has-wrong .ensures) ∙ c .before .before .before .if1 .left) (ne-eqb (length line % 2) 1 (λ e. omega arith)) (le-ltb (length line) 4 (omega arith)) (lt-ltb 516 (length line) (omega arith))
+
+returns-5 : tie.Need-returns-5
+returns-5 c =
+    let line = c .before .before .before .before .before .before .args .line .now in
+    digits-by line false false false false (sym (c .before .before .before .before .has-wrong .ensures) ∙ c .before .before .before .if1 .left) (ne-eqb (length line % 2) 1 (λ e. omega arith)) (le-ltb (length line) 4 (omega arith)) (le-ltb 516 (length line) (omega arith))
 
 pub digits-refused-spec : {M : Type 1} → statement M
-digits-refused-spec = tie.close (tie.spec has-wrong-requires returns returns-2 returns-3 returns-4)
+digits-refused-spec = tie.close (tie.spec has-wrong-requires returns returns-2 returns-3 returns-4 returns-5)

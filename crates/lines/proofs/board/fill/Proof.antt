@@ -3,17 +3,15 @@ use Prim.Native.Nat.{ℕ, _-_, _≤_}
 use native.Mathlib.Omega.{arith}
 use mathlib.Core.Path.{_≡_, ap, refl, subst, sym, _∙_}
 use mathlib.Core.Bool.{Bool, true, false}
-use mathlib.Core.List.{List}
 use lib.IntN.{ℤ}
 use lib.ListN.{length, length-set}
 use mir.Syntax.{w32}
 use mir.Val.{SFits, toZ, ofZ}
 use mir.Facts.{toZ-ofZ}
 use Rattle.game.specs.Area.{begun}
-use Rattle.game.proofs.Areas.{length-begun}
 use Rattle.lines.specs.Hex.{bytesOf}
 use Rattle.lines.specs.BoardLine.{cellValues, mineBit, valueOf}
-use Rattle.lines.proofs.Runs.{fill-more, length-cells}
+use Rattle.lines.proofs.Runs.{fill-more}
 use borrow.Author.Needs.{needs}
 use Rattle.lines.proofs.board.fill.Statement.{statement}
 use Rattle.lines.proofs.board.fill.Tie as tie

@@ -1,9 +1,7 @@
 -- `lines::board::has_wrong`: what is passed has no wrong byte. Assumes nothing.
-use Prim.Native.Nat.{ℕ, _-_, _≤_}
+use Prim.Native.Nat.{_-_, _≤_}
 use native.Mathlib.Omega.{arith}
 use mathlib.Core.Path.{_≡_, ap, refl, sym, _∙_}
-use mathlib.Core.Bool.{Bool, false}
-use mathlib.Core.List.{List}
 use lib.ListN.{drop, drop-of-length-le, length}
 use borrow.Author.Needs.{needs}
 use Rattle.game.specs.Lists.{some-of}

@@ -1,6 +1,6 @@
 -- `lines::board::mine_bit`: the bit of the digit that holds it. Assumes nothing.
-use mathlib.Core.Path.{_≡_, ap, _∙_}
-use Prim.Native.Nat.{ℕ, _+_, _-_, _/_, _%_, _^_}
+use mathlib.Core.Path.{ap, _∙_}
+use Prim.Native.Nat.{ℕ, _-_, _/_, _%_, _^_}
 use lib.Dec.{eqb}
 use Rattle.lines.proofs.Bits.{mine-here}
 use borrow.Author.Needs.{needs}

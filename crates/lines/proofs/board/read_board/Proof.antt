@@ -1,5 +1,5 @@
 -- `lines::board::read_board`: refused as the checks say, else read. Assumes nothing.
-use mathlib.Core.Path.{_≡_, ap, sym, _∙_}
+use mathlib.Core.Path.{ap, sym, _∙_}
 use Rattle.lines.specs.Answers.{refusalOf}
 use Rattle.lines.proofs.Calls.{kept-refused}
 use borrow.Author.Needs.{needs}

@@ -2,11 +2,9 @@
 use Prim.Native.Nat.{ℕ, _*_, _≤_}
 use native.Mathlib.Omega.{arith}
 use mathlib.Core.Path.{_≡_, ap, _∙_}
-use mathlib.Core.List.{List}
-use lib.ListN.{length}
 use Rattle.game.specs.Area.{begun}
 use Rattle.lines.specs.Hex.{bytesOf}
-use Rattle.lines.specs.BoardLine.{cellValues, gridOfBytes, lineGrid}
+use Rattle.lines.specs.BoardLine.{cellValues, gridOfBytes}
 use Rattle.lines.proofs.Verdict.{Passed, cellsOf, passed, product-small}
 use Rattle.lines.proofs.Calls.{kept-read, kept-short}
 use borrow.Author.Needs.{needs}
@@ -57,7 +55,7 @@ returns-2 c =
     let s = c .before .before .before .before .before .before .before in
     let b = c .before .before .before .before in
     let a = s .args in
-    kept-read (a .line .now) (a .grid .now) _ _ _ (s .pre) (omega (arith, cells-are b)) (b .before .byte-at .ensures .0) (b .byte-at2 .ensures .0)
+    kept-read (a .line .now) (a .grid .now) _ _ _ (s .pre) (omega (arith, cells-are b)) (omega (arith, b .before .byte-at .ensures .0)) (omega (arith, b .byte-at2 .ensures .0))
     (c .before .fill .ensures ∙ ap (λ (n : ℕ). begun (cellValues (bytesOf (a .line .now)) n) (a .grid .now)) (cells-are b))
 
 pub read-checked-spec : {M : Type 1} → statement M

@@ -1,6 +1,5 @@
 -- `lines::hex::byte_at`: sixteen times the high digit and the low one. Assumes nothing.
 use native.Mathlib.Omega.{arith}
-use mathlib.Core.Path.{_≡_}
 use borrow.Author.Needs.{needs}
 use Rattle.lines.proofs.Bytes.{byte-here}
 use Rattle.lines.proofs.hex.byte_at.Statement.{statement}

@@ -1,5 +1,5 @@
 -- `lines::hex::is_wrong`: all but the digits are wrong. Assumes nothing.
-use mathlib.Core.Path.{_≡_, ap, sym, _∙_}
+use mathlib.Core.Path.{ap, sym, _∙_}
 use borrow.Author.Needs.{needs}
 use Rattle.lines.proofs.Digits.{sort-wrong, wrongSort}
 use Rattle.lines.proofs.hex.is_wrong.Statement.{statement}

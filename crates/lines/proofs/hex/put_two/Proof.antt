@@ -1,13 +1,7 @@
 -- `lines::hex::put_two`: the high byte's digits, then the low one's. Assumes nothing.
-use Prim.Native.Nat.{_+_, _/_, _%_}
 use native.Mathlib.Omega.{arith}
-use mathlib.Core.Path.{_≡_, ap, _∙_}
-use mathlib.Core.List.{List}
-use Prim.Native.Nat.{ℕ}
-use lib.Seq.{sets}
 use borrow.Author.Needs.{needs}
-use Rattle.lines.specs.Hex.{byteDigits}
-use Rattle.lines.proofs.Bytes.{sets-more}
+use Rattle.lines.proofs.Bytes.{two-there}
 use Rattle.lines.proofs.hex.put_two.Statement.{statement}
 use Rattle.lines.proofs.hex.put_two.Tie as tie
 
@@ -26,10 +20,7 @@ same-length c = search needs
 returns : tie.Need-returns
 returns c =
     let a = c .before .before .before .before .before .before .before .before .before .args in
-    let n = a .number in
-    c .before .before .put-byte2 .ensures
-    ∙ ap (λ (l : List ℕ). sets l (a .at + 2) (byteDigits (n % 256))) (c .before .before .before .before .before .before .put-byte .ensures)
-    ∙ sets-more (a .out .now) (a .at) (a .at + 2) (byteDigits (n / 256 % 256)) (byteDigits (n % 256)) (omega arith)
+    two-there (a .out .now) _ _ (a .at) (a .number) _ _ (c .before .before .before .before .before .before .put-byte .ensures) (c .before .before .put-byte2 .ensures) (omega arith) (omega arith)
 
 pub put-two-spec : {M : Type 1} → statement M
 put-two-spec =

@@ -15,7 +15,7 @@ cast-t7 : tie.Need-cast-t7
 cast-t7 c = search needs
 
 returns : tie.Need-returns
-returns c = end-sort (c .before .args .byte) (c .match .keys1)
+returns c = let e = c .match .keys1 in end-sort (c .before .args .byte) (omega arith)
 
 returns-2 : tie.Need-returns-2
 returns-2 c = decimal-sort (c .before .before .before .args .byte) (omega arith) (omega arith)

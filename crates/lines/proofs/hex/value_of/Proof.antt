@@ -1,6 +1,6 @@
 -- `lines::hex::value_of`: a digit's value is its sort's. Assumes nothing.
 use native.Mathlib.Omega.{arith}
-use mathlib.Core.Path.{_≡_, ap, sym, _∙_}
+use mathlib.Core.Path.{ap, sym, _∙_}
 use borrow.Author.Needs.{needs}
 use Rattle.lines.proofs.Digits.{sort-value, value-small, valueSort}
 use Rattle.lines.proofs.hex.value_of.Statement.{statement}

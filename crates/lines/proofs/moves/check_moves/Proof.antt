@@ -1,14 +1,10 @@
 -- `lines::moves::check_moves`: the tests in their order. Assumes nothing.
-use Prim.Native.Nat.{_/_}
 use native.Mathlib.Omega.{arith}
 use mathlib.Core.Path.{_≡_, sym, _∙_}
 use mathlib.Core.Bool.{false}
-use lib.ListN.{length}
 use Rattle.game.specs.Lists.{some-of}
 use Rattle.lines.specs.Hex.{isWrong}
-use Rattle.lines.specs.MoveLine.{storedOf}
-use Rattle.lines.proofs.Verdict.{columnsByte, rowsByte}
-use Rattle.lines.proofs.Words.{length-stored, wordsIn}
+use Rattle.lines.proofs.Words.{length-stored}
 use Rattle.lines.proofs.MoveCalls.{all-fine, few-digits, no-columns, no-room, no-rows, part-move, wrong-byte}
 use borrow.Author.Needs.{needs}
 use Rattle.lines.proofs.moves.check_moves.Statement.{statement}

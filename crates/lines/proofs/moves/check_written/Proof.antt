@@ -1,8 +1,5 @@
 -- `lines::moves::check_written`: the tests in their order. Assumes nothing.
 use native.Mathlib.Omega.{arith}
-use mathlib.Core.Path.{_≡_}
-use mathlib.Core.Bool.{false}
-use Rattle.game.specs.Calls.{sideOut}
 use Rattle.lines.proofs.Verdict.{side-fine, side-none}
 use Rattle.lines.proofs.MoveCalls.{columns-out, line-fits, many-moves, rows-out, short-line, side-many}
 use borrow.Author.Needs.{needs}

@@ -1,7 +1,7 @@
 -- `lines::moves::put_word`: its high two bytes, then its low two. Assumes nothing.
 use Prim.Native.Nat.{ℕ, _+_, _/_, _%_}
 use native.Mathlib.Omega.{arith}
-use mathlib.Core.Path.{_≡_, ap, _∙_}
+use mathlib.Core.Path.{ap, _∙_}
 use mathlib.Core.List.{List}
 use lib.Seq.{sets}
 use Rattle.lines.proofs.Bytes.{sets-more}

@@ -1,6 +1,6 @@
 -- `lines::moves::word_at`: four bytes, high first. Assumes nothing.
 use native.Mathlib.Omega.{arith}
-use Rattle.lines.proofs.Words.{word-here}
+use Rattle.lines.proofs.Words.{word-read}
 use borrow.Author.Needs.{needs}
 use Rattle.lines.proofs.moves.word_at.Statement.{statement}
 use Rattle.lines.proofs.moves.word_at.Tie as tie
@@ -62,12 +62,11 @@ add-result-3 c = search needs
 returns : tie.Need-returns
 returns c =
     let a = c .before .before .before .before .before .args in
-    let e = word-here (a .line .now) (a .k) (omega arith) in
     let p = c .before .before .before .byte-at .ensures in
     let q = c .before .before .byte-at2 .ensures in
     let r = c .before .byte-at3 .ensures in
     let s = c .byte-at4 .ensures in
-    (omega arith, omega arith)
+    (word-read (a .line .now) (a .k) (omega arith) _ _ _ _ (omega arith) (omega arith) (omega arith) (omega arith), omega arith)
 
 pub word-at-spec : {M : Type 1} → statement M
 word-at-spec =

@@ -46,7 +46,7 @@ returns-3 c =
     let r = q .before .before .before .before in
     let s = r .before .before .before .before in
     let a = s .before .before .before .before .before .before .args in
-    price-there (a .at) (heldPrice (a .price)) (a .out .now) _ _ _ _ (omega arith) (s .put-byte .ensures) (r .put-two .ensures) (q .put-two2 .ensures) (p .put-two3 .ensures)
+    price-there (a .at) (heldPrice (a .price)) (a .out .now) _ _ _ _ _ _ _ _ (omega arith) (s .put-byte .ensures) (r .put-two .ensures) (q .put-two2 .ensures) (p .put-two3 .ensures) (omega arith) (omega arith) (omega arith) (omega arith)
 
 pub put-price-spec : {M : Type 1} → statement M
 put-price-spec =
