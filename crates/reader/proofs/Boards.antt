@@ -9,10 +9,9 @@ use lib.ListN.{drop, getD, length, length-take, take}
 use lib.Seq.{take-at}
 use Rattle.game.specs.Grid.{Grid, size}
 use Rattle.game.specs.Area.{begun}
-use Rattle.game.specs.Calls.{Answer, Refusal, gives, numberOf, refuses}
+use Rattle.game.specs.Calls.{Answer, Refusal, gives, refuses}
 use Rattle.area.specs.Numbers.{gridOf}
 use Rattle.lines.specs.BoardLine.{boardLineCall, lineGrid, lineRefusal}
-use Rattle.lines.specs.PriceLine.{Price}
 use Rattle.lines.specs.Answers.{KeptGrid}
 use Rattle.lines.proofs.Calls.{kept-read, kept-refused}
 use Rattle.lines.proofs.Verdict.{length-values, passed}

@@ -2,18 +2,17 @@
 use Prim.Native.Nat.{ℕ, suc, _+_, _-_, _*_, _≤_, _<_}
 use native.Mathlib.Omega.{arith}
 use native.Mathlib.Nat.{add-sub-of-le}
-use native.Mathlib.Numerals.{add-one}
 use mathlib.Core.Path.{_≡_, refl, ap, sym, _∙_}
 use mathlib.Core.Bool.{Bool, cond, false, true}
 use mathlib.Core.List.{List, [], _∷_, _++_, append-assoc, append-nil}
-use lib.Dec.{eqb, leb, ltb}
+use lib.Dec.{eqb, ltb}
 use lib.ListN.{drop, length, length-append, length-drop, length-set, length-take, set, take}
 use lib.Seq.{drop-at, drop-drop, length-take-le, take-all, take-append-le, take-at, take-suc-set}
 use borrow.Author.Tests.{le-leb, ltb-false, ltb-true}
 use Rattle.game.specs.Lists.{concat-map}
 use Rattle.lines.specs.Hex.{putDigits}
 use Rattle.reader.specs.Prices.{answerLine}
-use Rattle.reader.specs.Blocks.{Cut, Desk, Keeps, Told, blockRead, byteRead, cutFrom, saidAt}
+use Rattle.reader.specs.Blocks.{Cut, Desk, Keeps, Told, blockRead, cutFrom, saidAt}
 use Rattle.reader.proofs.Kept.{answer-kept, answer-long}
 
 -- ---- what is put in its place

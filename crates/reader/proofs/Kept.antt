@@ -11,7 +11,7 @@ use lib.Seq.{length-take-le, take-all}
 use borrow.Author.Tests.{ltb-false, ltb-true}
 use Rattle.game.specs.Grid.{Grid}
 use Rattle.game.specs.Calls.{Refusal, frame}
-use Rattle.lines.specs.BoardLine.{lineGrid, lineRefusal}
+use Rattle.lines.specs.BoardLine.{lineGrid}
 use Rattle.lines.specs.PriceLine.{Price, priceDigits}
 use Rattle.lines.proofs.Verdict.{long-refused}
 use Rattle.reader.specs.Prices.{answerLine, priceOf, priceOr}

@@ -4,7 +4,6 @@ use native.Mathlib.Omega.{arith}
 use mathlib.Core.Path.{_≡_, ap, sym, _∙_}
 use mathlib.Core.List.{List, [], _∷_, _++_}
 use lib.ListN.{length, length-append, set, take}
-use lib.Seq.{sets}
 use Rattle.lines.specs.Hex.{putDigits}
 use Rattle.lines.specs.PriceLine.{Price, priceDigits}
 use Rattle.lines.proofs.Bytes.{sets-more}

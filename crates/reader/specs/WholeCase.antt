@@ -1,6 +1,6 @@
 -- Document 01's whole case: six lines and what is printed for them. Assumes nothing.
 use Prim.Native.Nat.{ℕ}
-use Prim.Native.Char.{Char, code}
+use Prim.Native.Char.{code}
 use Prim.Native.String.{String, [] as none-left, _∷_ as _then_}
 use mathlib.Core.List.{List, [], _∷_}
 

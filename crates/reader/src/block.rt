@@ -2,10 +2,7 @@
 use crate::Answered;
 use crate::Refusal;
 ghost use mathlib.Core.Path.{_≡_};
-ghost use Prim.Native.Nat.{_+_, _≤_};
-ghost use lib.ListN.{length, take};
-ghost use Rattle.lines.specs.Hex.{putDigits};
-ghost use Rattle.reader.specs.Prices.{answerLine};
+ghost use lib.ListN.{length};
 ghost use Rattle.reader.specs.Blocks.{blockCall, blockRead, byteRead, deskOf, endCall};
 ghost use Rattle.reader.specs.Answers.{KeptDesk, Room, answeredAnswer, deskAt};
 

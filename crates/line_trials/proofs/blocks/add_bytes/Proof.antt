@@ -1,6 +1,5 @@
 -- `line_trials::blocks::add_bytes`: the bytes added are within the run. Assumes nothing.
 use Prim.Native.Nat.{_-_, _≤_}
-use native.Mathlib.Omega.{arith}
 use lib.ListN.{length}
 use borrow.Author.Needs.{needs}
 use Rattle.line_trials.proofs.blocks.add_bytes.Statement.{statement}

@@ -1,6 +1,5 @@
 -- `line_trials::blocks::read_parts`: each block is in the input, and what is left of it falls. Assumes nothing.
 use Prim.Native.Nat.{_-_, _≤_}
-use native.Mathlib.Omega.{arith}
 use mathlib.Core.Path.{_≡_}
 use lib.ListN.{length}
 use borrow.Author.Needs.{needs}

@@ -1,6 +1,5 @@
 -- `line_trials::moves::count_of`: the values left fall. Assumes nothing.
 use Prim.Native.Nat.{_-_, _≤_}
-use native.Mathlib.Omega.{arith}
 use borrow.Author.Needs.{needs}
 use Rattle.line_trials.proofs.moves.count_of.Statement.{statement}
 use Rattle.line_trials.proofs.moves.count_of.Tie as tie

@@ -1,6 +1,5 @@
 -- `line_trials::moves::read_line`: the part that is lent is in the list. Assumes nothing.
 use mathlib.Core.Path.{sym}
-use native.Mathlib.Omega.{arith}
 use lib.Seq.{length-take-le}
 use borrow.Author.Needs.{needs}
 use Rattle.line_trials.proofs.moves.read_line.Statement.{statement}

@@ -1,6 +1,5 @@
 -- `line_trials::moves::vary_all`: the places left fall. Assumes nothing.
 use Prim.Native.Nat.{_-_, _≤_}
-use native.Mathlib.Omega.{arith}
 use borrow.Author.Needs.{needs}
 use Rattle.line_trials.proofs.moves.vary_all.Statement.{statement}
 use Rattle.line_trials.proofs.moves.vary_all.Tie as tie

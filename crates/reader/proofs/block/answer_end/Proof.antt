@@ -1,5 +1,4 @@
 -- `reader::block::answer_end`: refused as the checks say, else the line that goes on answered. Assumes nothing.
-use native.Mathlib.Omega.{arith}
 use Rattle.game.specs.Calls.{trace, work}
 use Rattle.reader.specs.Answers.{deskAt}
 use Rattle.reader.proofs.Verdict.{end-answered, end-empty, end-refused, fine, many-kept, short-held, short-out}

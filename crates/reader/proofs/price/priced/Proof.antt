@@ -1,5 +1,4 @@
 -- `reader::price::priced`: the three figures. Assumes nothing.
-use Rattle.lines.specs.PriceLine.{Price}
 use borrow.Author.Needs.{needs}
 use Rattle.reader.proofs.price.priced.Statement.{statement}
 use Rattle.reader.proofs.price.priced.Tie as tie

@@ -1,7 +1,6 @@
 -- `reader::price::refused`: zeros after the number. Assumes nothing.
 use Prim.Native.Nat.{ℕ}
 use mathlib.Core.Path.{ap}
-use Rattle.lines.specs.PriceLine.{Price}
 use borrow.Author.Needs.{needs}
 use Rattle.reader.proofs.price.refused.Statement.{statement}
 use Rattle.reader.proofs.price.refused.Tie as tie
