@@ -1,9 +1,9 @@
--- A board that was taken is refused by no call: the calls answer its figures. Assumes nothing.
+-- A board that was taken is refused by no call: the calls answer its figures, and a price is its parts. Assumes nothing.
 use Prim.Native.Nat.{ℕ, _*_}
 use native.Mathlib.Omega.{arith}
 use mathlib.Core.Path.{_≡_, ap, sym, _∙_}
 use mathlib.Core.List.{List, [], _∷_, _++_}
-use mathlib.Core.Option.{Option, none}
+use mathlib.Core.Option.{Option, none, some}
 use lib.IntN.{ℤ, pos}
 use lib.ListN.{getD, length, length-replicate, replicate}
 use Rattle.game.specs.Grid.{Grid}
@@ -11,9 +11,11 @@ use Rattle.game.specs.Openings.{threeBV}
 use Rattle.game.specs.Position.{untouched}
 use Rattle.game.specs.Area.{areaOf}
 use Rattle.game.specs.Rounds.{greedySteps, movesOf, openingsFirstSteps}
-use Rattle.game.specs.Calls.{Answer, Refusal, firstGiven, gives, greedyCall, gridChecks, listCheck, openingsFirstCall, playedRound, refuses, threeBVCall, trace, unless, unlessListed}
+use Rattle.game.specs.Calls.{Answer, Refusal, firstGiven, gives, greedyCall, gridChecks, listCheck, numberOf, openingsFirstCall, playedRound, refuses, threeBVCall, trace, unless, unlessListed}
 use Rattle.zini.proofs.Verdict.{all-fine}
 use Rattle.zini.proofs.More.{enough}
+use Rattle.lines.specs.PriceLine.{Price}
+use Rattle.reader.specs.Prices.{priceOr}
 use Rattle.reader.specs.Taken.{Taken}
 
 -- an answer of one value is that value's
@@ -51,3 +53,11 @@ module _ (g : Grid) (taken : Taken (g .rows) (g .columns) (g .values)) where
   pub openings-first-answer : openingsFirstCall g area list .answer ≡ gives (length (movesOf (openingsFirstSteps g)) ∷ [])
   unfolding openingsFirstCall
   openings-first-answer = ap (λ (o : Option Refusal). unlessListed o area list (playedRound g (movesOf (openingsFirstSteps g)) area list) .answer) (sym list-fine)
+
+-- ---- a price by its parts
+
+pub zeros-after : (f : Refusal) (p : Price) → p .number ≡ numberOf f → p .units ≡ 0 → p .greedy ≡ 0 → p .openings-first ≡ 0 → (g : Grid) → p ≡ priceOr (some f) g
+zeros-after f p n u k o g = λ i. record { number = n i; units = u i; greedy = k i; openings-first = o i }
+
+pub by-figures : (g : Grid) (p : Price) → p .number ≡ 0 → p .units ≡ threeBV g → p .greedy ≡ length (movesOf (greedySteps g)) → p .openings-first ≡ length (movesOf (openingsFirstSteps g)) → p ≡ priceOr none g
+by-figures g p n u k o = λ i. record { number = n i; units = u i; greedy = k i; openings-first = o i }

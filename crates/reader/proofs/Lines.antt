@@ -22,8 +22,9 @@ feed-put at line old p room e =
     ∙ put-there at (ds ++ 10 ∷ []) old (omega (arith, length-append ds (10 ∷ [])))
     ∙ ap (λ (x : Price). putDigits at (priceDigits x ++ 10 ∷ []) old) e
 
-pub line-fed : (d : Desk) (out : List ℕ) (p : Price) → Room d 1 → p ≡ priceOf (take (d .count) (d .held)) → out ≡ putDigits (d .written) (priceDigits p) (d .out)
-    → _≡_ {A = Desk} (record { held = d .held; count = 0; out = set out (d .written + 14) 10; written = d .written + 15 }) (byteRead d 10)
-line-fed d out p r e q =
-    ap (λ (l : List ℕ). record { held = d .held; count = 0; out = l; written = d .written + 15 })
-    (ap (λ (l : List ℕ). set l (d .written + 14) 10) q ∙ feed-put (d .written) (take (d .count) (d .held)) (d .out) p (omega (arith, r .out-room)) e)
+pub line-fed : (d : Desk) (out : List ℕ) (p : Price) (kept written : ℕ) → Room d 1 → p ≡ priceOf (take (d .count) (d .held)) → out ≡ putDigits (d .written) (priceDigits p) (d .out)
+    → kept ≡ 0 → written ≡ d .written + 15 → _≡_ {A = Desk} (record { held = d .held; count = kept; out = set out (d .written + 14) 10; written = written }) (byteRead d 10)
+line-fed d out p kept written r e q k w =
+    let put : set out (d .written + 14) 10 ≡ putDigits (d .written) (answerLine (take (d .count) (d .held))) (d .out) =
+    ap (λ (l : List ℕ). set l (d .written + 14) 10) q ∙ feed-put (d .written) (take (d .count) (d .held)) (d .out) p (omega (arith, r .out-room)) e in
+    λ i. record { held = d .held; count = k i; out = put i; written = w i }

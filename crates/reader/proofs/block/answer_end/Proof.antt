@@ -1,4 +1,5 @@
 -- `reader::block::answer_end`: refused as the checks say, else the line that goes on answered. Assumes nothing.
+use native.Mathlib.Omega.{arith}
 use Rattle.game.specs.Calls.{trace, work}
 use Rattle.reader.specs.Answers.{deskAt}
 use Rattle.reader.proofs.Verdict.{end-answered, end-empty, end-refused, fine, many-kept, short-held, short-out}
@@ -24,7 +25,7 @@ returns-3 c =
 returns-4 : tie.Need-returns-4
 returns-4 c =
     let a = c .before .before .before .before .before .before .args in
-    end-empty (a .held .now) (a .count) (a .out .now) (fine (a .held .now) (a .count) (a .out .now) 1 (c .before .before .before .if1 .left) (c .before .before .if2 .left) (c .before .if3 .left)) (c .if4 .taken)
+    end-empty (a .held .now) (a .count) (a .out .now) (fine (a .held .now) (a .count) (a .out .now) 1 (c .before .before .before .if1 .left) (c .before .before .if2 .left) (c .before .if3 .left)) (omega (arith, c .if4 .taken))
 
 end-line-requires : tie.Need-end-line-requires
 end-line-requires c κs = search needs

@@ -33,7 +33,7 @@ same-length c = search needs
 returns : tie.Need-returns
 returns c =
     let s = c .before .before .before .before .before .before .before .before in
-    line-fed (deskAt (s .args .held .now) (s .args .place) (s .args .out .now)) (c .before .before .put-price .last .0) (heldPrice (c .before .before .before .before .price-line .result)) (s .pre) (c .before .before .before .before .price-line .ensures) (c .before .before .put-price .ensures)
+    line-fed (deskAt (s .args .held .now) (s .args .place) (s .args .out .now)) (c .before .before .put-price .last .0) (heldPrice (c .before .before .before .before .price-line .result)) _ _ (s .pre) (c .before .before .before .before .price-line .ensures) (c .before .before .put-price .ensures) (omega arith) (omega arith)
 
 pub end-line-spec : {M : Type 1} → statement M
 end-line-spec =

@@ -1,4 +1,5 @@
 -- `reader::block::read_byte`: a line feed, a byte past the 517th, or a byte that is kept. Assumes nothing.
+use native.Mathlib.Omega.{arith}
 use mathlib.Core.Path.{_∙_}
 use Rattle.reader.specs.Answers.{deskAt}
 use Rattle.reader.proofs.Bytes.{feed-read, full-read, kept-read}
@@ -18,12 +19,12 @@ same-length-2 c = search needs
 returns : tie.Need-returns
 returns c =
     let s = c .before .before .before .before .before .before .before .before .args in
-    c .before .before .end-line .ensures ∙ feed-read (deskAt (s .held .now) (s .place) (s .out .now)) (s .byte) (c .before .before .before .before .before .if1 .taken)
+    c .before .before .end-line .ensures ∙ feed-read (deskAt (s .held .now) (s .place) (s .out .now)) (s .byte) (omega (arith, c .before .before .before .before .before .if1 .taken))
 
 returns-2 : tie.Need-returns-2
 returns-2 c =
     let s = c .before .before .before .before .args in
-    full-read (deskAt (s .held .now) (s .place) (s .out .now)) (s .byte) (c .before .if1 .left) (c .if2 .taken)
+    full-read (deskAt (s .held .now) (s .place) (s .out .now)) (s .byte) (c .before .if1 .left) (omega (arith, c .if2 .taken))
 
 slice-write-held : tie.Need-slice-write-held
 slice-write-held c = search needs
@@ -37,7 +38,7 @@ same-length-3 c = search needs
 returns-3 : tie.Need-returns-3
 returns-3 c =
     let s = c .before .before .before .before .args in
-    kept-read (deskAt (s .held .now) (s .place) (s .out .now)) (s .byte) (c .before .if1 .left) (c .if2 .left)
+    kept-read (deskAt (s .held .now) (s .place) (s .out .now)) (s .byte) (c .before .if1 .left) (omega (arith, c .if2 .left))
 
 pub read-byte-spec : {M : Type 1} → statement M
 read-byte-spec =

@@ -1,4 +1,8 @@
 -- `reader::price::priced`: the three figures. Assumes nothing.
+use native.Mathlib.Omega.{arith}
+use Rattle.area.specs.Numbers.{gridOf}
+use Rattle.lines.specs.PriceLine.{heldPrice}
+use Rattle.reader.proofs.Figures.{by-figures}
 use borrow.Author.Needs.{needs}
 use Rattle.reader.proofs.price.priced.Statement.{statement}
 use Rattle.reader.proofs.price.priced.Tie as tie
@@ -13,7 +17,9 @@ openings-first-requires : tie.Need-openings-first-requires
 openings-first-requires c κs = search needs
 
 returns : tie.Need-returns
-returns c = λ i. record { number = 0; units = c .before .before .units .ensures i; greedy = c .before .greedy .ensures i; openings-first = c .openings-first .ensures i }
+returns c =
+    let a = c .before .before .before .args in
+    by-figures (gridOf (a .rows) (a .columns) (a .grid .now)) (heldPrice _) (omega arith) (search needs) (search needs) (search needs)
 
 pub priced-spec : {M : Type 1} → statement M
 priced-spec = tie.close (tie.spec units-requires greedy-requires openings-first-requires returns)
