@@ -20,12 +20,12 @@ returns-2 c =
 returns-3 : tie.Need-returns-3
 returns-3 c =
     let a = c .before .before .before .before .before .args in
-    end-refused (a .held .now) (a .count) (a .out .now) trace (short-out (a .held .now) (a .count) (a .out .now) 1 (c .before .before .if1 .left) (c .before .if2 .left) (c .if3 .taken))
+    end-refused (a .held .now) (a .count) (a .out .now) trace (short-out (a .held .now) (a .count) (a .out .now) 1 (c .before .before .if1 .left) (c .before .if2 .left) (omega (arith, c .if3 .taken)))
 
 returns-4 : tie.Need-returns-4
 returns-4 c =
     let a = c .before .before .before .before .before .before .args in
-    end-empty (a .held .now) (a .count) (a .out .now) (fine (a .held .now) (a .count) (a .out .now) 1 (c .before .before .before .if1 .left) (c .before .before .if2 .left) (c .before .if3 .left)) (omega (arith, c .if4 .taken))
+    end-empty (a .held .now) (a .count) (a .out .now) (fine (a .held .now) (a .count) (a .out .now) 1 (c .before .before .before .if1 .left) (c .before .before .if2 .left) (omega (arith, c .before .if3 .left))) (omega (arith, c .if4 .taken))
 
 end-line-requires : tie.Need-end-line-requires
 end-line-requires c κs = search needs
@@ -38,7 +38,7 @@ returns-5 c =
     let a = c .before .before .before .before .before .before .before .before .before .before .args in
     let r = c .before .before .end-line in
     end-answered (a .held .now) (a .count) (a .out .now) (deskAt (a .held .now) (r .result) (r .last .1 .0))
-    (fine (a .held .now) (a .count) (a .out .now) 1 (c .before .before .before .before .before .before .before .if1 .left) (c .before .before .before .before .before .before .if2 .left) (c .before .before .before .before .before .if3 .left)) (c .before .before .before .before .if4 .left)
+    (fine (a .held .now) (a .count) (a .out .now) 1 (c .before .before .before .before .before .before .before .if1 .left) (c .before .before .before .before .before .before .if2 .left) (omega (arith, c .before .before .before .before .before .if3 .left))) (c .before .before .before .before .if4 .left)
     (r .ensures)
 
 pub answer-end-spec : {M : Type 1} → statement M
