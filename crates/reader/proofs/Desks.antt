@@ -3,14 +3,15 @@ use Prim.Native.Nat.{ℕ, suc, _+_, _-_, _*_, _≤_, _<_}
 use native.Mathlib.Omega.{arith}
 use native.Mathlib.Nat.{add-sub-of-le}
 use mathlib.Core.Path.{_≡_, refl, ap, sym, _∙_}
-use mathlib.Core.Bool.{Bool, cond, false, true}
+use mathlib.Core.Bool.{Bool, false, true}
 use mathlib.Core.List.{List, [], _∷_, _++_, append-assoc, append-nil}
 use lib.Dec.{eqb, ltb}
 use lib.ListN.{drop, length, length-append, length-drop, length-set, length-take, set, take}
-use lib.Seq.{drop-at, drop-drop, length-take-le, take-all, take-append-le, take-at, take-suc-set}
-use borrow.Author.Tests.{le-leb, ltb-false, ltb-true}
+use lib.Seq.{drop-at, drop-drop, length-take-le, sets-eq, take-all, take-append-le, take-at, take-suc-set}
+use borrow.Author.Tests.{ltb-false, ltb-true}
 use Rattle.game.specs.Lists.{concat-map}
 use Rattle.lines.specs.Hex.{putDigits}
+use Rattle.lines.proofs.Priced.{put-there}
 use Rattle.reader.specs.Prices.{answerLine}
 use Rattle.reader.specs.Blocks.{Cut, Desk, Keeps, Told, blockRead, cutFrom, saidAt}
 use Rattle.reader.proofs.Kept.{answer-kept, answer-long}
@@ -19,8 +20,7 @@ use Rattle.reader.proofs.Kept.{answer-kept, answer-long}
 
 -- digits with room stand after what stood before them
 put-room : (at : ℕ) (ds old : List ℕ) → at + length ds ≤ length old → putDigits at ds old ≡ take at old ++ ds ++ drop (at + length ds) old
-unfolding putDigits
-put-room at ds old h = ap (λ (t : Bool). cond t (take at old ++ ds ++ drop (at + length ds) old) old) (le-leb (at + length ds) (length old) h)
+put-room at ds old h = sym (put-there at ds old h) ∙ sets-eq ds old at h
 
 module _ (at : ℕ) (ds old : List ℕ) (room : at + length ds ≤ length old) where
   -- the digits and what stands before them
