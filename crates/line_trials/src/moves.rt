@@ -1,23 +1,14 @@
 // Stored move lines read and written, whole, cut and spoilt.
 use lines::moves::MovesRead;
 use lines::moves::MovesWritten;
+use reader::price;
 
 // An answer: its number and its values.
 struct Read {
-    number: u64,
+    number: usize,
     rows: usize,
     columns: usize,
     count: usize,
-}
-
-fn number_of(refusal: lines::Refusal) -> u64 {
-    match refusal {
-        lines::Refusal::Shape => 1,
-        lines::Refusal::Board => 2,
-        lines::Refusal::Trace => 4,
-        lines::Refusal::Frame => 8,
-        lines::Refusal::Size => 9,
-    }
 }
 
 fn read_of(answer: MovesRead) -> Read {
@@ -29,7 +20,7 @@ fn read_of(answer: MovesRead) -> Read {
             count,
         },
         MovesRead::Refused(refusal) => Read {
-            number: number_of(refusal),
+            number: price::number_of(refusal),
             rows: 0,
             columns: 0,
             count: 0,
@@ -40,7 +31,7 @@ fn read_of(answer: MovesRead) -> Read {
 // A line read into a list: the answer, then the list.
 fn read_into(line: &[u8], list: &mut [u32]) {
     let read = read_of(lines::moves::read_moves(line, list));
-    trials::print_number(read.number);
+    trials::print_number(read.number as u64);
     trials::print_number(read.rows as u64);
     trials::print_number(read.columns as u64);
     trials::print_number(read.count as u64);
@@ -82,8 +73,8 @@ pub fn read_all() {
 }
 
 // Prints a number, how many digits, and the run.
-fn print_written(number: u64, digits: usize, line: &[u8]) {
-    trials::print_number(number);
+fn print_written(number: usize, digits: usize, line: &[u8]) {
+    trials::print_number(number as u64);
     trials::print_number(digits as u64);
     io::write_all(1, b" ");
     io::write_all(1, line);
@@ -96,7 +87,7 @@ fn write_into(rows: usize, columns: usize, count: usize, line: &mut [u8]) {
     let written = lines::moves::write_moves(rows, columns, &list, count, line);
     match written {
         MovesWritten::Digits(digits) => print_written(0, digits, line),
-        MovesWritten::Refused(refusal) => print_written(number_of(refusal), 0, line),
+        MovesWritten::Refused(refusal) => print_written(price::number_of(refusal), 0, line),
     }
 }
 
@@ -126,14 +117,14 @@ pub fn write_all() {
 }
 
 // The number that a line is answered with.
-fn read_number(line: &[u8; 12]) -> u64 {
+fn read_number(line: &[u8; 12]) -> usize {
     let mut list = [9u32; 4];
     let read = read_of(lines::moves::read_moves(line, &mut list));
     read.number
 }
 
 // The number of a line with another byte at a place.
-fn varied(place: usize, value: u8) -> u64 {
+fn varied(place: usize, value: u8) -> usize {
     let mut line = [48u8, 50, 48, 50, 48, 48, 48, 49, 48, 48, 48, 49];
     if place < 12 {
         line[place] = value;
@@ -142,7 +133,7 @@ fn varied(place: usize, value: u8) -> u64 {
 }
 
 // How many lines have a number, of those with each byte value at a place.
-fn count_of(place: usize, number: u64) -> u64 {
+fn count_of(place: usize, number: usize) -> u64 {
     let mut count: u64 = 0;
     for value in 0..=255u8 {
         if varied(place, value) == number {

@@ -6,11 +6,11 @@ use zini::Priced;
 ghost use Prim.Native.Nat.{ℕ};
 ghost use mathlib.Core.Path.{_≡_};
 ghost use mathlib.Core.List.{[], _∷_};
+ghost use mathlib.Core.Option.{none, some};
 ghost use lib.ListN.{length};
+ghost use Rattle.game.specs.Grid.{Grid};
 ghost use Rattle.game.specs.Openings.{threeBV};
 ghost use Rattle.game.specs.Rounds.{greedySteps, movesOf, openingsFirstSteps};
-ghost use mathlib.Core.Option.{none, some};
-ghost use Rattle.game.specs.Grid.{Grid};
 ghost use Rattle.game.specs.Calls.{gives, numberOf};
 ghost use Rattle.area.specs.Numbers.{gridOf};
 ghost use Rattle.zini.specs.Answers.{countedAnswer, pricedAnswer};
@@ -88,7 +88,7 @@ fn priced(rows: usize, columns: usize, grid: &[i32]) -> Price
 }
 
 // The number of a line's refusal.
-fn number_of(refusal: lines::Refusal) -> usize
+pub fn number_of(refusal: lines::Refusal) -> usize
     ensures { λ r. ⌜ r ≡ numberOf (named refusal) ⌝ }
 {
     match refusal {
