@@ -1,10 +1,10 @@
 -- How bytes become lines, and what is printed for them, wherever the input is cut into blocks. Assumes nothing.
-use Prim.Native.Nat.{ℕ, _*_, _+_, suc}
+use Prim.Native.Nat.{ℕ, suc, _+_, _*_, _≤_}
 use mathlib.Core.Path.{_≡_}
-use mathlib.Core.Bool.{Bool, _||_, false, true}
+use mathlib.Core.Bool.{_||_, false, true}
 use mathlib.Core.List.{List, [], _∷_, _++_}
 use lib.Dec.{eqb, ltb}
-use lib.ListN.{length, set, take}
+use lib.ListN.{drop, length, set, take}
 use mathlib.Core.Option.{Option, none, some}
 use Rattle.game.specs.Lists.{concat-map}
 use Rattle.game.specs.Calls.{Answer, Check, Refusal, firstGiven, gives, refuses, trace, work}
@@ -24,6 +24,10 @@ cutFrom begun (b ∷ bs) =
       | true ↦ record { ended = begun ∷ cutFrom [] bs .ended; goes-on = cutFrom [] bs .goes-on }
       | false ↦ cutFrom (begun ++ b ∷ []) bs
     ]
+
+-- bytes read on where a cut ended
+abbrev pub readOn : Cut → List ℕ → Cut
+readOn c bs = record { ended = c .ended ++ cutFrom (c .goes-on) bs .ended; goes-on = cutFrom (c .goes-on) bs .goes-on }
 
 -- the last line feed may be missing; nothing after it is no line
 abbrev pub lastLine : List ℕ → List (List ℕ)
@@ -115,6 +119,23 @@ pub record Keeps (goes-on held : List ℕ) (count : ℕ) : Type 0 where
 -- what is printed from a desk
 abbrev pub saidAt : Desk → List ℕ
 saidAt d = take (d .written) (d .out)
+
+-- what bytes have come to at a desk: the lines that ended are answered, the line that goes on is kept, and what is past the answers stands
+pub record Told (cut : Cut) (before after : Desk) : Type 0 where
+  pub keeps : Keeps (cut .goes-on) (after .held) (after .count)
+  pub says : saidAt after ≡ saidAt before ++ concat-map answerLine (cut .ended)
+  pub held-whole : length (after .held) ≡ length (before .held)
+  pub out-whole : length (after .out) ≡ length (before .out)
+  pub fifteen-each : after .written ≡ before .written + 15 * length (cut .ended)
+  pub stands : drop (after .written) (after .out) ≡ drop (after .written) (before .out)
+
+-- room for as many answers as a block has bytes
+abbrev pub Fits : List ℕ → List ℕ → Type 0
+Fits out block = 15 * length block ≤ length out
+
+-- the input that blocks come to
+abbrev pub joined : List (List ℕ) → List ℕ
+joined blocks = concat-map (λ b. b) blocks
 
 -- blocks answered one after the other, and then the end: all that is printed
 abbrev pub session : List (List ℕ) → List ℕ → ℕ → List ℕ → List ℕ

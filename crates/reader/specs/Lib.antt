@@ -1,3 +1,7 @@
 -- The board reader: board lines in, prices out.
+pub mod Taken
 pub mod Prices
 pub mod Blocks
+pub mod Answers
+pub mod Runs
+pub mod WholeCase

@@ -8,7 +8,7 @@ pub struct Plain {
 }
 
 // A space and a number.
-fn print_number(n: u64) {
+pub fn print_number(n: u64) {
     io::write_all(1, b" ");
     io::print_decimal(1, n);
 }

@@ -1,0 +1,100 @@
+-- A block's checks by the tests of the code, and the promise that is kept: refused as they say, else the desk that was read. Assumes nothing.
+use Prim.Native.Nat.{ℕ, _/_, _*_, _<_, _≤_}
+use native.Mathlib.Omega.{arith}
+use native.Mathlib.Nat.{div-lt-iff-lt-mul, le-div-iff-mul-le}
+use mathlib.Core.Path.{_≡_, refl, ap, sym, _∙_}
+use mathlib.Core.Bool.{Bool, _||_, false, true}
+use mathlib.Core.List.{List, [], _∷_}
+use mathlib.Core.Option.{Option, none, some}
+use lib.Dec.{ltb}
+use lib.ListN.{length}
+use borrow.Author.Tests.{eq-eqb, le-ltb, lt-ltb, ne-eqb}
+use Rattle.game.specs.Calls.{Refusal, firstGiven, gives, refuses, trace, work}
+use Rattle.reader.specs.Blocks.{Desk, blockCall, blockRead, byteRead, deskOf, endCall, endRead, heldCheck, outCheck, unlessDesk}
+use Rattle.reader.specs.Answers.{KeptDesk}
+
+-- ---- the refusal that is given
+
+-- the refusal by the three tests
+abbrev verdict : Bool → Bool → Bool → Option Refusal
+verdict a b c = firstGiven (record { given = a || b; refusal = work } ∷ record { given = c; refusal = trace } ∷ [])
+
+-- the refusal that is given, if any
+abbrev pub given : List ℕ → ℕ → List ℕ → ℕ → Option Refusal
+given held count out n = firstGiven (heldCheck held count ∷ outCheck out n ∷ [])
+
+module _ (held : List ℕ) (count : ℕ) (out : List ℕ) (n : ℕ) where
+  by : (a b c : Bool) → ltb (length held) 517 ≡ a → ltb 517 count ≡ b → ltb (length out) (15 * n) ≡ c → verdict a b c ≡ given held count out n
+  by a b c p q r = λ i. verdict (sym p i) (sym q i) (sym r i)
+
+  pub short-held : length held < 517 → some work ≡ given held count out n
+  short-held h = by true (ltb 517 count) (ltb (length out) (15 * n)) (lt-ltb (length held) 517 h) refl refl
+
+  module _ (held-room : 517 ≤ length held) where
+    pub many-kept : 517 < count → some work ≡ given held count out n
+    many-kept h = by false true (ltb (length out) (15 * n)) (le-ltb (length held) 517 held-room) (lt-ltb 517 count h) refl
+
+    module _ (few : count ≤ 517) where
+      pub short-out : length out < 15 * n → some trace ≡ given held count out n
+      short-out h = by false false true (le-ltb (length held) 517 held-room) (le-ltb 517 count few) (lt-ltb (length out) (15 * n) h)
+
+      pub fine : 15 * n ≤ length out → none ≡ given held count out n
+      fine h = by false false false (le-ltb (length held) 517 held-room) (le-ltb 517 count few) (le-ltb (length out) (15 * n) h)
+
+-- room for n lines, by the test of the code
+pub short-by : (m n : ℕ) → m / 15 < n → m < 15 * n
+short-by m n h = omega (arith, div-lt-iff-lt-mul {k = 15} {x = m} {y = n} (omega arith) .0 h)
+
+pub room-by : (m n : ℕ) → n ≤ m / 15 → 15 * n ≤ m
+room-by m n h = omega (arith, le-div-iff-mul-le {k = 15} {x = n} {y = m} (omega arith) .0 h)
+
+-- ---- the promise is kept
+
+desk-refused : (o : Option Refusal) (f : Refusal) (held out : List ℕ) (d : Desk) → some f ≡ o → KeptDesk (unlessDesk o held out d) (refuses f) held out
+desk-refused o f held out d e =
+    record {
+      answers = ap (λ (v : Option Refusal). unlessDesk v held out d .answer) e;
+      keeps = ap (λ (v : Option Refusal). unlessDesk v held out d .held) e;
+      prints = ap (λ (v : Option Refusal). unlessDesk v held out d .out) e;
+    }
+
+desk-else : (o : Option Refusal) (held out : List ℕ) (d d′ : Desk) → none ≡ o → d′ ≡ d
+    → KeptDesk (unlessDesk o held out d) (gives (d′ .count ∷ d′ .written ∷ [])) (d′ .held) (d′ .out)
+desk-else o held out d d′ e q =
+    record {
+      answers = ap (λ (x : Desk). gives (x .count ∷ x .written ∷ [])) q ∙ ap (λ (v : Option Refusal). unlessDesk v held out d .answer) e;
+      keeps = ap (λ (x : Desk). x .held) q ∙ ap (λ (v : Option Refusal). unlessDesk v held out d .held) e;
+      prints = ap (λ (x : Desk). x .out) q ∙ ap (λ (v : Option Refusal). unlessDesk v held out d .out) e;
+    }
+
+pub block-refused : (block held : List ℕ) (count : ℕ) (out : List ℕ) (f : Refusal) → some f ≡ given held count out (length block) → KeptDesk (blockCall block held count out) (refuses f) held out
+unfolding blockCall
+block-refused block held count out f e = desk-refused (given held count out (length block)) f held out (blockRead (deskOf held count out) block) e
+
+pub block-kept : (block held : List ℕ) (count : ℕ) (out : List ℕ) (d : Desk) → none ≡ given held count out (length block) → d ≡ blockRead (deskOf held count out) block
+    → KeptDesk (blockCall block held count out) (gives (d .count ∷ d .written ∷ [])) (d .held) (d .out)
+unfolding blockCall
+block-kept block held count out d e q = desk-else (given held count out (length block)) held out (blockRead (deskOf held count out) block) d e q
+
+-- ---- the end of input
+
+-- the end read, by whether anything is kept
+abbrev atEnd : Desk → Bool → Desk
+atEnd d t = elim t [ true ↦ d | false ↦ byteRead d 10 ]
+
+module _ (held : List ℕ) (count : ℕ) (out : List ℕ) where
+  pub end-refused : (f : Refusal) → some f ≡ given held count out 1 → KeptDesk (endCall held count out) (refuses f) held out
+  unfolding endCall
+  end-refused f e = desk-refused (given held count out 1) f held out (endRead (deskOf held count out)) e
+
+  pub end-empty : none ≡ given held count out 1 → count ≡ 0 → KeptDesk (endCall held count out) (gives (0 ∷ 0 ∷ [])) held out
+  unfolding endCall
+  end-empty e z =
+      desk-else (given held count out 1) held out (endRead (deskOf held count out)) (deskOf held 0 out) e
+      (ap (λ (n : ℕ). deskOf held n out) (sym z) ∙ ap (atEnd (deskOf held count out)) (sym (eq-eqb count 0 z)))
+
+  pub end-answered : (d : Desk) → none ≡ given held count out 1 → (count ≡ 0 → ⊥) → d ≡ byteRead (deskOf held count out) 10
+      → KeptDesk (endCall held count out) (gives (d .count ∷ d .written ∷ [])) (d .held) (d .out)
+  unfolding endCall
+  end-answered d e some-kept q =
+      desk-else (given held count out 1) held out (endRead (deskOf held count out)) d e (q ∙ ap (atEnd (deskOf held count out)) (sym (ne-eqb count 0 some-kept)))

@@ -1,0 +1,17 @@
+-- `reader::price::refused`: zeros after the number. Assumes nothing.
+use native.Mathlib.Omega.{arith}
+use Rattle.lines.specs.Answers.{named}
+use Rattle.lines.specs.PriceLine.{heldPrice}
+use Rattle.reader.proofs.Figures.{zeros-after}
+use borrow.Author.Needs.{needs}
+use Rattle.reader.proofs.price.refused.Statement.{statement}
+use Rattle.reader.proofs.price.refused.Tie as tie
+
+number-of-requires : tie.Need-number-of-requires
+number-of-requires c κs = search needs
+
+returns : tie.Need-returns
+returns c = λ g. zeros-after (named (c .before .args .refusal)) (heldPrice _) (c .number-of .ensures) (omega arith) (omega arith) (omega arith) g
+
+pub refused-spec : {M : Type 1} → statement M
+refused-spec = tie.close (tie.spec number-of-requires returns)
