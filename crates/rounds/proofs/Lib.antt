@@ -6,3 +6,4 @@ pub mod Hits
 pub mod Falls
 pub mod Onward
 pub mod Ending
+pub mod Quiet
