@@ -153,7 +153,7 @@ module _ (g : Grid) (s : Position) (w : List ℤ) (r : Holds g s w) where
       (and-both (safe g i) (opened s i || not openedOnly) t (subst T (looked-there openedOnly i h) u))
 
   -- a closed safe cell of number 0 or without label
-  unit-there : (i : ℕ) → i < size g → closedUnitCell g s i ≡ unitAt w i
+  pub unit-there : (i : ℕ) → i < size g → closedUnitCell g s i ≡ unitAt w i
   unfolding kind
   unit-there i h =
       sym (ap (λ (k : ℕ). eqb k 0 && not (eqb (numberAt w (5 * i + 4)) 0) && (eqb (numberAt w (5 * i + 4)) 1 || eqb (numberAt w (5 * i)) 0)) (r .states i h)

@@ -1,8 +1,8 @@
 -- Tests of one cell in a work area that stands for a position. Assumes nothing.
-use Prim.Native.Nat.{ℕ, _+_, _*_}
+use Prim.Native.Nat.{ℕ, _+_, _*_, _<_}
 use mathlib.Core.Bool.{Bool, not, cond, _&&_, _||_}
 use mathlib.Core.List.{List}
-use lib.Dec.{eqb, ltb}
+use lib.Dec.{T, eqb, ltb}
 use lib.IntN.{ℤ}
 use Rattle.area.specs.Numbers.{numberAt}
 
@@ -18,3 +18,7 @@ unitAt w i =
 -- a cell that a random step may take: of the highest raised premium if that is 10 or more, else a closed unit
 abbrev pub candidateAt : ℕ → List ℤ → ℕ → Bool
 candidateAt top w i = cond (ltb top 10) (unitAt w i) (eqb (numberAt w (5 * i + 2)) top)
+
+-- no closed unit has an index below k
+pub record NoUnitBelow (w : List ℤ) (k : ℕ) : Type 0 where
+  pub none : (j : ℕ) → j < k → T (unitAt w j) → ⊥

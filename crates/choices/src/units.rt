@@ -9,7 +9,7 @@ ghost use Rattle.game.specs.Grid.{Grid, size};
 ghost use Rattle.game.specs.Position.{Position};
 ghost use Rattle.game.specs.Rounds.{unitCells};
 ghost use Rattle.area.specs.Stages.{Shape, Stands};
-ghost use Rattle.choices.specs.Tests.{unitAt};
+ghost use Rattle.choices.specs.Tests.{NoUnitBelow, unitAt};
 ghost use Rattle.choices.specs.Picks.{foundFirst};
 
 // Whether there is a closed safe cell of number 0 or without label.
@@ -30,15 +30,15 @@ pub fn unit(work: &[i32], index: usize) -> bool
     area::get(work, 5 * index) == 0
 }
 
-// The lowest of them: the search leaves both loops at the first that qualifies.
-pub fn lowest(work: &[i32], rows: usize, columns: usize) -> Found
+// The lowest of them, where there is none in the columns before one: the search leaves both loops at the first that qualifies.
+pub fn lowest(work: &[i32], rows: usize, columns: usize, from: usize) -> Found
     requires { ⌜ Shape rows columns ⌝ }
-    requires { ⌜ 5 * (rows * columns) ≤ length (now work) ⌝ }
+    requires { ⌜ (5 * (rows * columns) ≤ length (now work)) × (from ≤ columns) × NoUnitBelow (now work) (from * rows) ⌝ }
     ensures { λ r. ⌜ ((g : Grid) (s : Position) (old : List ℤ) → Stands rows columns g s old (now (work .entry)) → r ≡ foundFirst (unitCells g s)) ⌝ }
 {
     let cells = columns * rows;
     let mut at = cells;
-    'grid: for column in 0..columns {
+    'grid: for column in from..columns {
         for row in 0..rows {
             let index = column * rows + row;
             if unit(work, index) {

@@ -7,3 +7,4 @@ pub mod Falls
 pub mod Onward
 pub mod Ending
 pub mod Quiet
+pub mod Lows

@@ -30,7 +30,7 @@ pub fn click_lowest(
         → 1 ≤ length (unitCells g s) → state .closed ≡ closedSafe g s
         → Made rows columns g s old (left (getD (unitCells g s) 0 0) ∷ []) (now (list .entry)) state (now (work .exit)) (now (list .exit)) r) ⌝ }
 {
-    let found = choices::units::lowest(work, rows, columns);
+    let found = choices::units::lowest(work, rows, columns, 0);
     match found {
         Found::At(index) => moves::click(work, rows, columns, list, state, index),
         Found::Nothing => state,

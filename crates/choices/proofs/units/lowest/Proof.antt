@@ -47,23 +47,23 @@ all-cells rows columns g s old w t =
     (ap (λ (r : ℕ). r * g .columns) (t .rows-are) ∙ ap (λ (k : ℕ). rows * k) (t .columns-are) ∙ mul-comm rows columns)
 
 abbrev Inv-loop : tie.InvT-loop
-Inv-loop work rows columns cells at₀ column row₀ at row =
+Inv-loop work rows columns from cells at₀ column row₀ at row =
     (row ≤ rows) × (column < columns) × (at ≡ cells) × NoneBelow work (column * rows + row)
 
 abbrev μ-loop : tie.MeasureT-loop
-μ-loop work rows columns cells at₀ column row₀ at row = rows - row
+μ-loop work rows columns from cells at₀ column row₀ at row = rows - row
 
 abbrev Inv-grid : tie.InvT-grid
-Inv-grid work rows columns cells at₀ column₀ at column = (column ≤ columns) × (at ≡ cells) × NoneBelow work (column * rows)
+Inv-grid work rows columns from cells at₀ column₀ at column = (column ≤ columns) × (at ≡ cells) × NoneBelow work (column * rows)
 
 abbrev μ-grid : tie.MeasureT-grid
-μ-grid work rows columns cells at₀ column₀ at column = columns - column
+μ-grid work rows columns from cells at₀ column₀ at column = columns - column
 
 mul-cells : tie.Need-mul-cells Inv-loop μ-loop Inv-grid μ-grid
 mul-cells c = omega (arith, cells-few (c .args .rows) (c .args .columns) (c .pre .0))
 
 grid-holds : tie.Need-grid-holds Inv-loop μ-loop Inv-grid μ-grid
-grid-holds c = (omega arith, refl, λ j h t. omega arith)
+grid-holds c = (omega arith, refl, c .pre .1 .2 .none)
 
 loop-holds : tie.Need-loop-holds Inv-loop μ-loop Inv-grid μ-grid
 loop-holds c = (omega arith, omega arith, c .before .grid .inv .1, rw add-zero (c .before .grid .inv .2))

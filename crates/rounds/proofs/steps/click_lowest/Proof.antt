@@ -6,7 +6,9 @@ use Rattle.rounds.proofs.steps.click_lowest.Statement.{statement}
 use Rattle.rounds.proofs.steps.click_lowest.Tie as tie
 
 lowest-requires : tie.Need-lowest-requires
-lowest-requires c κs = search needs
+lowest-requires c κs =
+    let b = c .before .before in
+    (b .pre .0, (omega arith, omega arith, record { none = λ j h t. omega arith }))
 
 enum-known-found : tie.Need-enum-known-found
 enum-known-found c = search needs
