@@ -1,3 +1,4 @@
 pub mod Kept
 pub mod Held
 pub mod Tops
+pub mod Below

@@ -30,6 +30,24 @@ pub fn unit(work: &[i32], index: usize) -> bool
     area::get(work, 5 * index) == 0
 }
 
+// A column before which there is none: the next one, where this one has none either.
+pub fn passed(work: &[i32], rows: usize, columns: usize, from: usize) -> usize
+    requires { ⌜ Shape rows columns ⌝ }
+    requires { ⌜ (5 * (rows * columns) ≤ length (now work)) × (from ≤ columns) × NoUnitBelow (now work) (from * rows) ⌝ }
+    ensures { λ r. ⌜ (r ≤ columns) × NoUnitBelow (now (work .entry)) (r * rows) ⌝ }
+{
+    if from == columns {
+        return from;
+    }
+    for row in 0..rows {
+        let index = area::cell(rows, columns, row, from);
+        if unit(work, index) {
+            return from;
+        }
+    }
+    from + 1
+}
+
 // The lowest of them, where there is none in the columns before one: the search leaves both loops at the first that qualifies.
 pub fn lowest(work: &[i32], rows: usize, columns: usize, from: usize) -> Found
     requires { ⌜ Shape rows columns ⌝ }

@@ -19,20 +19,10 @@ use Rattle.area.proofs.Cells.{cell-below, cells-few}
 use Rattle.choices.specs.Tests.{unitAt}
 use Rattle.choices.specs.Picks.{foundFirst}
 use Rattle.choices.proofs.Kept.{found-at, found-none}
+use Rattle.choices.proofs.Below.{NoneBelow, one-more}
 use Rattle.choices.proofs.Held.{held-numbers, units-there}
 use Rattle.choices.proofs.units.lowest.Statement.{statement}
 use Rattle.choices.proofs.units.lowest.Tie as tie
-
--- no cell below a place is a closed unit
-abbrev NoneBelow : List ℤ → ℕ → Type 0
-NoneBelow w k = (j : ℕ) → j < k → T (unitAt w j) → ⊥
-
-one-more : (w : List ℤ) (k m : ℕ) → NoneBelow w k → unitAt w k ≡ false → m ≡ k + 1 → NoneBelow w m
-one-more w k m n e r j h t =
-    elim (ℕ-discrete j k) [
-      | yes q ↦ subst T e (rw q at t)
-      | no q ↦ n j (omega arith) t
-    ]
 
 -- what the search over n cells has when it ends
 record Searched (w : List ℤ) (n at : ℕ) : Type 0 where
