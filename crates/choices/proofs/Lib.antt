@@ -1,3 +1,6 @@
-pub mod Kept
+pub mod Passing
 pub mod Held
 pub mod Tops
+pub mod Columns
+pub mod Marks
+pub mod Borders
