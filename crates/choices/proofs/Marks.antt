@@ -84,4 +84,4 @@ forgotten-near rows columns g s old w i tops tops′ t e l m = record { long = l
   where
     go : (c : ℕ) → MarkedOr (Far c (i / rows)) tops tops′ c → MarkedOr ((bordersClosed g s i ≡ false) × Far c (columnOf g i)) tops tops′ c
     go c (inl z) = inl z
-    go c (inr (q, f)) = inr (q, sym e, subst (λ (r : ℕ). Far c (i / r)) (sym (t .rows-are)) f)
+    go c (inr (q, f)) = inr (q, (sym e, subst (λ (r : ℕ). Far c (i / r)) (sym (t .rows-are)) f))
