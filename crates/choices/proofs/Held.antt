@@ -3,7 +3,7 @@ use borrow.Author.Tests.{lt-ltb, le-ltb}
 use Prim.Native.Nat.{ℕ, _*_, _+_, _-_, _<_, _≤_, suc, zero}
 use native.Mathlib.Omega.{arith}
 use native.Mathlib.Decide.{decLt}
-use mathlib.Core.Path.{_∙_, _≡_, ap, refl, subst, sym}
+use mathlib.Core.Path.{_∙_, _≡_, ap, ap₂, refl, subst, sym}
 use mathlib.Core.Bool.{Bool, _&&_, _||_, cond, false, not, true}
 use mathlib.Core.List.{List}
 use lib.Dec.{T, eqb, eqb→eq, leb, leb→le, le→leb}
@@ -13,18 +13,20 @@ use lib.ListN.{getD}
 use Rattle.area.specs.Numbers.{natural, numberAt}
 use Rattle.area.specs.Stages.{Stands, heldFive, kind, raised}
 use Rattle.choices.specs.Tests.{lookedAt, unitAt}
+use Rattle.choices.specs.Tops.{closedZeroAt}
 use Rattle.game.specs.Grid.{Grid, cells, mine, number, safe, size, zeroCell}
 use Rattle.game.specs.Lists.{has, keep, range}
 use Rattle.game.specs.Openings.{firstLabel}
 use Rattle.game.specs.Position.{Position, closed, cost, gain, opened, premium}
 use Rattle.game.specs.Rounds.{closedUnitCell, leastChosen, looked, unitCells}
-use Rattle.choices.proofs.Kept.{keep-ext}
+use Rattle.choices.proofs.Passing.{keep-ext}
 use Rattle.game.proofs.Areas.{laid-at}
 use Rattle.game.proofs.Labels.{first-label}
 use Rattle.game.proofs.Members.{has-keep, has-range, keep-has}
 use Rattle.game.proofs.Ranges.{cost-range}
-use Rattle.game.proofs.Squares.{cells→, →cells}
+use Rattle.game.proofs.Squares.{cells→, self-close, →cells}
 use Rattle.game.proofs.Truth.{T→true, and-both, and-left, and-right, eqb-no, eqb-yes, iff, no→false}
+use Rattle.game.proofs.Zeros.{zero→}
 
 -- ---- a cell's numbers
 
@@ -131,6 +133,22 @@ module _ (g : Grid) (s : Position) (i : ℕ) (h : i < size g) (t : T (safe g i))
 
 -- ---- tests of a cell
 
+-- a safe cell of kind 1 has number 0
+one-more : (n : ℕ) → eqb (1 + n) 1 ≡ eqb n 0
+one-more n =
+    iff (eqb (1 + n) 1) (eqb n 0)
+    (λ t. subst T (sym (eqb-yes n 0 (omega (arith, eqb→eq (1 + n) 1 t)))) tt)
+    (λ t. subst T (sym (eqb-yes (1 + n) 1 (omega (arith, eqb→eq n 0 t)))) tt)
+
+-- a mine has no number 0
+zero-kind : (g : Grid) (i : ℕ) → i < size g → eqb (kind g i) 1 ≡ zeroCell g i
+unfolding kind
+zero-kind g i h = go (mine g i) refl
+  where
+    go : (b : Bool) → mine g i ≡ b → eqb (cond b 0 (1 + number g i)) 1 ≡ zeroCell g i
+    go true e = sym (no→false (zeroCell g i) (λ t. zero→ g i i (record { inside = h; none = t }) h (self-close g i) (rw e tt)))
+    go false e = one-more (number g i)
+
 module _ (g : Grid) (s : Position) (w : List ℤ) (r : Holds g s w) where
   looked-there : (openedOnly : Bool) (i : ℕ) → i < size g → lookedAt openedOnly w i ≡ (opened s i || not openedOnly)
   looked-there openedOnly i h = ap (λ (k : ℕ). not openedOnly || eqb k 1) (r .states i h) ∙ swapped (not openedOnly) (opened s i)
@@ -152,6 +170,11 @@ module _ (g : Grid) (s : Position) (w : List ℤ) (r : Holds g s w) where
       has-keep (λ i. safe g i && (opened s i || not openedOnly)) i (cells g) (→cells g i h)
       (and-both (safe g i) (opened s i || not openedOnly) t (subst T (looked-there openedOnly i h) u))
 
+  -- a closed 0-cell
+  pub closed-zero-there : (i : ℕ) → i < size g → closedZeroAt w i ≡ (zeroCell g i && closed s i)
+  closed-zero-there i h =
+      ap₂ (λ (k n : ℕ). eqb k 1 && eqb n 0) (r .kinds i h) (r .states i h) ∙ ap (λ (b : Bool). b && closed s i) (zero-kind g i h)
+
   -- a closed safe cell of number 0 or without label
   pub unit-there : (i : ℕ) → i < size g → closedUnitCell g s i ≡ unitAt w i
   unfolding kind
@@ -162,16 +185,11 @@ module _ (g : Grid) (s : Position) (w : List ℤ) (r : Holds g s w) where
       ∙ go (mine g i) (closed s i)
       ∙ ap (λ (b : Bool). safe g i && closed s i && (zeroCell g i || b)) (sym (first-label g i)))
     where
-      up : eqb (1 + number g i) 1 ≡ eqb (number g i) 0
-      up = iff (eqb (1 + number g i) 1) (eqb (number g i) 0)
-          (λ t. subst T (sym (eqb-yes (number g i) 0 (omega (arith, eqb→eq (1 + number g i) 1 t)))) tt)
-          (λ t. subst T (sym (eqb-yes (1 + number g i) 1 (omega (arith, eqb→eq (number g i) 0 t)))) tt)
-
       go : (b c : Bool) → (c && not (eqb (cond b 0 (1 + number g i)) 0) && (eqb (cond b 0 (1 + number g i)) 1 || eqb (firstLabel g i) 0))
           ≡ (not b && c && (eqb (number g i) 0 || (not b && eqb (firstLabel g i) 0)))
       go true true = refl
       go true false = refl
-      go false true = rw (eqb-no (1 + number g i) 0 (λ e. omega arith), up)
+      go false true = rw (eqb-no (1 + number g i) 0 (λ e. omega arith), one-more (number g i))
       go false false = refl
 
   pub units-there : unitCells g s ≡ keep (unitAt w) (range 0 (size g))

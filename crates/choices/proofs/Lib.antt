@@ -1,4 +1,7 @@
-pub mod Kept
+pub mod Passing
 pub mod Held
 pub mod Tops
 pub mod Below
+pub mod Columns
+pub mod Marks
+pub mod Borders

@@ -21,7 +21,7 @@ use Rattle.game.specs.Lists.{fold, from, has, keep, range}
 use Rattle.game.specs.Position.{Position, opened, premium}
 use Rattle.game.specs.Rounds.{Choice, choice, chords, clicks, highest, leastChosen, looked, same, topCells, unitCells}
 use Rattle.choices.proofs.Held.{Holds, looked→, premium→raised, raised→premium, raised→safe, reaches→, units-there, →looked, →reaches}
-use Rattle.choices.proofs.Kept.{found-at, keep-ext, none-there, ordered-same}
+use Rattle.choices.proofs.Passing.{found-at, keep-ext, none-there, ordered-same}
 use Rattle.game.proofs.Choices.{top→, →top}
 use Rattle.game.proofs.Members.{has-keep, keep-has, range-has}
 use Rattle.game.proofs.Orders.{ordered-keep, ordered-range}
@@ -194,6 +194,13 @@ module _ (openedOnly : Bool) (g : Grid) (s : Position) (w : List ℤ) (n : ℕ) 
   -- else there are none
   unmet : bestOf openedOnly w n .top ≡ 9 → topCells openedOnly g s ≡ []
   unmet q = tops-none openedOnly g s w r (bestOf openedOnly w n .top) below (omega arith)
+
+  -- a premium of 10 or more is that of a cell
+  pub best-inside : 10 ≤ bestOf openedOnly w n .top → bestOf openedOnly w n .at < n
+  best-inside h = ⊎-elim (λ u. absurd (other h (u .0))) (λ l. l .inside) (passed-all openedOnly w n .which)
+    where
+      other : {a : ℕ} → 10 ≤ a → a ≡ 9 → ⊥
+      other k q = omega arith
 
   pub best-found : bestOf openedOnly w n .at < n → At (bestOf openedOnly w n .at) ≡ foundFirst (topCells openedOnly g s)
   best-found h =

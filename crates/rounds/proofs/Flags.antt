@@ -19,7 +19,7 @@ use Rattle.game.specs.Position.{Position, closed, closedSafe, flagged, unflagge
 use Rattle.play.specs.Walks.{kindAt, squareOf, stateAt}
 use Rattle.rounds.specs.Promises.{Carried, Made}
 use Rattle.rounds.specs.Walks.{Over, flagsFrom}
-use Rattle.choices.proofs.Kept.{keep-ext}
+use Rattle.choices.proofs.Passing.{keep-ext}
 use Rattle.game.proofs.Counts.{Once}
 use Rattle.game.proofs.Squares.{once-square}
 use Rattle.game.proofs.Truth.{T→true, and-left, and-right, eqb-no, eqb-yes, no→false}

@@ -17,7 +17,7 @@ use Rattle.game.specs.Position.{Position, closed, closedSafe, flagged, unflagge
 use Rattle.game.specs.Rounds.{movesAt}
 use Rattle.play.specs.Walks.{stateAt}
 use Rattle.rounds.specs.Promises.{Made}
-use Rattle.choices.proofs.Kept.{keep-ext}
+use Rattle.choices.proofs.Passing.{keep-ext}
 use Rattle.game.proofs.Reveal.{Revealed, opens, revealed, stays, sweeps}
 use Rattle.game.proofs.Truth.{T→true, and-under, no→false}
 use Rattle.play.proofs.Reveals.{is-closed, not-closed}

@@ -8,7 +8,7 @@ use Rattle.game.specs.Lists.{bit, count, range}
 use Rattle.game.proofs.Counts.{count-more}
 use Rattle.area.proofs.Tests.{count-none-yet}
 use Rattle.choices.specs.Tests.{candidateAt}
-use Rattle.choices.proofs.Kept.{kept-at, kept-past}
+use Rattle.choices.proofs.Passing.{kept-at, kept-past}
 use Rattle.choices.proofs.ties.pick.Statement.{statement}
 use Rattle.choices.proofs.ties.pick.Tie as tie
 

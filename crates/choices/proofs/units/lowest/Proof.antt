@@ -18,7 +18,7 @@ use Rattle.area.specs.Stages.{Stands}
 use Rattle.area.proofs.Cells.{cell-below, cells-few}
 use Rattle.choices.specs.Tests.{unitAt}
 use Rattle.choices.specs.Picks.{foundFirst}
-use Rattle.choices.proofs.Kept.{found-at, found-none}
+use Rattle.choices.proofs.Passing.{found-at, found-none}
 use Rattle.choices.proofs.Below.{NoneBelow, one-more}
 use Rattle.choices.proofs.Held.{held-numbers, units-there}
 use Rattle.choices.proofs.units.lowest.Statement.{statement}

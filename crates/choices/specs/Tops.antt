@@ -1,0 +1,60 @@
+-- What is kept of each column, so that a step looks again only at the columns that may have changed. Assumes nothing.
+use Prim.Native.Nat.{ℕ, _+_, _*_, _<_, _≤_}
+use mathlib.Core.Path.{_≡_}
+use mathlib.Core.Logic.{_⊎_}
+use mathlib.Core.Bool.{Bool, _&&_, cond, false}
+use mathlib.Core.List.{List}
+use lib.Dec.{eqb, ltb}
+use lib.IntN.{ℤ}
+use lib.ListN.{getD, length}
+use Rattle.game.specs.Grid.{Grid, columnOf, square, zeroCell}
+use Rattle.game.specs.Lists.{fold, range, some-of}
+use Rattle.game.specs.Position.{Position, closed}
+use Rattle.area.specs.Numbers.{numberAt}
+use Rattle.choices.specs.Picks.{columnBest}
+use Rattle.choices.specs.declared.Best.{Best}
+
+-- the highest raised premium of 10 or more in a column, 9 if there is none
+abbrev pub columnTop : Bool → List ℤ → ℕ → ℕ → ℕ
+columnTop openedOnly w rows column = columnBest openedOnly w rows (record { top = 9; at = 0 }) column .top
+
+-- what is kept of each column: 0 where it must be looked at again, else 1 more than its highest premium
+pub record Kept (openedOnly : Bool) (w : List ℤ) (rows columns : ℕ) (tops : List ℕ) : Type 0 where
+  pub room : columns ≤ length tops
+  pub right : (c : ℕ) → c < columns → (getD tops c 0 ≡ 0 → ⊥) → getD tops c 0 ≡ columnTop openedOnly w rows c + 1
+
+-- the byte kept of a highest premium: 1 more, or 0 where that is no byte
+abbrev pub keptOf : ℕ → ℕ
+keptOf top = cond (ltb top 255) (top + 1) 0
+
+-- the higher premium so far, and the first column that has it
+abbrev pub higherOf : Best → ℕ → ℕ → Best
+higherOf b top column = cond (ltb (b .top) top) (record { top = top; at = column }) b
+
+-- the highest raised premium of 10 or more in n of so many columns, and the first column that has it; 9 and the number of columns if there is none
+abbrev pub firstOf : Bool → List ℤ → ℕ → ℕ → ℕ → Best
+firstOf openedOnly w rows columns n =
+    fold (λ b column. higherOf b (columnTop openedOnly w rows column) column) (record { top = 9; at = columns }) (range 0 n)
+
+-- ---- what moves at a cell may change
+
+-- a closed 0-cell stands in the square of the cell
+abbrev pub bordersClosed : Grid → Position → ℕ → Bool
+bordersClosed g s i = some-of (λ j. zeroCell g j && closed s j) (square g i)
+
+-- the same of one cell, by what the work area holds
+abbrev pub closedZeroAt : List ℤ → ℕ → Bool
+closedZeroAt w i = eqb (numberAt w (5 * i + 4)) 1 && eqb (numberAt w (5 * i + 3)) 0
+
+-- a column more than two from another
+abbrev pub Far : ℕ → ℕ → Type 0
+Far c column = (c + 2 < column) ⊎ (column + 2 < c)
+
+-- a column is marked, or it is as it was and something holds
+abbrev pub MarkedOr : Type 0 → List ℕ → List ℕ → ℕ → Type 0
+MarkedOr P tops tops′ c = (getD tops′ c 0 ≡ 0) ⊎ ((getD tops′ c 0 ≡ getD tops c 0) × P)
+
+-- marked at a cell: every column if it borders a closed 0-cell, else those up to two from its own
+pub record Forgotten (g : Grid) (s : Position) (index : ℕ) (tops tops′ : List ℕ) : Type 0 where
+  pub long : length tops′ ≡ length tops
+  pub marks : (c : ℕ) → MarkedOr ((bordersClosed g s index ≡ false) × Far c (columnOf g index)) tops tops′ c
