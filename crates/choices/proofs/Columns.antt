@@ -67,7 +67,7 @@ module _ (openedOnly : Bool) (w : List ℤ) where
     from-both (x ∷ xs) b d h =
         ⊎-elim
         (λ u. ap (λ (e : Best). scanned e xs) (u .0)
-            ∙ sym (ap (λ (c : Bool). cond c (scanned (betterAt openedOnly w d (f x)) xs) b) (lt-ltb (b .top) (scanned (betterAt openedOnly w d (f x)) xs .top) (omega (arith, u .1, rises xs (betterAt openedOnly w d (f x)))))))
+        ∙ sym (ap (λ (c : Bool). cond c (scanned (betterAt openedOnly w d (f x)) xs) b) (lt-ltb (b .top) (scanned (betterAt openedOnly w d (f x)) xs .top) (omega (arith, u .1, rises xs (betterAt openedOnly w d (f x)))))))
         (λ u. ap (λ (e : Best). scanned e xs) (u .0) ∙ from-both xs b (betterAt openedOnly w d (f x)) (u .1))
         (one-cell b d (f x) h)
 

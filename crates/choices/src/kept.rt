@@ -40,7 +40,10 @@ fn higher(best: Best, top: usize, column: usize) -> Best
     if top <= best.top {
         return best;
     }
-    Best { top: top, at: column }
+    Best {
+        top: top,
+        at: column,
+    }
 }
 
 // A column's highest premium: the kept one, or looked at again and kept.
@@ -92,13 +95,7 @@ fn first_column(
 }
 
 // The lowest of the cells of highest premium, if that is 0 or more: only its column is looked at again, and those marked.
-pub fn best(
-    work: &[i32],
-    rows: usize,
-    columns: usize,
-    tops: &mut [u8],
-    opened_only: bool,
-) -> Found
+pub fn best(work: &[i32], rows: usize, columns: usize, tops: &mut [u8], opened_only: bool) -> Found
     requires { ⌜ Shape rows columns ⌝ }
     requires { ⌜ (5 * (rows * columns) ≤ length (now work)) × Kept «opened_only» (now work) rows columns (now tops) ⌝ }
     ensures { λ _. ⌜ (length (now (tops .exit)) ≡ length (now (tops .entry))) × Kept «opened_only» (now (work .entry)) rows columns (now (tops .exit)) ⌝ }
@@ -117,12 +114,12 @@ pub fn best(
     Found::At(found.at)
 }
 
-// The one past the last of the columns up to two on from a column, of n.
-fn past(column: usize, n: usize) -> usize
-    ensures { λ r. ⌜ r ≡ min (column + 3) n ⌝ }
+// The place so many on from another, at most n.
+fn onward(from: usize, steps: usize, n: usize) -> usize
+    ensures { λ r. ⌜ r ≡ min (from + steps) n ⌝ }
 {
-    if column < area::less(n, 3) {
-        return column + 3;
+    if from < area::less(n, steps) {
+        return from + steps;
     }
     n
 }
@@ -131,7 +128,7 @@ fn past(column: usize, n: usize) -> usize
 pub fn forget_near(tops: &mut [u8], column: usize)
     ensures { λ _. ⌜ (length (now (tops .exit)) ≡ length (now (tops .entry))) × ((c : ℕ) → MarkedOr (Far c column) (now (tops .entry)) (now (tops .exit)) c) ⌝ }
 {
-    let last = past(column, tops.len());
+    let last = onward(column, 3, tops.len());
     for near in area::less(column, 2)..last {
         tops[near] = 0;
     }
