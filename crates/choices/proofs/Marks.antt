@@ -19,6 +19,7 @@ use Rattle.choices.specs.Tops.{Far, Forgotten, Kept, MarkedOr, bordersCl
 abbrev pub Outside : ℕ → ℕ → ℕ → Type 0
 Outside a b c = (c < a) ⊎ (b ≤ c)
 
+-- none is marked yet
 pub marked-none : (tops : List ℕ) (a c : ℕ) → MarkedOr (Outside a a c) tops tops c
 marked-none tops a c = elim (decLt c a) [ yes h ↦ inr (refl, inl h) | no h ↦ inr (refl, inr (omega arith)) ]
 
