@@ -1,8 +1,8 @@
 -- A closed 0-cell in a square: the nine places tell, by what the work area holds of each cell. Assumes nothing.
-use Prim.Native.Nat.{ℕ, _%_, _*_, _+_, _-_, _/_, _<_, _≤_, suc, zero}
+use Prim.Native.Nat.{ℕ, _%_, _*_, _+_, _/_, _<_, _≤_, suc, zero}
 use native.Mathlib.Omega.{arith}
 use native.Mathlib.Nat.{add-zero}
-use mathlib.Core.Path.{_∙_, _≡_, ap, ap₂, refl, subst, sym}
+use mathlib.Core.Path.{_∙_, _≡_, ap, refl, subst, sym}
 use mathlib.Core.Bool.{Bool, _&&_, _||_, cond, false, true}
 use mathlib.Core.List.{List, [], _++_, _∷_}
 use borrow.Author.Tests.{le-ltb, lt-ltb, ne-eqb, eq-eqb}

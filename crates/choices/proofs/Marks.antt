@@ -19,6 +19,7 @@ use Rattle.choices.specs.Tops.{Far, Forgotten, Kept, MarkedOr, bordersCl
 abbrev pub Outside : ℕ → ℕ → ℕ → Type 0
 Outside a b c = (c < a) ⊎ (b ≤ c)
 
+-- none is marked yet
 pub marked-none : (tops : List ℕ) (a c : ℕ) → MarkedOr (Outside a a c) tops tops c
 marked-none tops a c = elim (decLt c a) [ yes h ↦ inr (refl, inl h) | no h ↦ inr (refl, inr (omega arith)) ]
 
@@ -42,10 +43,10 @@ marked-all old tops b c h (inr (s, inl k)) = absurd (omega arith)
 marked-all old tops b c h (inr (s, inr k)) = List·getD-eq-default tops 0 (omega arith)
 
 -- those up to two from a column are marked
-pub marked-near : (old tops : List ℕ) (column b c : ℕ) → min (column + 3) (length tops) ≤ b → MarkedOr (Outside (column - 2) b c) old tops c → MarkedOr (Far c column) old tops c
-marked-near old tops column b c h (inl z) = inl z
-marked-near old tops column b c h (inr (s, inl k)) = inr (s, inl (omega arith))
-marked-near old tops column b c h (inr (s, inr k)) =
+pub marked-near : (old tops : List ℕ) (column a b c : ℕ) → a ≤ column - 2 → min (column + 3) (length tops) ≤ b → MarkedOr (Outside a b c) old tops c → MarkedOr (Far c column) old tops c
+marked-near old tops column a b c g h (inl z) = inl z
+marked-near old tops column a b c g h (inr (s, inl k)) = inr (s, inl (omega arith))
+marked-near old tops column a b c g h (inr (s, inr k)) =
     elim (decLt c (length tops)) [
       | yes l ↦ inr (s, inr (omega arith))
       | no l ↦ inl (List·getD-eq-default tops 0 (omega arith))

@@ -114,12 +114,12 @@ pub fn best(work: &[i32], rows: usize, columns: usize, tops: &mut [u8], opened_o
     Found::At(found.at)
 }
 
-// The one past the last of the columns up to two on from a column, of n.
-fn past(column: usize, n: usize) -> usize
-    ensures { λ r. ⌜ r ≡ min (column + 3) n ⌝ }
+// The place so many on from another, at most n.
+fn onward(from: usize, steps: usize, n: usize) -> usize
+    ensures { λ r. ⌜ r ≡ min (from + steps) n ⌝ }
 {
-    if column < area::less(n, 3) {
-        return column + 3;
+    if from < area::less(n, steps) {
+        return from + steps;
     }
     n
 }
@@ -128,7 +128,7 @@ fn past(column: usize, n: usize) -> usize
 pub fn forget_near(tops: &mut [u8], column: usize)
     ensures { λ _. ⌜ (length (now (tops .exit)) ≡ length (now (tops .entry))) × ((c : ℕ) → MarkedOr (Far c column) (now (tops .entry)) (now (tops .exit)) c) ⌝ }
 {
-    let last = past(column, tops.len());
+    let last = onward(column, 3, tops.len());
     for near in area::less(column, 2)..last {
         tops[near] = 0;
     }

@@ -1,7 +1,7 @@
 -- `choices::kept::best`: the first column of highest premium has the best of all cells, if there is one. Assumes nothing.
 use Prim.Native.Nat.{ℕ, _*_, _<_, _≤_}
 use native.Mathlib.Omega.{arith}
-use mathlib.Core.Path.{_∙_, _≡_, ap, ap₂, subst, sym}
+use mathlib.Core.Path.{_∙_, _≡_, ap, ap₂, sym}
 use mathlib.Core.Bool.{Bool}
 use mathlib.Core.List.{List}
 use lib.IntN.{ℤ}
@@ -14,7 +14,6 @@ use Rattle.game.specs.Rounds.{topCells}
 use Rattle.choices.specs.Picks.{bestOf, columnBest, foundFirst}
 use Rattle.choices.specs.Tops.{firstOf}
 use Rattle.choices.specs.declared.Best.{Best}
-use Rattle.choices.specs.declared.Found.{Found}
 use Rattle.choices.specs.declared.Found.the-variants.{At, Nothing}
 use Rattle.choices.proofs.Columns.{Led, led-all}
 use Rattle.choices.proofs.Held.{Holds, held-numbers}

@@ -1,11 +1,10 @@
 -- `choices::kept::borders_closed`: no place passed has a closed 0-cell; all nine are the square. Assumes nothing.
-use Prim.Native.Nat.{ℕ, _%_, _*_, _+_, _-_, _/_, _≤_}
+use Prim.Native.Nat.{ℕ, _%_, _+_, _-_, _/_, _≤_}
 use native.Mathlib.Omega.{arith}
 use mathlib.Core.Path.{_∙_, _≡_, ap, ap₂, subst, sym}
 use mathlib.Core.Bool.{Bool, _||_, false, true}
-use mathlib.Core.List.{List, []}
+use mathlib.Core.List.{[]}
 use lib.Dec.{T}
-use borrow.Author.Needs.{needs}
 use Rattle.area.specs.Numbers.{gridOf}
 use Rattle.area.specs.Squares.{nearCell}
 use Rattle.area.proofs.Cells.{cells-few}

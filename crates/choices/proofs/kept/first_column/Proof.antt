@@ -4,7 +4,6 @@ use native.Mathlib.Omega.{arith}
 use mathlib.Core.Path.{_∙_, _≡_, ap, ap₂, refl, sym}
 use lib.ListN.{length}
 use borrow.Author.Needs.{needs}
-use Rattle.game.specs.Lists.{fold, range}
 use Rattle.game.proofs.Members.{fold-more}
 use Rattle.choices.specs.Tops.{Kept, columnTop, firstOf, higherOf}
 use Rattle.choices.specs.declared.Best.{Best}

@@ -1,9 +1,8 @@
 -- `choices::kept::forget_all`: the columns passed are marked. Assumes nothing.
-use Prim.Native.Nat.{ℕ, _-_, _≤_}
+use Prim.Native.Nat.{ℕ, _-_}
 use native.Mathlib.Omega.{arith}
 use mathlib.Core.Path.{_∙_, _≡_, refl}
 use lib.ListN.{length, length-set}
-use borrow.Author.Needs.{needs}
 use Rattle.choices.specs.Tops.{MarkedOr}
 use Rattle.choices.proofs.Marks.{Outside, marked-all, marked-none, marked-one}
 use Rattle.choices.proofs.kept.forget_all.Statement.{statement}

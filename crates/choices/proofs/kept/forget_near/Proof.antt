@@ -1,5 +1,5 @@
 -- `choices::kept::forget_near`: the columns passed, from two before on, are marked. Assumes nothing.
-use Prim.Native.Nat.{ℕ, _-_, _≤_}
+use Prim.Native.Nat.{ℕ, _-_}
 use native.Mathlib.Omega.{arith}
 use mathlib.Core.Path.{_∙_, _≡_, refl}
 use lib.ListN.{length, length-set}
@@ -11,21 +11,19 @@ use Rattle.choices.proofs.kept.forget_near.Tie as tie
 
 abbrev Inv-loop : tie.InvT-loop
 Inv-loop tops₀ column last near₀ tops near =
-    (length tops ≡ length tops₀) × ((c : ℕ) → MarkedOr (Outside (column - 2) near c) tops₀ tops c)
+    (length tops ≡ length tops₀) × ((c : ℕ) → MarkedOr (Outside near₀ near c) tops₀ tops c)
 
 abbrev μ-loop : tie.MeasureT-loop
 μ-loop tops₀ column last near₀ tops near = last - near
 
-past-requires : tie.Need-past-requires Inv-loop μ-loop
-past-requires c κs = search needs
+onward-requires : tie.Need-onward-requires Inv-loop μ-loop
+onward-requires c κs = search needs
 
 less-requires : tie.Need-less-requires Inv-loop μ-loop
 less-requires c κs = search needs
 
 loop-holds : tie.Need-loop-holds Inv-loop μ-loop
-loop-holds c =
-    let a = c .before .before .before .args in
-    (refl, λ k. rw (c .less .ensures) (marked-none (a .tops .now) (a .column - 2) k))
+loop-holds c = (refl, λ k. marked-none (c .before .before .before .args .tops .now) (c .less .result) k)
 
 slice-write-tops : tie.Need-slice-write-tops Inv-loop μ-loop
 slice-write-tops c = omega (arith, c .before .loop .inv .0)
@@ -40,7 +38,7 @@ loop-again : tie.Need-loop-again Inv-loop μ-loop
 loop-again c =
     let l = c .before .loop in
     let a = c .before .before .before .before .before .args in
-    (length-set (l .tops) (l .near) 0 ∙ l .inv .0, marked-one (a .tops .now) (l .tops) (a .column - 2) (l .near) (omega (arith, l .inv .0)) (l .inv .1))
+    (length-set (l .tops) (l .near) 0 ∙ l .inv .0, marked-one (a .tops .now) (l .tops) (c .before .before .less .result) (l .near) (omega (arith, l .inv .0)) (l .inv .1))
 
 same-length : tie.Need-same-length Inv-loop μ-loop
 same-length c = c .before .loop .inv .0
@@ -49,7 +47,7 @@ returns : tie.Need-returns Inv-loop μ-loop
 returns c =
     let l = c .before .loop in
     let a = c .before .before .before .before .before .args in
-    (l .inv .0, λ k. marked-near (a .tops .now) (l .tops) (a .column) (l .near) k (omega (arith, l .inv .0)) (l .inv .1 k))
+    (l .inv .0, λ k. marked-near (a .tops .now) (l .tops) (a .column) (c .before .before .less .result) (l .near) k (omega arith) (omega (arith, l .inv .0)) (l .inv .1 k))
 
 pub forget-near-spec : {M : Type 1} → statement M
 forget-near-spec =
@@ -57,7 +55,7 @@ forget-near-spec =
     (tie.spec
     Inv-loop
     μ-loop
-    past-requires
+    onward-requires
     less-requires
     loop-holds
     slice-write-tops

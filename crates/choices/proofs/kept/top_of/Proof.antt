@@ -1,11 +1,8 @@
 -- `choices::kept::top_of`: what is kept is right, and what is looked at again is kept. Assumes nothing.
-use Prim.Native.Nat.{ℕ, _+_, _-_}
 use native.Mathlib.Omega.{arith}
-use mathlib.Core.Path.{_≡_, ap, refl, subst, sym}
-use mathlib.Core.List.{List}
-use lib.ListN.{length-set, set}
+use mathlib.Core.Path.{ap, refl}
+use lib.ListN.{length-set}
 use borrow.Author.Needs.{needs}
-use Rattle.choices.specs.Tops.{Kept, columnTop, keptOf}
 use Rattle.choices.specs.declared.Best.{Best}
 use Rattle.choices.proofs.Marks.{kept-again}
 use Rattle.choices.proofs.kept.top_of.Statement.{statement}
