@@ -8,3 +8,4 @@ pub mod Onward
 pub mod Ending
 pub mod Quiet
 pub mod Lows
+pub mod Columns

@@ -13,8 +13,9 @@ use Rattle.area.specs.Numbers.{numberAt}
 use Rattle.area.specs.Stages.{Stands, raised}
 use Rattle.choices.specs.declared.Best.{Best}
 use Rattle.choices.specs.Picks.{betterAt, columnBest}
+use Rattle.choices.specs.Tops.{Far, bordersClosed}
 use Rattle.game.specs.Grid.{Grid, columnOf, index, mine, size, square, zeroCell}
-use Rattle.game.specs.Lists.{Each, bit, fold, has, keep, range, some-of}
+use Rattle.game.specs.Lists.{Each, bit, fold, has, keep, range}
 use Rattle.game.specs.Moves.{Move, after, chord, flag, left, play, reveal}
 use Rattle.game.specs.Openings.{holds, openings, unlabelled}
 use Rattle.game.specs.Position.{Position, cellUnit, closed, cost, gain, openingClosed, unflagged}
@@ -26,10 +27,6 @@ use Rattle.game.proofs.Openings.{good}
 use Rattle.game.proofs.Reveal.{Revealed, opens, revealed, stays, sweeps, zero-safe}
 use Rattle.game.proofs.Squares.{in-own-square, index-column, index-lt, square→}
 use Rattle.game.proofs.Truth.{and-both, and-left}
-
--- a closed 0-cell stands in the square of the cell
-abbrev pub bordersClosed : Grid → Position → ℕ → Bool
-bordersClosed g s i = some-of (λ j. zeroCell g j && closed s j) (square g i)
 
 -- ---- the moves of a step at a cell
 
@@ -142,10 +139,6 @@ module _ (g : Grid) (s s′ : Position) (j : ℕ) (inside : j < size g) (near : 
   same-premium = (same-gain, same-cost)
 
 -- ---- more than two columns away
-
--- two columns or more lie between the columns a and b
-abbrev pub Far : ℕ → ℕ → Type 0
-Far a b = (a + 2 < b) ⊎ (b + 2 < a)
 
 -- the squares of cells in such columns do not meet
 apart : (g : Grid) (i j k : ℕ) → i < size g → j < size g → Far (columnOf g j) (columnOf g i) → T (has k (square g j)) → T (has k (square g i)) → ⊥

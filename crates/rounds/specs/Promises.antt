@@ -10,8 +10,9 @@ use Rattle.game.specs.Grid.{Grid}
 use Rattle.game.specs.Position.{Position, untouched, closedSafe}
 use Rattle.game.specs.Moves.{Move, after, word}
 use Rattle.game.specs.Area.{listOf}
-use Rattle.game.specs.Rounds.{Step, firstClicks, greedySteps, openingsFirstSteps}
+use Rattle.game.specs.Rounds.{Step, choice, firstClicks, greedySteps, openingsFirstSteps, stepOf}
 use Rattle.area.specs.Stages.{Stands}
+use Rattle.choices.specs.Tops.{Kept}
 use Rattle.rounds.specs.declared.State.{State}
 
 -- a move of a kind was noted, and the state carried on: one move more, so many cells fewer closed
@@ -28,6 +29,16 @@ pub record Made (rows columns : ℕ) (g : Grid) (s : Position) (old : List ℤ) 
   pub clicks : t′ .moves ≡ t .moves + length ms
   pub left-closed : t′ .closed ≡ closedSafe g (after g s ms)
   pub next-draw : t′ .next ≡ t .next
+
+-- the same, and what is kept of the columns is right again
+pub record MadeKept (rows columns : ℕ) (g : Grid) (s : Position) (old : List ℤ) (ms : List Move) (list : List ℕ) (w : List ℤ) (tops : List ℕ) (t : State) (w′ : List ℤ) (list′ tops′ : List ℕ) (t′ : State) : Type 0 where
+  pub made : Made rows columns g s old ms list t w′ list′ t′
+  pub kept : (openedOnly : Bool) → Kept openedOnly w rows columns tops → Kept openedOnly w′ rows columns tops′
+
+-- a step by the lowest index was made, and what is kept of the columns is right again
+pub record StepKept (openedOnly : Bool) (rows columns : ℕ) (g : Grid) (s : Position) (old : List ℤ) (list : List ℕ) (t : State) (w′ : List ℤ) (list′ tops′ : List ℕ) (t′ : State) : Type 0 where
+  pub made : Made rows columns g s old (stepOf g s (choice openedOnly g s) 0 .moves) list t w′ list′ t′
+  pub kept : Kept openedOnly w′ rows columns tops′
 
 -- a state that counts the safe cells still closed in a position that the area stands for
 pub record Going (rows columns : ℕ) (w : List ℤ) (t : State) : Type 0 where

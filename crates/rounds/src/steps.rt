@@ -7,32 +7,77 @@ ghost use mathlib.Core.List.{List, [], _∷_};
 ghost use Prim.Native.Nat.{ℕ, _+_, _*_, _^_, _<_, _≤_};
 ghost use lib.IntN.{ℤ};
 ghost use lib.ListN.{length, getD};
-ghost use Rattle.game.specs.Grid.{Grid, cells};
-ghost use Rattle.game.specs.Position.{Position, closedSafe};
+ghost use lib.Dec.{T};
+ghost use Rattle.game.specs.Grid.{Grid, cells, safe, zeroCell};
+ghost use Rattle.game.specs.Position.{Position, closed as isClosed, closedSafe};
 ghost use Rattle.game.specs.Moves.{left};
-ghost use Rattle.game.specs.Rounds.{choice, stepOf, unitCells, movesOf, openingClicks};
+ghost use Rattle.game.specs.Rounds.{movesAt, unitCells, movesOf, openingClicks};
 ghost use Rattle.area.specs.Stages.{Shape, Stands, Standing};
-ghost use Rattle.rounds.specs.Promises.{Made};
+ghost use Rattle.choices.specs.Tests.{NoUnitBelow};
+ghost use Rattle.choices.specs.Tops.{Kept};
+ghost use Rattle.rounds.specs.Promises.{Made, MadeKept, StepKept};
 ghost use Rattle.rounds.specs.Walks.{Over, hitsFrom};
 
-// L on the lowest closed 0-cell or unlabelled safe cell, if there is one.
+// L on a closed safe cell; the columns that it may change are marked.
+pub fn click_at(
+    work: &mut [i32],
+    rows: usize,
+    columns: usize,
+    list: &mut [u32],
+    tops: &mut [u8],
+    state: State,
+    index: usize,
+) -> State
+    requires { ⌜ Shape rows columns ⌝ }
+    requires { ⌜ (5 * (rows * columns) ≤ length (now work)) × (index < rows * columns) × (state .moves ≤ 2 ^ 45) ⌝ }
+    ensures { λ r. ⌜ ((g : Grid) (s : Position) (old : List ℤ) → Stands rows columns g s old (now (work .entry))
+        → T (safe g index) → T (isClosed s index) → state .closed ≡ closedSafe g s
+        → MadeKept rows columns g s old (left index ∷ []) (now (list .entry)) (now (work .entry)) (now (tops .entry)) state (now (work .exit)) (now (list .exit)) (now (tops .exit)) r) ⌝ }
+{
+    choices::kept::forget(work, rows, columns, tops, index);
+    moves::click(work, rows, columns, list, state, index)
+}
+
+// The moves at a chosen cell; the columns that they may change are marked.
+pub fn act_at(
+    work: &mut [i32],
+    rows: usize,
+    columns: usize,
+    list: &mut [u32],
+    tops: &mut [u8],
+    state: State,
+    index: usize,
+) -> State
+    requires { ⌜ Shape rows columns ⌝ }
+    requires { ⌜ (5 * (rows * columns) ≤ length (now work)) × (index < rows * columns) × (state .moves ≤ 2 ^ 45) ⌝ }
+    ensures { λ r. ⌜ ((g : Grid) (s : Position) (old : List ℤ) → Stands rows columns g s old (now (work .entry))
+        → T (safe g index) → (T (zeroCell g index) → ⊥) → state .closed ≡ closedSafe g s
+        → MadeKept rows columns g s old (movesAt g s index) (now (list .entry)) (now (work .entry)) (now (tops .entry)) state (now (work .exit)) (now (list .exit)) (now (tops .exit)) r) ⌝ }
+{
+    choices::kept::forget(work, rows, columns, tops, index);
+    moves::act(work, rows, columns, list, state, index)
+}
+
+// L on the lowest closed 0-cell or unlabelled safe cell, if there is one; there is none in the columns before one.
 pub fn click_lowest(
     work: &mut [i32],
     rows: usize,
     columns: usize,
     list: &mut [u32],
+    tops: &mut [u8],
     state: State,
+    from: usize,
 ) -> State
     requires { ⌜ Shape rows columns ⌝ }
-    requires { ⌜ (5 * (rows * columns) ≤ length (now work)) × (state .moves ≤ 2 ^ 45) ⌝ }
+    requires { ⌜ (5 * (rows * columns) ≤ length (now work)) × (state .moves ≤ 2 ^ 45) × (from ≤ columns) × NoUnitBelow (now work) (from * rows) ⌝ }
     requires { ⌜ Standing rows columns (now work) ⌝ }
     ensures { λ r. ⌜ ((g : Grid) (s : Position) (old : List ℤ) → Stands rows columns g s old (now (work .entry))
         → 1 ≤ length (unitCells g s) → state .closed ≡ closedSafe g s
-        → Made rows columns g s old (left (getD (unitCells g s) 0 0) ∷ []) (now (list .entry)) state (now (work .exit)) (now (list .exit)) r) ⌝ }
+        → MadeKept rows columns g s old (left (getD (unitCells g s) 0 0) ∷ []) (now (list .entry)) (now (work .entry)) (now (tops .entry)) state (now (work .exit)) (now (list .exit)) (now (tops .exit)) r) ⌝ }
 {
-    let found = choices::units::lowest(work, rows, columns, 0);
+    let found = choices::units::lowest(work, rows, columns, from);
     match found {
-        Found::At(index) => moves::click(work, rows, columns, list, state, index),
+        Found::At(index) => click_at(work, rows, columns, list, tops, state, index),
         Found::Nothing => state,
     }
 }
@@ -43,20 +88,23 @@ pub fn step(
     rows: usize,
     columns: usize,
     list: &mut [u32],
+    tops: &mut [u8],
     state: State,
+    from: usize,
     opened_only: bool,
 ) -> State
     requires { ⌜ Shape rows columns ⌝ }
-    requires { ⌜ (5 * (rows * columns) ≤ length (now work)) × (state .moves ≤ 2 ^ 45) ⌝ }
+    requires { ⌜ (5 * (rows * columns) ≤ length (now work)) × (state .moves ≤ 2 ^ 45) × (from ≤ columns) × NoUnitBelow (now work) (from * rows) ⌝ }
+    requires { ⌜ Kept «opened_only» (now work) rows columns (now tops) ⌝ }
     requires { ⌜ Standing rows columns (now work) ⌝ }
     ensures { λ r. ⌜ ((g : Grid) (s : Position) (old : List ℤ) → Stands rows columns g s old (now (work .entry))
         → 1 ≤ closedSafe g s → state .closed ≡ closedSafe g s
-        → Made rows columns g s old (stepOf g s (choice «opened_only» g s) 0 .moves) (now (list .entry)) state (now (work .exit)) (now (list .exit)) r) ⌝ }
+        → StepKept «opened_only» rows columns g s old (now (list .entry)) state (now (work .exit)) (now (list .exit)) (now (tops .exit)) r) ⌝ }
 {
-    let found = choices::highest::best(work, rows, columns, opened_only);
+    let found = choices::kept::best(work, rows, columns, tops, opened_only);
     match found {
-        Found::At(index) => moves::act(work, rows, columns, list, state, index),
-        Found::Nothing => click_lowest(work, rows, columns, list, state),
+        Found::At(index) => act_at(work, rows, columns, list, tops, state, index),
+        Found::Nothing => click_lowest(work, rows, columns, list, tops, state, from),
     }
 }
 

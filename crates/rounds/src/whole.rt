@@ -10,6 +10,7 @@ ghost use Rattle.game.specs.Grid.{Grid};
 ghost use Rattle.game.specs.Position.{Position, closedSafe, closedUnits, untouched};
 ghost use Rattle.game.specs.Rounds.{movesOf, stepsFrom};
 ghost use Rattle.area.specs.Stages.{Shape, Stands};
+ghost use Rattle.choices.specs.Tops.{Kept};
 ghost use Rattle.rounds.specs.Promises.{Made, Going, Fresh, Round, roundSteps, firstSteps};
 
 // Steps by the lowest index until all safe cells are open.
@@ -18,19 +19,23 @@ pub fn play_on(
     rows: usize,
     columns: usize,
     list: &mut [u32],
+    tops: &mut [u8],
     state: State,
     opened_only: bool,
 ) -> State
     requires { ⌜ Shape rows columns ⌝ }
     requires { ⌜ (5 * (rows * columns) ≤ length (now work)) × (state .moves ≤ 2 ^ 33) ⌝ }
     requires { ⌜ Going rows columns (now work) state ⌝ }
+    requires { ⌜ Kept «opened_only» (now work) rows columns (now tops) ⌝ }
     ensures { λ r. ⌜ ((g : Grid) (s : Position) (old : List ℤ) (n : ℕ) → Stands rows columns g s old (now (work .entry))
         → state .closed ≡ closedSafe g s → closedUnits g s ≤ n
         → Made rows columns g s old (movesOf (stepsFrom n «opened_only» g s)) (now (list .entry)) state (now (work .exit)) (now (list .exit)) r) ⌝ }
 {
     let mut current = state;
+    let mut from = 0;
     while 0 < current.closed {
-        current = steps::step(work, rows, columns, list, current, opened_only);
+        from = choices::units::passed(work, rows, columns, from);
+        current = steps::step(work, rows, columns, list, tops, current, from, opened_only);
     }
     current
 }
@@ -77,6 +82,7 @@ pub fn round(
         next: 0,
     };
     let begun = begin(work, rows, columns, list, fresh, openings_first);
-    let done = play_on(work, rows, columns, list, begun, openings_first);
+    let mut tops = [0u8; 255];
+    let done = play_on(work, rows, columns, list, &mut tops, begun, openings_first);
     done.moves
 }

@@ -1,23 +1,24 @@
 -- `rounds::steps::click_lowest`: the search finds the first closed unit. Assumes nothing.
 use native.Mathlib.Omega.{arith}
+use mathlib.Core.List.{List}
+use Rattle.game.specs.Moves.{Move}
+use Rattle.rounds.specs.Promises.{MadeKept}
 use Rattle.rounds.proofs.Takes.{unit-inside, unit-missing, unit-taken}
 use borrow.Author.Needs.{needs}
 use Rattle.rounds.proofs.steps.click_lowest.Statement.{statement}
 use Rattle.rounds.proofs.steps.click_lowest.Tie as tie
 
 lowest-requires : tie.Need-lowest-requires
-lowest-requires c κs =
-    let b = c .before .before in
-    (b .pre .0, (omega arith, omega arith, record { none = λ j h t. omega arith }))
+lowest-requires c κs = search needs
 
 enum-known-found : tie.Need-enum-known-found
 enum-known-found c = search needs
 
-click-requires : tie.Need-click-requires
-click-requires c κs =
-    let k = c .before .before .before in
+click-at-requires : tie.Need-click-at-requires
+click-at-requires c κs =
+    let k = c .before .before .before .before in
     let m = k .before .before in
-    let b = m .before .before .before in
+    let b = m .before .before .before .before in
     let a = b .args in
     (b .pre .0, (omega arith, unit-inside (a .rows) (a .columns) (a .work .now) (m .lowest .result) (k .found .given .0 .0) (b .pre .1 .1) (m .lowest .ensures) (k .found .given .1), omega arith))
 
@@ -30,23 +31,28 @@ same-length c = search needs
 same-length-2 : tie.Need-same-length-2
 same-length-2 c = search needs
 
-returns : tie.Need-returns
-returns c =
-    let x = c .before .before .before in
-    let k = x .before .before .before .before in
-    let m = k .before .before in
-    let a = m .before .before .before .args in
-    λ g s old st n e. unit-taken (a .rows) (a .columns) (a .work .now) (m .lowest .result) g s old (a .list .now) (a .state) (x .click .last .0) (x .click .last .1 .1 .1 .0) (x .click .result)
-    (k .found .given .0 .0) (k .found .given .1) (m .lowest .ensures g s old st) (λ t u. x .click .ensures .1 g s old st t u e)
-
 same-length-3 : tie.Need-same-length-3
 same-length-3 c = search needs
+
+returns : tie.Need-returns
+returns c =
+    let x = c .before .before .before .before .before in
+    let k = x .before .before .before .before .before in
+    let m = k .before .before in
+    let a = m .before .before .before .before .args in
+    λ g s old st n e. unit-taken (a .rows) (a .columns) (a .work .now) (m .lowest .result) g s
+    (λ (ms : List Move). MadeKept (a .rows) (a .columns) g s old ms (a .list .now) (a .work .now) (a .tops .now) (a .state) (x .click-at .last .0) (x .click-at .last .1 .1 .1 .0) (x .click-at .last .1 .1 .1 .1 .0) (x .click-at .result))
+    (k .found .given .0 .0) (k .found .given .1) (m .lowest .ensures g s old st) (λ t u. x .click-at .ensures g s old st t u e)
+
+same-length-4 : tie.Need-same-length-4
+same-length-4 c = search needs
 
 returns-2 : tie.Need-returns-2
 returns-2 c =
     let m = c .before .before in
-    let a = m .before .before .before .args in
-    λ g s old st n e. unit-missing (a .rows) (a .columns) (a .work .now) (m .lowest .result) g s old (a .list .now) (a .state) (a .work .now) (a .list .now) (a .state)
+    let a = m .before .before .before .before .args in
+    λ g s old st n e. unit-missing (a .rows) (a .columns) (a .work .now) (m .lowest .result) g s
+    (λ (ms : List Move). MadeKept (a .rows) (a .columns) g s old ms (a .list .now) (a .work .now) (a .tops .now) (a .state) (a .work .now) (a .list .now) (a .tops .now) (a .state))
     (c .enum-told .given .1) (m .lowest .ensures g s old st) n
 
 pub click-lowest-spec : {M : Type 1} → statement M
@@ -55,10 +61,11 @@ click-lowest-spec =
     (tie.spec
     lowest-requires
     enum-known-found
-    click-requires
+    click-at-requires
     enum-told
     same-length
     same-length-2
-    returns
     same-length-3
+    returns
+    same-length-4
     returns-2)

@@ -1,56 +1,83 @@
--- `rounds::whole::play_on`: the steps so far are those of the definition; fewer safe cells are closed after each. Assumes nothing.
+-- `rounds::whole::play_on`: the steps so far are those of the definition; fewer safe cells are closed after each; what is kept of the columns stays right. Assumes nothing.
+use Prim.Native.Nat.{ℕ, _*_, _+_, _<_, _≤_}
 use native.Mathlib.Omega.{arith}
+use native.Mathlib.Nat.{mul-le-mul-right}
 use mathlib.Core.Path.{_≡_, refl}
 use lib.ListN.{length}
 use borrow.Author.Needs.{needs}
+use Rattle.choices.specs.Tests.{NoUnitBelow}
+use Rattle.choices.specs.Tops.{Kept}
+use Rattle.game.specs.Position.{closedSafe}
+use Rattle.game.specs.Rounds.{choice, stepOf}
+use Rattle.rounds.proofs.Lows.{low-stays}
 use Rattle.rounds.proofs.Onward.{Midway, Underway, closed-falls, midway-begins, midway-ends, midway-goes-on, underway-begins, underway-goes-on, underway-stands}
 use Rattle.rounds.proofs.whole.play_on.Statement.{statement}
 use Rattle.rounds.proofs.whole.play_on.Tie as tie
 
 abbrev Inv-loop : tie.InvT-loop
-Inv-loop work₀ rows columns list₀ opened-only current₀ work list current =
-    (length work ≡ length work₀) × (length list ≡ length list₀) × Underway rows columns work current × Midway opened-only rows columns work₀ list₀ current₀ work list current
+Inv-loop work₀ rows columns list₀ tops₀ opened-only current₀ from₀ work list tops current from =
+    (length work ≡ length work₀) × (length list ≡ length list₀) × (length tops ≡ length tops₀) × Underway rows columns work current
+    × Midway opened-only rows columns work₀ list₀ current₀ work list current × Kept opened-only work rows columns tops × (from ≤ columns) × NoUnitBelow work (from * rows)
 
 abbrev μ-loop : tie.MeasureT-loop
-μ-loop work₀ rows columns list₀ opened-only current₀ work list current = current .closed
+μ-loop work₀ rows columns list₀ tops₀ opened-only current₀ from₀ work list tops current from = current .closed
 
 loop-holds : tie.Need-loop-holds Inv-loop μ-loop
 loop-holds c =
-    let b = c .before in
+    let b = c .before .before in
     let a = b .args in (
       refl,
       refl,
-      underway-begins (a .rows) (a .columns) (a .work .now) (a .state) (b .pre .0) (b .pre .1 .1) (b .pre .1 .0 .1),
+      refl,
+      underway-begins (a .rows) (a .columns) (a .work .now) (a .state) (b .pre .0) (b .pre .1 .1 .0) (b .pre .1 .0 .1),
       midway-begins (a .opened-only) (a .rows) (a .columns) (a .work .now) (a .list .now) (a .state),
+      b .pre .1 .1 .1,
+      omega arith,
+      record { none = λ j h t. omega arith },
     )
+
+passed-requires : tie.Need-passed-requires Inv-loop μ-loop
+passed-requires c κs =
+    let l = c .before .before .before in
+    let b = l .before .before .before in
+    (b .pre .0, (omega arith, l .loop .inv .6, l .loop .inv .7))
 
 step-requires : tie.Need-step-requires Inv-loop μ-loop
 step-requires c κs =
-    let l = c .before .before .before .before in
-    let b = l .before .before in
+    let p = c .before .before .before in
+    let l = p .before .before .before .before in
+    let b = l .before .before .before in
     let a = b .args in
-    let u = l .loop .inv .2 in
-    (b .pre .0, ((omega arith, omega (arith, u .few)), underway-stands (a .rows) (a .columns) (l .loop .work) (l .loop .current) u))
+    let u = l .loop .inv .3 in
+    (b .pre .0, ((omega arith, omega (arith, u .few), p .passed .ensures .0, p .passed .ensures .1), (l .loop .inv .5, underway-stands (a .rows) (a .columns) (l .loop .work) (l .loop .current) u)))
 
 loop-less : tie.Need-loop-less Inv-loop μ-loop
 loop-less c =
-    let x = c .before .before .before .step in
-    let k = c .before .before .before .before .before .before in
-    let l = k .before .before in
-    let a = l .before .before .args in
-    closed-falls _ (a .rows) (a .columns) (l .loop .work) (l .loop .list) (l .loop .current) (x .last .0) (x .last .1 .1 .1 .0) (x .result) (x .ensures) (k .if1 .taken) (l .loop .inv .2)
+    let x = c .before .before .before .before .before .step in
+    let n = c .before .before .before .before .before .before .before .before .before .before .before in
+    let l = n .before .before in
+    let a = l .before .before .before .args in
+    closed-falls _ (a .rows) (a .columns) (l .loop .work) (l .loop .list) (l .loop .current) (x .last .0) (x .last .1 .1 .1 .0) (x .result) (λ g s old st h e. x .ensures g s old st h e .made) (n .if1 .taken) (l .loop .inv .3)
 
 loop-again : tie.Need-loop-again Inv-loop μ-loop
 loop-again c =
-    let x = c .before .before .before .step in
-    let k = c .before .before .before .before .before .before in
-    let l = k .before .before in
-    let a = l .before .before .args in (
+    let x = c .before .before .before .before .before .step in
+    let p = c .before .before .before .before .before .before .before .before .before .passed in
+    let n = c .before .before .before .before .before .before .before .before .before .before .before in
+    let l = n .before .before in
+    let a = l .before .before .before .args in
+    let u = l .loop .inv .3 .going in
+    let q = x .ensures (u .grid) (u .position) (u .old) (u .stands) (omega (arith, u .counts, n .if1 .taken)) (u .counts) in (
       search needs,
       search needs,
-      underway-goes-on _ (a .rows) (a .columns) (l .loop .work) (l .loop .list) (l .loop .current) (x .last .0) (x .last .1 .1 .1 .0) (x .result) (x .ensures) (k .if1 .taken) (l .loop .inv .2),
-      midway-goes-on (a .opened-only) (a .rows) (a .columns) (a .work .now) (a .list .now) (a .state) (l .loop .work) (l .loop .list) (l .loop .current) (l .loop .inv .3)
-          (x .last .0) (x .last .1 .1 .1 .0) (x .result) (x .ensures) (k .if1 .taken),
+      search needs,
+      underway-goes-on _ (a .rows) (a .columns) (l .loop .work) (l .loop .list) (l .loop .current) (x .last .0) (x .last .1 .1 .1 .0) (x .result) (λ g s old st h e. x .ensures g s old st h e .made) (n .if1 .taken) (l .loop .inv .3),
+      midway-goes-on (a .opened-only) (a .rows) (a .columns) (a .work .now) (a .list .now) (a .state) (l .loop .work) (l .loop .list) (l .loop .current) (l .loop .inv .4)
+          (x .last .0) (x .last .1 .1 .1 .0) (x .result) (λ g s old st h e. x .ensures g s old st h e .made) (n .if1 .taken),
+      q .kept,
+      p .ensures .0,
+      low-stays (a .rows) (a .columns) (u .grid) (u .position) (u .old) (l .loop .work) (x .last .0) (stepOf (u .grid) (u .position) (choice (a .opened-only) (u .grid) (u .position)) 0 .moves)
+          (p .result * a .rows) (u .stands) (q .made .stands) (omega (arith, mul-le-mul-right (a .rows) (p .ensures .0))) (p .ensures .1),
     )
 
 same-length : tie.Need-same-length Inv-loop μ-loop
@@ -59,11 +86,14 @@ same-length c = search needs
 same-length-2 : tie.Need-same-length-2 Inv-loop μ-loop
 same-length-2 c = search needs
 
+same-length-3 : tie.Need-same-length-3 Inv-loop μ-loop
+same-length-3 c = search needs
+
 returns : tie.Need-returns Inv-loop μ-loop
 returns c =
     let l = c .before .before in
-    let a = l .before .before .args in
-    midway-ends (a .opened-only) (a .rows) (a .columns) (a .work .now) (a .list .now) (a .state) (l .loop .work) (l .loop .list) (l .loop .current) (l .loop .inv .3) (omega arith)
+    let a = l .before .before .before .args in
+    midway-ends (a .opened-only) (a .rows) (a .columns) (a .work .now) (a .list .now) (a .state) (l .loop .work) (l .loop .list) (l .loop .current) (l .loop .inv .4) (omega arith)
 
 pub play-on-spec : {M : Type 1} → statement M
 play-on-spec =
@@ -72,9 +102,11 @@ play-on-spec =
     Inv-loop
     μ-loop
     loop-holds
+    passed-requires
     step-requires
     loop-less
     loop-again
     same-length
     same-length-2
+    same-length-3
     returns)
