@@ -1,6 +1,6 @@
 pub mod Puts
 pub mod Loaded
-pub mod Settled
 pub mod Priced
-pub mod Passed
+pub mod Settled
+pub mod Raising
 pub mod Begun

@@ -4,7 +4,7 @@ use mathlib.Core.Bool.{Bool, true, false, not, cond, _&&_}
 use mathlib.Core.List.{List, []}
 use lib.Dec.{eqb}
 use lib.IntN.{ℤ, pos}
-use Rattle.game.specs.Lists.{bit, count}
+use Rattle.game.specs.Lists.{bit, fold}
 use Rattle.game.specs.Grid.{Grid, square}
 use Rattle.area.specs.Numbers.{gridOf, numberAt, putAt, putLowered}
 use Rattle.area.specs.Stages.{kind}
@@ -19,33 +19,36 @@ loadAt w i k = putAt (putAt (putAt (putAt (putAt w (5 * i) 0) (5 * i + 1) 0) (5 
 abbrev pub loadCell : Grid → List ℤ → ℕ → List ℤ
 loadCell g w i = loadAt w i (kind g i)
 
--- ---- the first premiums
+-- ---- the first premiums: the number `slot` of a cell holds its kind
 
--- a labelled work area has a safe cell without label there
-abbrev pub bareAt : List ℤ → ℕ → Bool
-bareAt w i = not (eqb (numberAt w (5 * i + 2)) 0) && eqb (numberAt w (5 * i)) 0
+-- a safe cell stands there
+abbrev pub safeAt : ℕ → List ℤ → ℕ → Bool
+safeAt slot w i = not (eqb (numberAt w (5 * i + slot)) 0)
 
--- a labelled work area has a safe cell there
-abbrev pub safeAt : List ℤ → ℕ → Bool
-safeAt w i = not (eqb (numberAt w (5 * i + 2)) 0)
+-- a safe cell without label
+abbrev pub bareAt : ℕ → List ℤ → ℕ → Bool
+bareAt slot w i = safeAt slot w i && eqb (numberAt w (5 * i)) 0
 
--- the unlabelled safe cells in a cell's square
-abbrev pub bareNear : ℕ → ℕ → List ℤ → ℕ → ℕ
-bareNear rows columns w i = count (bareAt w) (square (gridOf rows columns []) i)
+-- how many labels a cell has
+abbrev pub labelsAt : List ℤ → ℕ → ℕ
+labelsAt w i = bit (not (eqb (numberAt w (5 * i)) 0)) + bit (not (eqb (numberAt w (5 * i + 1)) 0))
 
--- the raised premium of a cell before any move, from kind, labels and unlabelled cells near; 0 for a mine
-abbrev pub raisedAt : List ℤ → ℕ → ℕ → ℕ
-raisedAt w i near =
-    cond (eqb (numberAt w (5 * i + 2)) 0) 0
-    (9 + bit (not (eqb (numberAt w (5 * i)) 0)) + bit (not (eqb (numberAt w (5 * i + 1)) 0)) + near - numberAt w (5 * i + 2))
+-- the raised premium, before any move, of a cell with so many labels that no unlabelled cell is near; 0 for a mine
+abbrev pub alonePremium : ℕ → ℕ → ℕ
+alonePremium labels kind = cond (eqb kind 0) 0 (9 + labels - kind)
 
--- it is put into the fifth number
-abbrev pub priceCell : ℕ → ℕ → List ℤ → ℕ → List ℤ
-priceCell rows columns w i = putAt w (5 * i + 4) (raisedAt w i (bareNear rows columns w i))
+-- a cell before any move, as if no unlabelled cell were near: its fifth number is the kind
+abbrev pub layCell : ℕ → List ℤ → ℕ → List ℤ
+layCell slot w i =
+    putAt (putAt (putAt w (5 * i + 2) (alonePremium (labelsAt w i) (numberAt w (5 * i + slot)))) (5 * i + 3) 0) (5 * i + 4) (numberAt w (5 * i + slot))
 
--- the third and the fifth number change places
-abbrev pub swapCell : List ℤ → ℕ → List ℤ
-swapCell w i = putAt (putAt w (5 * i + 2) (numberAt w (5 * i + 4))) (5 * i + 4) (numberAt w (5 * i + 2))
+-- a safe cell's premium is 1 more
+abbrev pub raiseCell : List ℤ → ℕ → List ℤ
+raiseCell w i = putAt w (5 * i + 2) (numberAt w (5 * i + 2) + bit (safeAt 4 w i))
+
+-- an unlabelled cell: each safe cell of its square has 1 more
+abbrev pub raiseNear : ℕ → ℕ → List ℤ → ℕ → List ℤ
+raiseNear rows columns w i = cond (bareAt 4 w i) (fold raiseCell w (square (gridOf rows columns []) i)) w
 
 -- ---- the end of a call
 
@@ -53,9 +56,3 @@ swapCell w i = putAt (putAt w (5 * i + 2) (numberAt w (5 * i + 4))) (5 * i + 4) 
 abbrev pub settleCell : List ℤ → ℕ → List ℤ
 settleCell w i =
     putAt (cond (eqb (numberAt w (5 * i + 4)) 0) w (putLowered w (5 * i + 2) (numberAt w (5 * i + 2)))) (5 * i + 4) 0
-
--- ---- the position before any move again
-
--- the kind goes back to the third number, and state and fifth number to 0: the labels stay
-abbrev pub unplayCell : List ℤ → ℕ → List ℤ
-unplayCell w i = putAt (putAt (putAt w (5 * i + 2) (numberAt w (5 * i + 4))) (5 * i + 3) 0) (5 * i + 4) 0

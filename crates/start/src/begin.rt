@@ -26,13 +26,11 @@ pub fn set_up(grid: &[i32], rows: usize, columns: usize, work: &mut [i32]) -> Co
     let cells = rows * columns;
     crate::load::load(grid, rows, columns, work);
     let openings = openings::label(work, rows, columns);
-    let bare = crate::price::count_bare(work, cells);
-    let safe = crate::price::count_safe(work, cells);
-    crate::price::price(work, rows, columns);
-    crate::price::swap(work, cells);
+    let tally = crate::price::lay(work, cells, 2);
+    crate::price::raise_all(work, rows, columns);
     Counts {
-        units: openings + bare,
-        safe,
+        units: openings + tally.bare,
+        safe: tally.safe,
     }
 }
 
@@ -51,7 +49,6 @@ pub fn reset(work: &mut [i32], rows: usize, columns: usize)
     ensures { λ _. ⌜ ((g : Grid) (s : Position) (old : List ℤ) → Stands rows columns g s old (now (work .entry)) → now (work .exit) ≡ held g (untouched g) old) ⌝ }
 {
     let cells = rows * columns;
-    crate::settle::unplay(work, cells);
-    crate::price::price(work, rows, columns);
-    crate::price::swap(work, cells);
+    crate::price::lay(work, cells, 4);
+    crate::price::raise_all(work, rows, columns);
 }

@@ -6,7 +6,7 @@ ghost use lib.ListN.{length};
 ghost use lib.Dec.{eqb};
 ghost use Rattle.game.specs.Lists.{range, fold};
 ghost use Rattle.area.specs.Numbers.{numberAt, putLowered};
-ghost use Rattle.start.specs.Passes.{settleCell, unplayCell};
+ghost use Rattle.start.specs.Passes.{settleCell};
 
 // The premium of a cell that is no mine is lowered again.
 pub fn lower_premium(work: &mut [i32], index: usize)
@@ -28,19 +28,5 @@ pub fn settle_cells(work: &mut [i32], cells: usize)
     for index in 0..cells {
         lower_premium(work, index);
         area::put(work, 5 * index + 4, 0);
-    }
-}
-
-// Each cell is labelled and unplayed again.
-pub fn unplay(work: &mut [i32], cells: usize)
-    requires { ⌜ 5 * cells ≤ length (now work) ⌝ }
-    ensures { λ _. ⌜ now (work .exit) ≡ fold unplayCell (now (work .entry)) (range 0 cells) ⌝ }
-{
-    for index in 0..cells {
-        let at = 5 * index;
-        let kind = area::get(work, at + 4);
-        area::put(work, at + 2, kind);
-        area::put(work, at + 3, 0);
-        area::put(work, at + 4, 0);
     }
 }

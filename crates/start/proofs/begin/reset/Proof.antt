@@ -1,4 +1,4 @@
--- `start::begin::reset`: unplayed, priced and swapped, one after the other. Assumes nothing.
+-- `start::begin::reset`: laid and raised again, one after the other. Assumes nothing.
 use borrow.Author.Needs.{needs}
 use Rattle.start.proofs.Begun.{begun-again-by}
 use Rattle.start.proofs.begin.reset.Statement.{statement}
@@ -7,24 +7,22 @@ use Rattle.start.proofs.begin.reset.Tie as tie
 mul-cells : tie.Need-mul-cells
 mul-cells c = search needs
 
-unplay-requires : tie.Need-unplay-requires
-unplay-requires c κs = search needs
+lay-requires : tie.Need-lay-requires
+lay-requires c κs = search needs
 
-price-requires : tie.Need-price-requires
-price-requires c κs = search needs
-
-swap-requires : tie.Need-swap-requires
-swap-requires c κs = search needs
+raise-all-requires : tie.Need-raise-all-requires
+raise-all-requires c κs = search needs
 
 same-length : tie.Need-same-length
 same-length c = search needs
 
 returns : tie.Need-returns
 returns c =
+    let raise = c .before in
+    let lay = raise .before .before .before in
+    let a = lay .before .before .args in
     λ g s old t.
-    begun-again-by (c .before .before .before .before .before .before .before .before .before .args .rows) (c .before .before .before .before .before .before .before .before .before .args .columns) g s old (c .before .before .before .before .before .before .before .before .before .args .work .now) _ (c .before .before .before .before .price .last .0) (c .before .swap .last .0) t
-    (c .before .before .before .before .before .before .before .unplay .ensures) (c .before .before .before .before .price .ensures) (c .before .swap .ensures)
+    begun-again-by (a .rows) (a .columns) g s old (a .work .now) (lay .lay .last .0) (raise .raise-all .last .0) t (lay .lay .ensures .0) (raise .raise-all .ensures)
 
 pub reset-spec : {M : Type 1} → statement M
-reset-spec =
-    tie.close (tie.spec mul-cells unplay-requires price-requires swap-requires same-length returns)
+reset-spec = tie.close (tie.spec mul-cells lay-requires raise-all-requires same-length returns)

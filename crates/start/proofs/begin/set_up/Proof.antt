@@ -19,48 +19,37 @@ load-requires c κs = search needs
 label-requires : tie.Need-label-requires
 label-requires c κs = search needs
 
-count-bare-requires : tie.Need-count-bare-requires
-count-bare-requires c κs = search needs
+lay-requires : tie.Need-lay-requires
+lay-requires c κs = search needs
 
-count-safe-requires : tie.Need-count-safe-requires
-count-safe-requires c κs = search needs
+raise-all-requires : tie.Need-raise-all-requires
+raise-all-requires c κs = search needs
 
-price-requires : tie.Need-price-requires
-price-requires c κs = search needs
-
-swap-requires : tie.Need-swap-requires
-swap-requires c κs = search needs
-
-add-t22 : tie.Need-add-t22
-add-t22 c =
-    let a = c .before .before .before .before .before .before .before .before .before .before .before .before .before .before .before .before .args in
+add-t17 : tie.Need-add-t17
+add-t17 c =
+    let label = c .before .before .before .before .before .before .before .before in
+    let load = label .before .before .before in
+    let a = load .before .before .args in
     let g = gridOf (a .rows) (a .columns) (a .grid .now) in
-    let l = c .before .before .before .before .before .before .before .before .before .before .before .label .ensures g (a .work .now) refl refl (omega arith) (c .before .before .before .before .before .before .before .before .before .before .before .before .before .before .load .ensures) in
-    omega (arith, l .0, few-openings g, cells-few (a .rows) (a .columns) (c .before .before .before .before .before .before .before .before .before .before .before .before .before .before .before .before .pre .0))
+    let l = label .label .ensures g (a .work .now) refl refl (omega arith) (load .load .ensures) in
+    omega (arith, l .0, few-openings g, cells-few (a .rows) (a .columns) (load .before .before .pre .0))
 
 same-length : tie.Need-same-length
 same-length c = search needs
 
 returns : tie.Need-returns
 returns c =
-    let a = c .before .before .before .before .before .before .before .before .before .before .before .before .before .before .before .before .args in
+    let raise = c .before .before in
+    let lay = raise .before .before .before in
+    let label = lay .before .before .before in
+    let load = label .before .before .before in
+    let a = load .before .before .args in
     let g = gridOf (a .rows) (a .columns) (a .grid .now) in
-    let l = c .before .before .before .before .before .before .before .before .before .before .before .label in
-    begun-setting g (a .work .now) (l .last .0) (c .before .before .before .before .price .last .0) (c .before .swap .last .0) (l .result) (c .before .before .before .before .before .before .before .before .count-bare .result) (c .before .before .before .before .before .before .count-safe .result)
-    (omega arith) (l .ensures g (a .work .now) refl refl (omega arith) (c .before .before .before .before .before .before .before .before .before .before .before .before .before .before .load .ensures)) (c .before .before .before .before .before .before .before .before .count-bare .ensures .0) (c .before .before .before .before .before .before .count-safe .ensures .0)
-    (c .before .before .before .before .price .ensures) (c .before .swap .ensures)
+    begun-setting g (a .work .now) (label .label .last .0) (lay .lay .last .0) (raise .raise-all .last .0) (label .label .result) (lay .lay .result .bare) (lay .lay .result .safe)
+    (omega arith) (label .label .ensures g (a .work .now) refl refl (omega arith) (load .load .ensures)) (lay .lay .ensures .1) (lay .lay .ensures .2)
+    (lay .lay .ensures .0) (raise .raise-all .ensures)
 
 pub set-up-spec : {M : Type 1} → statement M
 set-up-spec =
     tie.close
-    (tie.spec
-    mul-cells
-    load-requires
-    label-requires
-    count-bare-requires
-    count-safe-requires
-    price-requires
-    swap-requires
-    add-t22
-    same-length
-    returns)
+    (tie.spec mul-cells load-requires label-requires lay-requires raise-all-requires add-t17 same-length returns)

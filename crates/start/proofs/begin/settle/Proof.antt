@@ -6,7 +6,7 @@ use mathlib.Core.List.{List}
 use lib.IntN.{ℤ}
 use Rattle.game.specs.Lists.{fold, range}
 use Rattle.start.specs.Passes.{settleCell}
-use Rattle.start.proofs.Passed.{settled-all}
+use Rattle.start.proofs.Settled.{settled-all}
 use Rattle.start.proofs.begin.settle.Statement.{statement}
 use Rattle.start.proofs.begin.settle.Tie as tie
 
