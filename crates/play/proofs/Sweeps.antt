@@ -222,6 +222,10 @@ run-more label a k w v u r n q m h s c =
       labelled = omega (arith, s .labelled, c .found-it, ap bit (label-stays label a k w v r k (s .swept)), count-more (labelledAt label w) a k h);
     }
 
+-- a column's cells lie on the grid
+pub column-on : (rows columns column : ℕ) → column < columns → column * rows + rows ≤ rows * columns
+column-on rows columns column h = omega (arith, mul-le-mul-right rows h)
+
 pub left-none : (rows label column : ℕ) (w : List ℤ) → SweptOver label ((column + 1) * rows) (column * rows + rows) w 0 w
 left-none rows label column w = rw seam (over-none label (column * rows + rows) w)
   where

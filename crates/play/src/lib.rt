@@ -175,7 +175,8 @@ fn sweep_left(
     let mut left = column + 1;
     while 0 < left {
         left -= 1;
-        let swept = sweep(work, left * rows, left * rows + rows, label);
+        let first = left * rows;
+        let swept = sweep(work, first, first + rows, label);
         opened += swept.opened;
         if swept.found == 0 {
             return opened;
@@ -198,7 +199,8 @@ fn sweep_right(
 {
     let mut opened: usize = 0;
     for right in column..columns {
-        let swept = sweep(work, right * rows, right * rows + rows, label);
+        let first = right * rows;
+        let swept = sweep(work, first, first + rows, label);
         opened += swept.opened;
         if swept.found == 0 {
             return opened;
