@@ -1,18 +1,16 @@
--- The columns of an opening are without gap, so a walk to one side may end at the first column without its label: neighbours' columns differ by at most 1. Assumes nothing.
+-- The columns of an opening are without gap, as neighbours' columns differ by at most 1: no cell of it lies beyond a column without its label. Assumes nothing.
 use Prim.Native.Nat.{ℕ, _*_, _+_, _-_, _/_, _<_, _≤_}
 use native.Mathlib.Omega.{arith}
 use native.Mathlib.Decide.{ℕ-discrete}
 use native.Mathlib.Nat.{div-lt-iff-lt-mul, le-div-iff-mul-le, mul-le-mul-right}
-use mathlib.Core.Path.{_∙_, _≡_, ap, ap₂, refl, subst, sym}
+use mathlib.Core.Path.{_∙_, _≡_, ap, subst, sym}
 use mathlib.Core.Logic.{_⊎_, inl, inr, ⊎-elim}
-use mathlib.Core.Bool.{Bool, _||_}
 use mathlib.Core.List.{List}
-use lib.Dec.{T, eqb}
+use lib.Dec.{T}
 use lib.IntN.{ℤ}
-use lib.ListN.{length}
 use Rattle.game.specs.Grid.{Grid, columnOf, rowOf, size, square, zeroCell}
 use Rattle.game.specs.Lists.{has, range}
-use Rattle.game.specs.Openings.{Joined, firstLabel, holds, itself, joinedTo, onward, secondLabel}
+use Rattle.game.specs.Openings.{Joined, firstLabel, holds, itself, joinedTo, onward}
 use Rattle.game.specs.Position.{Position}
 use Rattle.game.proofs.Chains.{joined-last}
 use Rattle.game.proofs.Counts.{none-counted}
@@ -21,10 +19,11 @@ use Rattle.game.proofs.Openings.{joinedTo→, →joinedTo}
 use Rattle.game.proofs.Squares.{column-lt, in-own-square, index-of, row-lt, square→}
 use Rattle.game.proofs.Zeros.{Zero}
 use Rattle.area.specs.Stages.{Stands}
-use Rattle.play.specs.Walks.{LeftSwept, RightSwept, SweptOver, firstAt, labelledAt, labelledIn, secondAt}
+use Rattle.play.specs.Walks.{LeftSwept, RightSwept, SweptOver, labelledAt, labelledIn}
 use Rattle.play.proofs.Cells.{read-first, read-second}
 use Rattle.play.proofs.Held.{heldCell, held-cells}
 use Rattle.play.proofs.Marks.{marked-held}
+use Rattle.play.proofs.Reveals.{inside, size-is}
 use Rattle.play.proofs.Sweeps.{labelled-stays, over-all, to-right}
 
 -- ---- an opening has cells in every column between two of its columns
@@ -69,12 +68,12 @@ held-spans g z x q zz h t w =
 -- ---- so the walks miss no cell of the label
 
 module _ (rows columns : ℕ) (g : Grid) (s : Position) (old w : List ℤ) (i label : ℕ) (h : i < rows * columns) (st : Stands rows columns g s old w)
-  (none : T (zeroCell g i)) (own : label ≡ firstLabel g i) where
-  size-is : size g ≡ rows * columns
-  size-is = ap₂ _*_ (st .rows-are) (st .columns-are)
+    (none : T (zeroCell g i)) (own : label ≡ firstLabel g i) where
+  all-cells : size g ≡ rows * columns
+  all-cells = size-is rows columns g s old w i h st
 
   z : Zero g i
-  z = record { inside = omega (arith, size-is); none = none }
+  z = record { inside = inside rows columns g s old w i h st; none = none }
 
   -- the label marks the cells of the opening
   marks : (x : ℕ) → x < size g → labelledAt label w x ≡ holds g x (joinedTo g i)
@@ -119,12 +118,12 @@ module _ (rows columns : ℕ) (g : Grid) (s : Position) (old w : List ℤ) (i la
   pub both-ways : (c : ℕ) (u v : List ℤ) (r q : ℕ) → c ≡ i / rows → LeftSwept rows label c w r u → RightSwept rows columns label (c + 1) u q v
       → SweptOver label 0 (rows * columns) w (r + q) v
   both-ways c u v r q here a b =
-      over-all label (rows * columns) (a .end * rows) (b .end * rows) w v (r + q) (omega (arith, left, right)) inside
+      over-all label (rows * columns) (a .end * rows) (b .end * rows) w v (r + q) (omega (arith, left, right)) on-grid
       (to-right label (a .end * rows) (c * rows + rows) (b .end * rows) w u v r q (omega (arith, left)) right (a .swept) (rw seam at (b .swept)))
-      (λ x k t. none-left (a .end) (omega (arith, a .on-left, own-column)) (a .ends) x k (omega (arith, size-is, left, right, inside)) t)
+      (λ x k t. none-left (a .end) (omega (arith, a .on-left, own-column)) (a .ends) x k (omega (arith, all-cells, left, right, on-grid)) t)
       (λ x k m t. none-right (b .end) (omega (arith, b .on-right, own-column))
       (λ last e f. sym (labelled-stays label (a .end * rows) (c * rows + rows) w u r (last * rows) (last * rows + rows) (a .swept)) ∙ b .ends last e f)
-      x k (omega (arith, m, size-is)) t)
+      x k (omega (arith, m, all-cells)) t)
     where
       own-column : columnOf g i ≡ c
       own-column = ap (λ (k : ℕ). i / k) (st .rows-are) ∙ sym here
@@ -138,5 +137,5 @@ module _ (rows columns : ℕ) (g : Grid) (s : Position) (old w : List ℤ) (i la
       right : c * rows + rows ≤ b .end * rows
       right = omega (arith, mul-le-mul-right rows (b .on-right))
 
-      inside : b .end * rows ≤ rows * columns
-      inside = omega (arith, mul-le-mul-right rows (b .in-columns))
+      on-grid : b .end * rows ≤ rows * columns
+      on-grid = omega (arith, mul-le-mul-right rows (b .in-columns))

@@ -233,7 +233,7 @@ left-none rows label column w = rw seam (over-none label (column * rows + rows) 
     seam = omega arith
 
 module _ (rows label column left : ℕ) (w v u : List ℤ) (r q n : ℕ) (some : 0 < left) (few : left ≤ column + 1)
-  (s : SweptOver label (left * rows) (column * rows + rows) w r v) (t : RunSwept label ((left - 1) * rows) ((left - 1) * rows + rows) v q n u) where
+    (s : SweptOver label (left * rows) (column * rows + rows) w r v) (t : RunSwept label ((left - 1) * rows) ((left - 1) * rows + rows) v q n u) where
   seam-left : (left - 1) * rows + rows ≡ left * rows
   seam-left = go left some
     where
@@ -267,7 +267,7 @@ left-whole rows label column w v r left e s =
     record { end = left; on-left = omega arith; swept = s; ends = λ n. absurd (n e) }
 
 module _ (rows columns label column right : ℕ) (w v u : List ℤ) (r q n : ℕ) (some : column ≤ right)
-  (s : SweptOver label (column * rows) (right * rows) w r v) (t : RunSwept label (right * rows) (right * rows + rows) v q n u) where
+    (s : SweptOver label (column * rows) (right * rows) w r v) (t : RunSwept label (right * rows) (right * rows + rows) v q n u) where
   seam-right : right * rows + rows ≡ (right + 1) * rows
   seam-right = omega arith
 

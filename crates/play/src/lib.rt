@@ -132,16 +132,25 @@ fn sweep_cell(work: &mut [i32], index: usize, label: usize) -> Tally
     ensures { λ r. ⌜ CellSwept label (now (work .entry)) index (r .opened) (r .found) (now (work .exit)) ⌝ }
 {
     if !labelled(work, index, label) {
-        return Tally { opened: 0, found: 0 };
+        return Tally {
+            opened: 0,
+            found: 0,
+        };
     }
     let state = area::get(work, 5 * index + 3);
     if state == 0 {
         area::put(work, 5 * index + 3, 1);
-        return Tally { opened: 1, found: 1 };
+        return Tally {
+            opened: 1,
+            found: 1,
+        };
     }
     let premium = area::get(work, 5 * index + 2);
     area::put(work, 5 * index + 2, less(premium, 1));
-    Tally { opened: 0, found: 1 }
+    Tally {
+        opened: 0,
+        found: 1,
+    }
 }
 
 // Every cell of the label from `first` to before `last`.
@@ -160,13 +169,7 @@ fn sweep(work: &mut [i32], first: usize, last: usize, label: usize) -> Tally
 }
 
 // The given column, then those to its left until one has no cell of the label. Answers how many cells were opened.
-fn sweep_left(
-    work: &mut [i32],
-    rows: usize,
-    columns: usize,
-    column: usize,
-    label: usize,
-) -> usize
+fn sweep_left(work: &mut [i32], rows: usize, columns: usize, column: usize, label: usize) -> usize
     requires { ⌜ Shape rows columns ⌝ }
     requires { ⌜ (5 * (rows * columns) ≤ length (now work)) × (column < columns) ⌝ }
     ensures { λ r. ⌜ (r ≤ 255 * (column + 1)) × LeftSwept rows label column (now (work .entry)) r (now (work .exit)) ⌝ }
@@ -186,13 +189,7 @@ fn sweep_left(
 }
 
 // The columns from the given one on to the right until one has no cell of the label. Answers how many cells were opened.
-fn sweep_right(
-    work: &mut [i32],
-    rows: usize,
-    columns: usize,
-    column: usize,
-    label: usize,
-) -> usize
+fn sweep_right(work: &mut [i32], rows: usize, columns: usize, column: usize, label: usize) -> usize
     requires { ⌜ Shape rows columns ⌝ }
     requires { ⌜ (5 * (rows * columns) ≤ length (now work)) × (column ≤ columns) ⌝ }
     ensures { λ r. ⌜ (r ≤ 255 * (columns - column)) × RightSwept rows columns label column (now (work .entry)) r (now (work .exit)) ⌝ }
@@ -210,13 +207,7 @@ fn sweep_right(
 }
 
 // Every cell of the opening of a 0-cell: its columns are without gap. Answers how many were opened.
-fn sweep_opening(
-    work: &mut [i32],
-    rows: usize,
-    columns: usize,
-    index: usize,
-    label: usize,
-) -> usize
+fn sweep_opening(work: &mut [i32], rows: usize, columns: usize, index: usize, label: usize) -> usize
     requires { ⌜ Shape rows columns ⌝ }
     requires { ⌜ (5 * (rows * columns) ≤ length (now work)) × (index < rows * columns) ⌝ }
     ensures { λ r. ⌜ (r ≤ 65025) × ((g : Grid) (s : Position) (old : List ℤ) → Stands rows columns g s old (now (work .entry))
