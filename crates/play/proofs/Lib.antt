@@ -8,3 +8,5 @@ pub mod Reveals
 pub mod Chords
 pub mod Makes
 pub mod Runs
+pub mod Sweeps
+pub mod Spans

@@ -9,7 +9,7 @@ use lib.Dec.{T, T-not, eqb, eqb→eq, lt→ltb, ltb, not-T}
 use lib.IntN.{ℤ}
 use lib.ListN.{getD, set}
 use Rattle.game.specs.Grid.{Grid, mine, number, safe, size, zeroCell}
-use Rattle.game.specs.Lists.{fold, range}
+use Rattle.game.specs.Lists.{fold}
 use Rattle.game.specs.Moves.{flag, legal, play, reveal}
 use Rattle.game.specs.Openings.{firstLabel}
 use Rattle.game.specs.Position.{Position, closed, closedSafe}
@@ -20,7 +20,7 @@ use Rattle.game.proofs.Truth.{T→false, and-both, eqb-yes, iff}
 use Rattle.area.specs.Numbers.{putAt}
 use Rattle.area.specs.Stages.{Shape, Stands, held, kind}
 use Rattle.play.specs.Promises.{Revealing}
-use Rattle.play.specs.Walks.{Swept, firstAt, kindAt, openedOne, shifted, squareOf, stateAt, sweptOn}
+use Rattle.play.specs.Walks.{SweptOver, firstAt, kindAt, openedOne, shifted, squareOf, stateAt}
 use Rattle.play.proofs.Cells.{read-first, read-kind, read-state}
 use Rattle.play.proofs.Changes.{flag-area, open-area, open-count, sweep-area}
 use Rattle.play.proofs.Held.{heldCell, held-cells, kind-mine}
@@ -121,10 +121,11 @@ module _ (rows columns : ℕ) (g : Grid) (s : Position) (old w : List ℤ) (i : 
       (omega (arith, ap (closedSafe g) q, open-count g s old i (st .room) inside played t u n))
 
   pub opening-swept : (l r : ℕ) (v : List ℤ) → T (closed s i) → T (zeroCell g i) → l ≡ firstAt w i
-      → _≡_ {A = Swept} (record { area = v; opened = r }) (fold (sweptOn l) (record { area = w; opened = 0 }) (range 0 (rows * columns)))
+      → (T (zeroCell g i) → l ≡ firstLabel g i → SweptOver l 0 (rows * columns) w r v)
       → Revealing rows columns g s old i r v
   opening-swept l r v u z e q =
-      let a = sweep-area g s old i (st .room) inside played z u v r (rw (← label-read l e, ← st .holds-it, size-is) q) in
+      let own = label-read l e in
+      let a = sweep-area g s old i (st .room) inside played z u v r (rw (← own, ← st .holds-it, size-is) (q z own)) in
       after r v (a .0) (a .1)
 
   -- ---- by what is read: the kind k, the state m
@@ -137,7 +138,7 @@ module _ (rows columns : ℕ) (g : Grid) (s : Position) (old w : List ℤ) (i : 
 
   module _ (k m : ℕ) (ek : k ≡ kindAt w i) (nk : k ≡ 0 → ⊥) (em : m ≡ stateAt w i) (zm : m ≡ 0) where
     pub by-zero : (l r : ℕ) (v : List ℤ) → k ≡ 1 → l ≡ firstAt w i
-        → _≡_ {A = Swept} (record { area = v; opened = r }) (fold (sweptOn l) (record { area = w; opened = 0 }) (range 0 (rows * columns)))
+        → (T (zeroCell g i) → l ≡ firstLabel g i → SweptOver l 0 (rows * columns) w r v)
         → Revealing rows columns g s old i r v
     by-zero l r v o e q =
         opening-swept l r v (is-closed m em zm) (subst T (sym (eqb-yes k 1 o) ∙ is-zero k ek (is-safe k ek nk)) tt) e q

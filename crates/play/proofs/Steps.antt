@@ -1,17 +1,15 @@
 -- The small functions by their branches: each branch is what the definition gives where its tests hold. Assumes nothing.
 use Prim.Native.Nat.{ℕ, _*_, _+_, _-_, _≤_}
-use native.Mathlib.Omega.{arith}
-use mathlib.Core.Path.{_≡_, _∙_, ap, sym}
+use mathlib.Core.Path.{_≡_, _∙_}
 use mathlib.Core.Bool.{Bool, false, true}
 use mathlib.Core.List.{List}
 use lib.Dec.{eqb}
 use lib.IntN.{ℤ}
-use Rattle.game.specs.Lists.{bit, fold, range}
+use Rattle.game.specs.Lists.{bit, fold}
 use Rattle.game.proofs.Counts.{bit-le}
-use Rattle.game.proofs.Members.{fold-more}
 use Rattle.game.proofs.Truth.{eqb-no, eqb-yes}
 use Rattle.area.specs.Numbers.{putAt}
-use Rattle.play.specs.Walks.{bareAt, firstAt, kindAt, labelledAt, openedOne, opensAt, premiumAt, secondAt, shifted, squareOf, stateAt, sweptCell, sweptOn, Swept}
+use Rattle.play.specs.Walks.{CellSwept, bareAt, firstAt, kindAt, labelledAt, openedOne, opensAt, premiumAt, secondAt, shifted, squareOf, stateAt, sweptCell}
 
 -- ---- a premium shifts
 
@@ -36,37 +34,28 @@ module _ (label : ℕ) (w : List ℤ) (i a : ℕ) (e : a ≡ firstAt w i) where
 
 -- ---- a cell is swept
 
--- the run and the answer of one cell of a sweep
-pub record CellSwept (label : ℕ) (w : List ℤ) (i : ℕ) (v : List ℤ) (r : ℕ) : Type 0 where
-  pub area : v ≡ sweptCell label w i
-  pub answer : r ≡ bit (opensAt label w i)
-
 module _ (label : ℕ) (w : List ℤ) (i : ℕ) (b : Bool) (e : b ≡ labelledAt label w i) where
-  pub sweep-other : b ≡ false → CellSwept label w i w 0
+  pub sweep-other : b ≡ false → CellSwept label w i 0 0 w
   unfolding sweptCell opensAt
-  sweep-other t = record { area = rw (← e, t); answer = rw (← e, t) }
+  sweep-other t = record { area = rw (← e, t); opened-it = rw (← e, t); found-it = rw (← e, t) }
 
-  pub sweep-closed : (k : ℕ) (v : List ℤ) → b ≡ true → k ≡ stateAt w i → k ≡ 0 → v ≡ putAt w (5 * i + 3) 1 → CellSwept label w i v 1
+  pub sweep-closed : (k : ℕ) (v : List ℤ) → b ≡ true → k ≡ stateAt w i → k ≡ 0 → v ≡ putAt w (5 * i + 3) 1 → CellSwept label w i 1 1 v
   unfolding sweptCell opensAt
-  sweep-closed k v t f h s = record { area = s ∙ rw (← e, t, ← f, h); answer = rw (← e, t, ← f, h) }
+  sweep-closed k v t f h s =
+      record { area = s ∙ rw (← e, t, ← f, h); opened-it = rw (← e, t, ← f, h); found-it = rw (← e, t) }
 
   pub sweep-opened : (k p q : ℕ) (v : List ℤ) → b ≡ true → k ≡ stateAt w i → (k ≡ 0 → ⊥) → p ≡ premiumAt w i → q ≡ p - 1
-      → v ≡ putAt w (5 * i + 2) q → CellSwept label w i v 0
+      → v ≡ putAt w (5 * i + 2) q → CellSwept label w i 0 1 v
   unfolding sweptCell opensAt
   sweep-opened k p q v t f h g d s =
-      record { area = s ∙ rw (← e, t, ← f, eqb-no k 0 h, ← g, ← d); answer = rw (← e, t, ← f, eqb-no k 0 h) }
+      record {
+        area = s ∙ rw (← e, t, ← f, eqb-no k 0 h, ← g, ← d);
+        opened-it = rw (← e, t, ← f, eqb-no k 0 h);
+        found-it = rw (← e, t);
+      }
 
 pub bit-small : (b : Bool) → bit b ≤ 1
 bit-small b = bit-le b true (λ t. tt)
-
--- a sweep goes on by one cell
-pub sweep-on : (label : ℕ) (w₀ w v : List ℤ) (k n r : ℕ)
-    → _≡_ {A = Swept} (record { area = w; opened = n }) (fold (sweptOn label) (record { area = w₀; opened = 0 }) (range 0 k))
-    → CellSwept label w k v r
-    → _≡_ {A = Swept} (record { area = v; opened = n + r }) (fold (sweptOn label) (record { area = w₀; opened = 0 }) (range 0 (k + 1)))
-unfolding sweptOn
-sweep-on label w₀ w v k n r e s =
-    rw (s .area, s .answer) (ap (λ (t : Swept). sweptOn label t k) e) ∙ sym (fold-more (sweptOn label) (record { area = w₀; opened = 0 }) 0 k (omega arith))
 
 -- ---- a cell is opened
 

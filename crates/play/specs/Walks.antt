@@ -1,11 +1,11 @@
 -- What the small functions do to the work area, number by number. Assumes nothing.
-use Prim.Native.Nat.{ℕ, _+_, _-_, _*_, _≤_}
+use Prim.Native.Nat.{ℕ, _+_, _-_, _*_, _<_, _≤_}
 use mathlib.Core.Path.{_≡_}
 use mathlib.Core.Bool.{Bool, cond, not, _&&_, _||_}
 use mathlib.Core.List.{List, [], map}
 use lib.Dec.{eqb}
 use lib.IntN.{ℤ}
-use Rattle.game.specs.Lists.{bit, concat-map, fold, range}
+use Rattle.game.specs.Lists.{bit, concat-map, count, fold, range}
 use Rattle.game.specs.Grid.{square}
 use Rattle.area.specs.Numbers.{gridOf, numberAt, putAt}
 
@@ -82,6 +82,41 @@ pub record Swept : Type 0 where
 unfoldable pub sweptOn : ℕ → Swept → ℕ → Swept
 sweptOn label t i =
     record { area = sweptCell label (t .area) i; opened = t .opened + bit (opensAt label (t .area) i) }
+
+-- a sweep's one cell, with whether it was opened and whether it has the label
+pub record CellSwept (label : ℕ) (w : List ℤ) (i opened found : ℕ) (v : List ℤ) : Type 0 where
+  pub area : v ≡ sweptCell label w i
+  pub opened-it : opened ≡ bit (opensAt label w i)
+  pub found-it : found ≡ bit (labelledAt label w i)
+
+-- a sweep of the cells from a on that are below b, with how many were opened
+abbrev pub SweptOver : ℕ → ℕ → ℕ → List ℤ → ℕ → List ℤ → Type 0
+SweptOver label a b w opened v =
+    _≡_ {A = Swept} (record { area = v; opened = opened }) (fold (sweptOn label) (record { area = w; opened = 0 }) (range a b))
+
+-- how many of the cells from a on that are below b have the label
+abbrev pub labelledIn : ℕ → List ℤ → ℕ → ℕ → ℕ
+labelledIn label w a b = count (labelledAt label w) (range a b)
+
+-- such a sweep, with how many cells have the label
+pub record RunSwept (label a b : ℕ) (w : List ℤ) (opened found : ℕ) (v : List ℤ) : Type 0 where
+  pub swept : SweptOver label a b w opened v
+  pub labelled : found ≡ labelledIn label w a b
+
+-- a sweep of a column and those to its left, down to one that is the first or has no cell of the label
+pub record LeftSwept (rows label column : ℕ) (w : List ℤ) (opened : ℕ) (v : List ℤ) : Type 0 where
+  pub end : ℕ
+  pub on-left : end ≤ column
+  pub swept : SweptOver label (end * rows) (column * rows + rows) w opened v
+  pub ends : (end ≡ 0 → ⊥) → labelledIn label w (end * rows) (end * rows + rows) ≡ 0
+
+-- a sweep of the columns from one on to the right, up to the last or one that has no cell of the label
+pub record RightSwept (rows columns label column : ℕ) (w : List ℤ) (opened : ℕ) (v : List ℤ) : Type 0 where
+  pub end : ℕ
+  pub on-right : column ≤ end
+  pub in-columns : end ≤ columns
+  pub swept : SweptOver label (column * rows) (end * rows) w opened v
+  pub ends : (last : ℕ) → end ≡ last + 1 → end < columns → labelledIn label w (last * rows) (last * rows + rows) ≡ 0
 
 -- a mine without flag
 unfoldable pub bareAt : List ℤ → ℕ → Bool

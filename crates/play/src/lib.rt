@@ -6,12 +6,13 @@ ghost use mathlib.Core.Option.{some};
 ghost use lib.Dec.{T};
 ghost use lib.IntN.{ℤ};
 ghost use lib.ListN.{length, take};
-ghost use Rattle.game.specs.Lists.{bit, count as countOf, fold, range};
-ghost use Rattle.game.specs.Grid.{Grid, mine};
+ghost use Rattle.game.specs.Lists.{bit, count as countOf, fold};
+ghost use Rattle.game.specs.Grid.{Grid, mine, zeroCell};
+ghost use Rattle.game.specs.Openings.{firstLabel};
 ghost use Rattle.game.specs.Position.{Position, closed as isClosed, closedSafe};
 ghost use Rattle.game.specs.Moves.{play, legal, legalRead, readMove, replayFrom, chordable as mayChord, left as leftMove, flag as flagMove, chord as chordMove};
 ghost use Rattle.area.specs.Stages.{Shape, Stands};
-ghost use Rattle.play.specs.Walks.{Around, shifted, rowCells, squareOf, openedOne, labelledAt, sweptCell, opensAt, Swept, sweptOn, bareAt};
+ghost use Rattle.play.specs.Walks.{Around, shifted, rowCells, squareOf, openedOne, labelledAt, CellSwept, SweptOver, RunSwept, LeftSwept, RightSwept, bareAt};
 ghost use Rattle.play.specs.Promises.{Revealing, Opens, Chording};
 ghost use Rattle.play.specs.Replays.{Making, Replaying};
 
@@ -119,35 +120,103 @@ fn labelled(work: &[i32], index: usize, label: usize) -> bool
     second == label
 }
 
-// One cell of a sweep: opened, or one opening less. Answers 1 if it was opened.
-fn sweep_cell(work: &mut [i32], index: usize, label: usize) -> usize
+// How many cells a sweep opened, and how many have the label.
+struct Tally {
+    opened: usize,
+    found: usize,
+}
+
+// One cell of a sweep: opened, or one opening less.
+fn sweep_cell(work: &mut [i32], index: usize, label: usize) -> Tally
     requires { ⌜ 5 * index + 5 ≤ length (now work) ⌝ }
-    ensures { λ r. ⌜ (now (work .exit) ≡ sweptCell label (now (work .entry)) index) × (r ≡ bit (opensAt label (now (work .entry)) index)) ⌝ }
+    ensures { λ r. ⌜ CellSwept label (now (work .entry)) index (r .opened) (r .found) (now (work .exit)) ⌝ }
 {
     if !labelled(work, index, label) {
-        return 0;
+        return Tally {
+            opened: 0,
+            found: 0,
+        };
     }
     let state = area::get(work, 5 * index + 3);
     if state == 0 {
         area::put(work, 5 * index + 3, 1);
-        return 1;
+        return Tally {
+            opened: 1,
+            found: 1,
+        };
     }
     let premium = area::get(work, 5 * index + 2);
     area::put(work, 5 * index + 2, less(premium, 1));
-    0
+    Tally {
+        opened: 0,
+        found: 1,
+    }
 }
 
-// Every cell of the opening of a label. Answers how many were opened.
-fn sweep(work: &mut [i32], cells: usize, label: usize) -> usize
-    requires { ⌜ 5 * cells ≤ length (now work) ⌝ }
-    ensures { λ r. ⌜ (r ≤ cells) × (record { area = now (work .exit); opened = r }
-        ≡ fold (sweptOn label) (record { area = now (work .entry); opened = 0 }) (range 0 cells)) ⌝ }
+// Every cell of the label from `first` to before `last`.
+fn sweep(work: &mut [i32], first: usize, last: usize, label: usize) -> Tally
+    requires { ⌜ (first ≤ last) × (5 * last ≤ length (now work)) ⌝ }
+    ensures { λ r. ⌜ (r .opened ≤ last - first) × RunSwept label first last (now (work .entry)) (r .opened) (r .found) (now (work .exit)) ⌝ }
 {
     let mut opened: usize = 0;
-    for index in 0..cells {
-        opened += sweep_cell(work, index, label);
+    let mut found: usize = 0;
+    for index in first..last {
+        let cell = sweep_cell(work, index, label);
+        opened += cell.opened;
+        found += cell.found;
+    }
+    Tally { opened, found }
+}
+
+// The given column, then those to its left until one has no cell of the label. Answers how many cells were opened.
+fn sweep_left(work: &mut [i32], rows: usize, columns: usize, column: usize, label: usize) -> usize
+    requires { ⌜ Shape rows columns ⌝ }
+    requires { ⌜ (5 * (rows * columns) ≤ length (now work)) × (column < columns) ⌝ }
+    ensures { λ r. ⌜ (r ≤ 255 * (column + 1)) × LeftSwept rows label column (now (work .entry)) r (now (work .exit)) ⌝ }
+{
+    let mut opened: usize = 0;
+    let mut left = column + 1;
+    while 0 < left {
+        left -= 1;
+        let first = left * rows;
+        let swept = sweep(work, first, first + rows, label);
+        opened += swept.opened;
+        if swept.found == 0 {
+            return opened;
+        }
     }
     opened
+}
+
+// The columns from the given one on to the right until one has no cell of the label. Answers how many cells were opened.
+fn sweep_right(work: &mut [i32], rows: usize, columns: usize, column: usize, label: usize) -> usize
+    requires { ⌜ Shape rows columns ⌝ }
+    requires { ⌜ (5 * (rows * columns) ≤ length (now work)) × (column ≤ columns) ⌝ }
+    ensures { λ r. ⌜ (r ≤ 255 * (columns - column)) × RightSwept rows columns label column (now (work .entry)) r (now (work .exit)) ⌝ }
+{
+    let mut opened: usize = 0;
+    for right in column..columns {
+        let first = right * rows;
+        let swept = sweep(work, first, first + rows, label);
+        opened += swept.opened;
+        if swept.found == 0 {
+            return opened;
+        }
+    }
+    opened
+}
+
+// Every cell of the opening of a 0-cell: its columns are without gap. Answers how many were opened.
+fn sweep_opening(work: &mut [i32], rows: usize, columns: usize, index: usize, label: usize) -> usize
+    requires { ⌜ Shape rows columns ⌝ }
+    requires { ⌜ (5 * (rows * columns) ≤ length (now work)) × (index < rows * columns) ⌝ }
+    ensures { λ r. ⌜ (r ≤ 65025) × ((g : Grid) (s : Position) (old : List ℤ) → Stands rows columns g s old (now (work .entry))
+        → T (zeroCell g index) → label ≡ firstLabel g index → SweptOver label 0 (rows * columns) (now (work .entry)) r (now (work .exit))) ⌝ }
+{
+    let column = index / rows;
+    let left = sweep_left(work, rows, columns, column, label);
+    let right = sweep_right(work, rows, columns, column + 1, label);
+    left + right
 }
 
 // A reveal, with how many cells it can open at most.
@@ -167,7 +236,7 @@ fn uncover(work: &mut [i32], rows: usize, columns: usize, index: usize) -> usize
     }
     if kind == 1 {
         let label = area::get(work, 5 * index);
-        return sweep(work, rows * columns, label);
+        return sweep_opening(work, rows, columns, index, label);
     }
     open_one(work, rows, columns, index);
     1

@@ -1,39 +1,41 @@
--- `play::sweep`: what stands after so many cells is the fold over them. Assumes nothing.
-use Rattle.play.proofs.Steps.{sweep-on, bit-small}
-use Rattle.play.specs.Walks.{opensAt}
+-- `play::sweep`: what stands after so many cells is the sweep of the run so far. Assumes nothing.
 use Prim.Native.Nat.{_≤_, _-_}
 use native.Mathlib.Omega.{arith}
 use mathlib.Core.Path.{_≡_, refl}
 use lib.ListN.{length}
 use borrow.Author.Needs.{needs}
-use Rattle.game.specs.Lists.{fold, range}
-use Rattle.play.specs.Walks.{Swept, sweptOn}
+use Rattle.play.specs.Walks.{RunSwept}
+use Rattle.play.proofs.Sweeps.{at-most-one, run-more, run-none}
 use Rattle.play.proofs.sweep.Statement.{statement}
 use Rattle.play.proofs.sweep.Tie as tie
 
 abbrev Inv-loop : tie.InvT-loop
-Inv-loop work₀ cells label opened₀ index₀ work opened index =
-    (index ≤ cells) × (opened ≤ index) × (length work ≡ length work₀)
-    × (_≡_ {A = Swept} (record { area = work; opened = opened }) (fold (sweptOn label) (record { area = work₀; opened = 0 }) (range 0 index)))
+Inv-loop work₀ first last label opened₀ found₀ index₀ work opened found index =
+    (first ≤ index) × (index ≤ last) × (length work ≡ length work₀) × (opened ≤ index - first) × (found ≤ index - first)
+    × RunSwept label first index work₀ opened found work
 
 abbrev μ-loop : tie.MeasureT-loop
-μ-loop work₀ cells label opened₀ index₀ work opened index = cells - index
+μ-loop work₀ first last label opened₀ found₀ index₀ work opened found index = last - index
 
 loop-holds : tie.Need-loop-holds Inv-loop μ-loop
-loop-holds c = (omega arith, omega arith, refl, refl)
+loop-holds c = let a = c .args in
+    (omega arith, omega arith, refl, omega arith, omega arith, run-none (a .label) (a .first) (a .work .now))
 
 sweep-cell-requires : tie.Need-sweep-cell-requires Inv-loop μ-loop
 sweep-cell-requires c κs = omega arith
 
--- a cell answers at most 1
-one : (c : tie.After-work Inv-loop μ-loop) → c .before .sweep-cell .result ≤ 1
+-- the cell of this turn counts at most once
+one : (c : tie.After-struct-known Inv-loop μ-loop) → (c .before .before .sweep-cell .result .opened ≤ 1) × (c .before .before .sweep-cell .result .found ≤ 1)
 one c =
-    let l = c .before .before .before .before in
-    let a = l .before .args in
-    rw (c .before .sweep-cell .ensures .1) (bit-small (opensAt (a .label) (l .loop .work) (l .loop .index)))
+    let l = c .before .before .before .before .before in
+    let u = c .before .before .sweep-cell in
+    at-most-one (l .before .args .label) (l .loop .work) (l .loop .index) (u .result .opened) (u .result .found) (u .last .0) (u .ensures)
 
 add-opened : tie.Need-add-opened Inv-loop μ-loop
 add-opened c = omega (arith, one c)
+
+add-found : tie.Need-add-found Inv-loop μ-loop
+add-found c = omega (arith, one (c .before))
 
 add-index : tie.Need-add-index Inv-loop μ-loop
 add-index c = omega arith
@@ -42,14 +44,16 @@ loop-less : tie.Need-loop-less Inv-loop μ-loop
 loop-less c = omega arith
 
 loop-again : tie.Need-loop-again Inv-loop μ-loop
-loop-again c = let l = c .before .before .before .before in
+loop-again c = let l = c .before .before .before .before .before .before in
     let a = l .before .args in
-    let e = c .before .sweep-cell .ensures in (
+    let u = c .before .before .before .sweep-cell in (
       omega arith,
-      omega (arith, one c),
+      omega arith,
       search needs,
-      sweep-on (a .label) (a .work .now) (l .loop .work) (c .before .sweep-cell .last .0) (l .loop .index) (l .loop .opened) (c .before .sweep-cell .result) (l .loop .inv .3)
-          (record { area = e .0; answer = e .1 }),
+      omega (arith, one (c .before)),
+      omega (arith, one (c .before)),
+      run-more (a .label) (a .first) (l .loop .index) (a .work .now) (l .loop .work) (u .last .0) (l .loop .opened) (l .loop .found) (u .result .opened) (u .result .found)
+          (l .loop .inv .0) (l .loop .inv .5) (u .ensures),
     )
 
 same-length : tie.Need-same-length Inv-loop μ-loop
@@ -57,8 +61,8 @@ same-length c = search needs
 
 returns : tie.Need-returns Inv-loop μ-loop
 returns c = let a = c .before .before .args in
-    let e : c .before .loop .index ≡ a .cells = omega arith in
-    (omega arith, rw e at (c .before .loop .inv .3))
+    let e : c .before .loop .index ≡ a .last = omega arith in
+    (omega arith, rw e at (c .before .loop .inv .5))
 
 pub sweep-spec : {M : Type 1} → statement M
 sweep-spec =
@@ -69,6 +73,7 @@ sweep-spec =
     loop-holds
     sweep-cell-requires
     add-opened
+    add-found
     add-index
     loop-less
     loop-again

@@ -14,8 +14,7 @@ same-length c = search needs
 returns : tie.Need-returns
 returns c = let l = c .before in
     let a = l .before .before .args in
-    let r = sweep-other (a .label) (a .work .now) (a .index) (l .labelled .result) (l .labelled .ensures) (not-true (l .labelled .result) (c .if1 .taken)) in
-    (r .area, r .answer)
+    sweep-other (a .label) (a .work .now) (a .index) (l .labelled .result) (l .labelled .ensures) (not-true (l .labelled .result) (c .if1 .taken))
 
 mul-get : tie.Need-mul-get
 mul-get c = search needs
@@ -44,9 +43,8 @@ returns-2 c = let p = c .before in
     let g = t .before in
     let l = g .before .before .before in
     let a = l .before .before .args in
-    let r = sweep-closed (a .label) (a .work .now) (a .index) (l .labelled .result) (l .labelled .ensures) (g .get .result) (p .put .last .0)
-    (not-false (l .labelled .result) (g .before .before .if1 .left)) (g .get .ensures .0) (t .if2 .taken) (p .put .ensures) in
-    (r .area, r .answer)
+    sweep-closed (a .label) (a .work .now) (a .index) (l .labelled .result) (l .labelled .ensures) (g .get .result) (p .put .last .0)
+    (not-false (l .labelled .result) (g .before .before .if1 .left)) (g .get .ensures .0) (t .if2 .taken) (p .put .ensures)
 
 mul-get-2 : tie.Need-mul-get-2
 mul-get-2 c = search needs
@@ -80,9 +78,8 @@ returns-3 c = let p = c .before in
     let g = t .before in
     let l = g .before .before .before in
     let a = l .before .before .args in
-    let r = sweep-opened (a .label) (a .work .now) (a .index) (l .labelled .result) (l .labelled .ensures) (g .get .result) (h .get2 .result) (d .less .result) (p .put2 .last .0)
-    (not-false (l .labelled .result) (g .before .before .if1 .left)) (g .get .ensures .0) (t .if2 .left) (h .get2 .ensures .0) (d .less .ensures) (p .put2 .ensures) in
-    (r .area, r .answer)
+    sweep-opened (a .label) (a .work .now) (a .index) (l .labelled .result) (l .labelled .ensures) (g .get .result) (h .get2 .result) (d .less .result) (p .put2 .last .0)
+    (not-false (l .labelled .result) (g .before .before .if1 .left)) (g .get .ensures .0) (t .if2 .left) (h .get2 .ensures .0) (d .less .ensures) (p .put2 .ensures)
 
 pub sweep-cell-spec : {M : Type 1} → statement M
 sweep-cell-spec =

@@ -1,6 +1,6 @@
 -- `play::uncover`: each branch is one case of the reveal. Assumes nothing.
 use native.Mathlib.Omega.{arith}
-use Rattle.play.proofs.Reveals.{by-mine, by-one, by-state, by-zero, few-cells}
+use Rattle.play.proofs.Reveals.{by-mine, by-one, by-state, by-zero}
 use borrow.Author.Needs.{needs}
 use Rattle.play.proofs.uncover.Statement.{statement}
 use Rattle.play.proofs.uncover.Tie as tie
@@ -47,11 +47,8 @@ mul-get-3 c = search needs
 get-requires-3 : tie.Need-get-requires-3
 get-requires-3 c κs = search needs
 
-mul-sweep : tie.Need-mul-sweep
-mul-sweep c = search needs
-
-sweep-requires : tie.Need-sweep-requires
-sweep-requires c κs = search needs
+sweep-opening-requires : tie.Need-sweep-opening-requires
+sweep-opening-requires c κs = search needs
 
 same-length-3 : tie.Need-same-length-3
 same-length-3 c = search needs
@@ -64,10 +61,10 @@ returns-3 c = let q = c .before in
     let k = m .before .before .before in
     let b = k .before .before in
     let a = b .args in (
-      omega (arith, few-cells (a .rows) (a .columns) (b .pre .0)),
+      q .sweep-opening .ensures .0,
       λ g s old t. by-zero (a .rows) (a .columns) g s old (a .work .now) (a .index) (b .pre .1 .1) t
           (k .get .result) (m .get2 .result) (k .get .ensures .0) (m .before .before .if1 .left) (m .get2 .ensures .0) (z .before .if2 .left)
-          (l .get3 .result) (q .sweep .result) (q .sweep .last .0) (z .if3 .taken) (l .get3 .ensures .0) (q .sweep .ensures .1),
+          (l .get3 .result) (q .sweep-opening .result) (q .sweep-opening .last .0) (z .if3 .taken) (l .get3 .ensures .0) (q .sweep-opening .ensures .1 g s old t),
     )
 
 open-one-requires : tie.Need-open-one-requires
@@ -105,8 +102,7 @@ uncover-spec =
     returns-2
     mul-get-3
     get-requires-3
-    mul-sweep
-    sweep-requires
+    sweep-opening-requires
     same-length-3
     returns-3
     open-one-requires

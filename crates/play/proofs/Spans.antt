@@ -1,0 +1,141 @@
+-- The columns of an opening are without gap, as neighbours' columns differ by at most 1: no cell of it lies beyond a column without its label. Assumes nothing.
+use Prim.Native.Nat.{ℕ, _*_, _+_, _-_, _/_, _<_, _≤_}
+use native.Mathlib.Omega.{arith}
+use native.Mathlib.Decide.{ℕ-discrete}
+use native.Mathlib.Nat.{div-lt-iff-lt-mul, le-div-iff-mul-le, mul-le-mul-right}
+use mathlib.Core.Path.{_∙_, _≡_, ap, subst, sym}
+use mathlib.Core.Logic.{_⊎_, inl, inr, ⊎-elim}
+use mathlib.Core.List.{List}
+use lib.Dec.{T}
+use lib.IntN.{ℤ}
+use Rattle.game.specs.Grid.{Grid, columnOf, rowOf, size, square, zeroCell}
+use Rattle.game.specs.Lists.{has, range}
+use Rattle.game.specs.Openings.{Joined, firstLabel, holds, itself, joinedTo, onward}
+use Rattle.game.specs.Position.{Position}
+use Rattle.game.proofs.Chains.{joined-last}
+use Rattle.game.proofs.Counts.{none-counted}
+use Rattle.game.proofs.Members.{range-has, some-yes, yes-some}
+use Rattle.game.proofs.Openings.{joinedTo→, →joinedTo}
+use Rattle.game.proofs.Squares.{column-lt, in-own-square, index-of, row-lt, square→}
+use Rattle.game.proofs.Zeros.{Zero}
+use Rattle.area.specs.Stages.{Stands}
+use Rattle.play.specs.Walks.{LeftSwept, RightSwept, SweptOver, labelledAt, labelledIn}
+use Rattle.play.proofs.Cells.{read-first, read-second}
+use Rattle.play.proofs.Held.{heldCell, held-cells}
+use Rattle.play.proofs.Marks.{marked-held}
+use Rattle.play.proofs.Reveals.{inside, size-is}
+use Rattle.play.proofs.Sweeps.{labelled-stays, over-all, to-right}
+
+-- ---- an opening has cells in every column between two of its columns
+
+-- q lies between a and b, either way round
+abbrev Within : ℕ → ℕ → ℕ → Type 0
+Within a b q = ((a ≤ q) × (q ≤ b)) ⊎ ((b ≤ q) × (q ≤ a))
+
+-- a place short of c lies short of a neighbour of c
+nearer : (a b c q : ℕ) → Within a c q → (q ≡ c → ⊥) → b ≤ c + 1 → c ≤ b + 1 → Within a b q
+nearer a b c q w n h k = ⊎-elim (λ p. inl (omega arith)) (λ p. inr (omega arith)) w
+
+-- no further than a is a
+only : (a q : ℕ) → Within a a q → a ≡ q
+only a q w = ⊎-elim (λ p. omega arith) (λ p. omega arith) w
+
+-- 0-cells joined to z
+pub spans : (g : Grid) (z k q : ℕ) → Joined g z k → Within (columnOf g z) (columnOf g k) q → (y : ℕ) × Joined g z y × (columnOf g y ≡ q)
+spans g z k q (itself h n) w = (z, itself h n, only (columnOf g z) q w)
+spans g z k q (onward {b = b} j t n) w =
+    elim (ℕ-discrete q (columnOf g k)) [
+      | yes e ↦ (k, onward j t n, sym e)
+      | no m ↦
+          let c = square→ g b k (joined-last g z b j .inside) t .1 in
+          spans g z b q j (nearer (columnOf g z) (columnOf g b) (columnOf g k) q w m (c .west) (c .east))
+    ]
+
+-- and all cells that their opening holds
+pub held-spans : (g : Grid) (z x q : ℕ) → Zero g z → x < size g → T (holds g x (joinedTo g z)) → Within (columnOf g z) (columnOf g x) q
+    → (y : ℕ) × (y < size g) × T (holds g y (joinedTo g z)) × (columnOf g y ≡ q)
+held-spans g z x q zz h t w =
+    elim (ℕ-discrete q (columnOf g x)) [
+      | yes e ↦ (x, h, t, sym e)
+      | no m ↦
+          let a = yes-some (λ j. has j (joinedTo g z)) (square g x) t in
+          let c = square→ g x (a .0) h (a .1) .1 in
+          let y = spans g z (a .0) q (joinedTo→ g z (a .0) zz (a .2)) (nearer (columnOf g z) (columnOf g (a .0)) (columnOf g x) q w m (c .east) (c .west)) in
+          let i = joined-last g z (y .0) (y .1) .inside in
+          (y .0, i, some-yes (λ j. has j (joinedTo g z)) (y .0) (square g (y .0)) (in-own-square g (y .0) i) (→joinedTo g z (y .0) (y .1)), y .2)
+    ]
+
+-- ---- so the walks miss no cell of the label
+
+module _ (rows columns : ℕ) (g : Grid) (s : Position) (old w : List ℤ) (i label : ℕ) (h : i < rows * columns) (st : Stands rows columns g s old w)
+    (none : T (zeroCell g i)) (own : label ≡ firstLabel g i) where
+  all-cells : size g ≡ rows * columns
+  all-cells = size-is rows columns g s old w i h st
+
+  z : Zero g i
+  z = record { inside = inside rows columns g s old w i h st; none = none }
+
+  -- the label marks the cells of the opening
+  marks : (x : ℕ) → x < size g → labelledAt label w x ≡ holds g x (joinedTo g i)
+  marks x k =
+      rw (own, st .holds-it, held-cells g s old, read-first (size g) old (st .room) (heldCell g s) x k, read-second (size g) old (st .room) (heldCell g s) x k)
+      (marked-held g i x z k)
+
+  some-rows : 0 < g .rows
+  some-rows = omega (arith, st .rows-are, st .shape .some-rows)
+
+  -- a cell by its column
+  placed : (y q : ℕ) → columnOf g y ≡ q → q * rows + rowOf g y ≡ y
+  placed y q e = rw (← e, ← st .rows-are) (index-of g y)
+
+  -- a cell of the label, and a column between: the column has one too
+  column-labelled : (x q : ℕ) → x < size g → T (labelledAt label w x) → Within (columnOf g i) (columnOf g x) q
+      → labelledIn label w (q * rows) (q * rows + rows) ≡ 0 → ⊥
+  column-labelled x q k t b e =
+      let y = held-spans g i x q z k (subst T (marks x k) t) b in
+      let p = placed (y .0) q (y .3) in
+      let low = row-lt g (y .0) (y .1) in
+      none-counted (labelledAt label w) (range (q * rows) (q * rows + rows)) e (y .0)
+      (range-has (q * rows) (q * rows + rows) (y .0) (omega (arith, p)) (omega (arith, p, low, st .rows-are)))
+      (subst T (sym (marks (y .0) (y .1))) (y .2))
+
+  -- left of the column that the walk to the left ended at
+  none-left : (end : ℕ) → end ≤ columnOf g i → ((end ≡ 0 → ⊥) → labelledIn label w (end * rows) (end * rows + rows) ≡ 0)
+      → (x : ℕ) → x < end * rows → x < size g → T (labelledAt label w x) → ⊥
+  none-left end l e x k m t =
+      let c : columnOf g x < end = div-lt-iff-lt-mul some-rows .1 (rw (st .rows-are) k) in
+      column-labelled x end m t (inr (omega arith)) (e (λ q. absurd (omega arith)))
+
+  -- right of the column that the walk to the right ended at
+  none-right : (end : ℕ) → columnOf g i < end → ((last : ℕ) → end ≡ last + 1 → end < columns → labelledIn label w (last * rows) (last * rows + rows) ≡ 0)
+      → (x : ℕ) → end * rows ≤ x → x < size g → T (labelledAt label w x) → ⊥
+  none-right end l e x k m t =
+      let c : end ≤ columnOf g x = le-div-iff-mul-le some-rows .1 (rw (st .rows-are) k) in
+      let d = column-lt g x m in
+      column-labelled x (end - 1) m t (inl (omega arith)) (e (end - 1) (omega arith) (omega (arith, c, d, st .columns-are)))
+
+  -- both walks from the cell's column: what a sweep of all cells does
+  pub both-ways : (c : ℕ) (u v : List ℤ) (r q : ℕ) → c ≡ i / rows → LeftSwept rows label c w r u → RightSwept rows columns label (c + 1) u q v
+      → SweptOver label 0 (rows * columns) w (r + q) v
+  both-ways c u v r q here a b =
+      over-all label (rows * columns) (a .end * rows) (b .end * rows) w v (r + q) (omega (arith, left, right)) on-grid
+      (to-right label (a .end * rows) (c * rows + rows) (b .end * rows) w u v r q (omega (arith, left)) right (a .swept) (rw seam at (b .swept)))
+      (λ x k t. none-left (a .end) (omega (arith, a .on-left, own-column)) (a .ends) x k (omega (arith, all-cells, left, right, on-grid)) t)
+      (λ x k m t. none-right (b .end) (omega (arith, b .on-right, own-column))
+      (λ last e f. sym (labelled-stays label (a .end * rows) (c * rows + rows) w u r (last * rows) (last * rows + rows) (a .swept)) ∙ b .ends last e f)
+      x k (omega (arith, m, all-cells)) t)
+    where
+      own-column : columnOf g i ≡ c
+      own-column = ap (λ (k : ℕ). i / k) (st .rows-are) ∙ sym here
+
+      seam : (c + 1) * rows ≡ c * rows + rows
+      seam = omega arith
+
+      left : a .end * rows ≤ c * rows
+      left = mul-le-mul-right rows (a .on-left)
+
+      right : c * rows + rows ≤ b .end * rows
+      right = omega (arith, mul-le-mul-right rows (b .on-right))
+
+      on-grid : b .end * rows ≤ rows * columns
+      on-grid = omega (arith, mul-le-mul-right rows (b .in-columns))

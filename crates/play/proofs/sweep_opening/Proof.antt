@@ -1,0 +1,53 @@
+-- `play::sweep_opening`: no cell of the opening lies beyond a column without the label. Assumes nothing.
+use Prim.Native.Nat.{_+_, _/_, _<_, _≤_}
+use native.Mathlib.Omega.{arith}
+use mathlib.Core.Path.{refl}
+use borrow.Author.Needs.{needs}
+use Rattle.play.proofs.Rows.{column-inside}
+use Rattle.play.proofs.Spans.{both-ways}
+use Rattle.play.proofs.sweep_opening.Statement.{statement}
+use Rattle.play.proofs.sweep_opening.Tie as tie
+
+div-column : tie.Need-div-column
+div-column c = c .pre .0 .some-rows
+
+-- the cell's column lies on the grid
+column : (c : tie.Start) → c .args .index / c .args .rows < c .args .columns
+column c = column-inside (c .args .rows) (c .args .columns) (c .args .index) (c .pre .1 .1)
+
+sweep-left-requires : tie.Need-sweep-left-requires
+sweep-left-requires c κs = (c .before .pre .0, (omega arith, column (c .before)))
+
+add-sweep-right : tie.Need-add-sweep-right
+add-sweep-right c = let b = c .before .before .before .before in
+    omega (arith, column b, b .pre .0 .few-columns)
+
+sweep-right-requires : tie.Need-sweep-right-requires
+sweep-right-requires c κs = let b = c .before .before .before .before in
+    (b .pre .0, (search needs, omega (arith, column b)))
+
+-- a column counts at most 255
+few : (c : tie.After-work2) → c .before .before .before .before .sweep-left .result + c .before .sweep-right .result ≤ 65025
+few c =
+    let b = c .before .before .before .before .before .before in
+    omega (arith, column b, b .pre .0 .few-columns, c .before .before .before .before .sweep-left .ensures .0, c .before .sweep-right .ensures .0)
+
+add-result : tie.Need-add-result
+add-result c = omega (arith, few c)
+
+same-length : tie.Need-same-length
+same-length c = search needs
+
+returns : tie.Need-returns
+returns c = let b = c .before .before .before .before .before .before in
+    let a = b .args in
+    let l = c .before .before .before .before .sweep-left in
+    let r = c .before .sweep-right in (
+      few c,
+      λ g s old t none own. both-ways (a .rows) (a .columns) g s old (a .work .now) (a .index) (a .label) (b .pre .1 .1) t none own
+          (a .index / a .rows) (l .last .0) (r .last .0) (l .result) (r .result) refl (l .ensures .1) (r .ensures .1),
+    )
+
+pub sweep-opening-spec : {M : Type 1} → statement M
+sweep-opening-spec =
+    tie.close (tie.spec div-column sweep-left-requires add-sweep-right sweep-right-requires add-result same-length returns)
