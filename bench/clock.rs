@@ -1,4 +1,4 @@
-//! Time on the processor, which other programs on the same core do not lengthen.
+//! Time on the processor: waiting for a core is left out.
 
 #[repr(C)]
 struct Timespec {
