@@ -10,11 +10,20 @@ pub mod safe_board {
     ));
 }
 
-mod zini {
+pub mod zini {
     include!(concat!(
         env!("ORACLE_FOLDER"),
         "/src--base--src--zini.rs.txt"
     ));
+
+    /// What the three entries do before their first click; only bench/ calls it.
+    #[allow(dead_code)]
+    pub fn set_up(board: &[Vec<i32>]) {
+        let (height, width) = (board.len(), board[0].len());
+        let mut cells = build_cells_ref(board, height, width);
+        initboard(&mut cells, width, height);
+        std::hint::black_box(&cells);
+    }
 }
 
 /// A stack for 65,025 calls deep.

@@ -1,0 +1,82 @@
+//! What is printed: the ratios, how the cost of a cell grows with the board, and what was counted.
+use crate::rows::{ROUNDS, Row, is_league_grown};
+
+/// Instructions and microseconds of one call: ours, the Rust's.
+pub struct Measures {
+    pub row: Row,
+    pub instructions: [f64; 2],
+    pub times: [f64; 2],
+}
+
+/// A number with one place below 100, and with its thousands parted above.
+fn shown(number: f64) -> String {
+    if number < 100.0 {
+        return format!("{number:.1}");
+    }
+    let digits = format!("{number:.0}");
+    let mut parted = String::new();
+    for (place, digit) in digits.chars().enumerate() {
+        if place > 0 && (digits.len() - place).is_multiple_of(3) {
+            parted.push(',');
+        }
+        parted.push(digit);
+    }
+    parted
+}
+
+/// Ours, the Rust's, and ours divided by the Rust's.
+fn beside([ours, rust]: [f64; 2]) -> String {
+    format!("{} | {} | {:.2}", shown(ours), shown(rust), ours / rust)
+}
+
+const RATIOS: &str = "\
+| call | board | boards | instructions, ours | the Rust's | ratio | goal | µs, ours | the Rust's | ratio | samples |
+|---|---|--:|--:|--:|--:|--:|--:|--:|--:|--:|";
+
+fn print_ratios(measures: &Measures) {
+    let row = measures.row;
+    println!(
+        "| {} | {} | {} | {} | {} | {} | {} |",
+        row.call.name(),
+        row.board_name(),
+        row.boards,
+        beside(measures.instructions),
+        row.goal.map_or(String::new(), |goal| goal.to_string()),
+        beside(measures.times),
+        row.samples
+    );
+}
+
+const GROWTH: &str = "\
+| instructions a cell | ours, league | largest, 20 % | growth | the Rust's, league | largest, 20 % | growth |
+|---|--:|--:|--:|--:|--:|--:|";
+
+/// Instructions a cell, on the league boards and on the largest one.
+fn print_growth(league: &Measures, largest: &Measures) {
+    let columns = [0, 1].map(|side| {
+        let cell = |at: &Measures| at.instructions[side] / at.row.cells() as f64;
+        let (from, to) = (cell(league), cell(largest));
+        format!("{} | {} | {:.1}", shown(from), shown(to), to / from)
+    });
+    println!("| {} | {} |", league.row.call.name(), columns.join(" | "));
+}
+
+/// Both tables, and what was counted.
+pub fn print(all: &[Measures]) {
+    println!("{RATIOS}");
+    all.iter().for_each(print_ratios);
+    println!("\n{GROWTH}");
+    for largest in all.iter().filter(|measures| is_league_grown(&measures.row)) {
+        let same = |measures: &&Measures| measures.row.call == largest.row.call;
+        let league = all.iter().find(same).expect("league boards come first");
+        print_growth(league, largest);
+    }
+    println!(
+        "
+Instructions: callgrind's, one call a board, the mean over the boards. Time: of the thread, one call a board and sample, the mean over the boards, the median of the samples.
+A random search has {ROUNDS} rounds. There is one board and few samples where a call takes the Rust seconds.
+Ours: the archive's names; work area and list are lent once a board, with 7 and 9 in every place, and not cleared before a call or between calls.
+The Rust: cal_zini, cal_hzini and cal_rzini with their copy of the board and their own cells, made anew in each call; its random bytes are lent before the call.
+3BV setup: lavgerin_three_bv, which also counts and hands the work area back, beside build_cells_ref and initboard, without the copy."
+    );
+}
