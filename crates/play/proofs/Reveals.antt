@@ -1,7 +1,6 @@
 -- L by its branches, and F: what is read of a cell says which case of the reveal it is. Assumes nothing.
-use Prim.Native.Nat.{ℕ, _*_, _+_, _<_, _≤_}
+use Prim.Native.Nat.{ℕ, _*_, _+_, _<_}
 use native.Mathlib.Omega.{arith}
-use native.Mathlib.Nat.{mul-le-mul-left, mul-le-mul-right}
 use mathlib.Core.Path.{_∙_, _≡_, ap, ap₂, refl, subst, sym}
 use mathlib.Core.Bool.{Bool, _&&_, cond}
 use mathlib.Core.List.{List, [], _∷_}
@@ -18,15 +17,12 @@ use Rattle.game.proofs.Played.{Played, reached-played}
 use Rattle.game.proofs.Reveal.{Revealed, opens, revealed, stays, sweeps}
 use Rattle.game.proofs.Truth.{T→false, and-both, eqb-yes, iff}
 use Rattle.area.specs.Numbers.{putAt}
-use Rattle.area.specs.Stages.{Shape, Stands, held, kind}
+use Rattle.area.specs.Stages.{Stands, held, kind}
 use Rattle.play.specs.Promises.{Revealing}
 use Rattle.play.specs.Walks.{SweptOver, firstAt, kindAt, openedOne, shifted, squareOf, stateAt}
 use Rattle.play.proofs.Cells.{read-first, read-kind, read-state}
 use Rattle.play.proofs.Changes.{flag-area, open-area, open-count, sweep-area}
 use Rattle.play.proofs.Held.{heldCell, held-cells, kind-mine}
-
-pub few-cells : (rows columns : ℕ) → Shape rows columns → rows * columns ≤ 65025
-few-cells rows columns h = omega (arith, mul-le-mul-right columns (h .few-rows), mul-le-mul-left 255 (h .few-columns))
 
 -- a closed safe cell of number 1 or more
 reveal-one : (g : Grid) (s : Position) (i : ℕ) → T (safe g i) → T (closed s i) → (T (zeroCell g i) → ⊥) → reveal g s i ≡ set s i 1

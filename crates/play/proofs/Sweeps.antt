@@ -1,4 +1,4 @@
--- Sweeps: cells are swept independently of each other, labels stay, and a cell without the label is left as it is. Assumes nothing.
+-- Sweeps of runs of cells and of columns: cells are swept independently of each other, labels stay, and a cell without the label is left as it is. Assumes nothing.
 use Prim.Native.Nat.{ℕ, _%_, _*_, _+_, _-_, _<_, _≤_, suc, zero}
 use native.Mathlib.Omega.{arith}
 use native.Mathlib.Nat.{add-zero, mul-le-mul-right}
@@ -142,7 +142,7 @@ fold-parts f s a b (suc n) h =
     next b n = omega arith
 
 fold-both : {S : Type 0} (f : S → ℕ → S) (s : S) (a b c : ℕ) → a ≤ b → b ≤ c → fold f s (range a c) ≡ fold f (fold f s (range a b)) (range b c)
-fold-both f s a b c h k = rw (whole) at (fold-parts f s a b (c - b) h)
+fold-both f s a b c h k = rw whole at (fold-parts f s a b (c - b) h)
   where
     whole : b + (c - b) ≡ c
     whole = omega arith
@@ -156,10 +156,12 @@ module _ (label a b c : ℕ) (w v u : List ℤ) (r q : ℕ) (h : a ≤ b) (k : b
       ∙ ap (λ (k : ℕ). fold (sweptOn label) (record { area = v; opened = k }) (range d e)) (add-zero r)
       ∙ ap (λ (z : Swept). fold (sweptOn label) z (range d e)) s
 
+  -- by the run that follows
   pub to-right : SweptOver label a b w r v → SweptOver label b c v q u → SweptOver label a c w (r + q) u
   to-right s t = goes-on a b s b c t ∙ sym (fold-both (sweptOn label) (record { area = w; opened = 0 }) a b c h k)
 
-  pub to-left : SweptOver label b c w r v → SweptOver label a b v q u → SweptOver label a c w (r + q) u
+  -- by the run before
+  to-left : SweptOver label b c w r v → SweptOver label a b v q u → SweptOver label a c w (r + q) u
   to-left s t =
       goes-on b c s a b t
       ∙ fold-swap label (record { area = w; opened = 0 }) (range b c) (range a b) (λ x m n. apart x (has-range b c x m) (has-range a b x n))
@@ -168,15 +170,16 @@ module _ (label a b c : ℕ) (w v u : List ℤ) (r q : ℕ) (h : a ≤ b) (k : b
       apart : (x : ℕ) → (b ≤ x) × (x < c) → (a ≤ x) × (x < b) → ⊥
       apart x m n = omega arith
 
--- no cell yet
+-- a sweep of no cell
 pub over-none : (label a : ℕ) (w : List ℤ) → SweptOver label a a w 0 w
 over-none label a w = sym (ap (fold (sweptOn label) (record { area = w; opened = 0 })) (range-none a))
 
 -- the labels that a sweep leaves
-pub label-stays : (label a b : ℕ) (w v : List ℤ) (r i : ℕ) → SweptOver label a b w r v → labelledAt label v i ≡ labelledAt label w i
+label-stays : (label a b : ℕ) (w v : List ℤ) (r i : ℕ) → SweptOver label a b w r v → labelledAt label v i ≡ labelledAt label w i
 label-stays label a b w v r i s =
     ap (λ (t : Swept). labelledAt label (t .area) i) s ∙ label-after label (record { area = w; opened = 0 }) (range a b) i
 
+-- and how many have the label
 pub labelled-stays : (label a b : ℕ) (w v : List ℤ) (r d e : ℕ) → SweptOver label a b w r v → labelledIn label v d e ≡ labelledIn label w d e
 labelled-stays label a b w v r d e s =
     count-ext (labelledAt label v) (labelledAt label w) (range d e) (λ x t. label-stays label a b w v r x s)
@@ -209,10 +212,12 @@ at-most-one label w i r n v c = (
   omega (arith, c .found-it, bit-small (labelledAt label w i)),
 )
 
+-- no cell yet
 pub run-none : (label a : ℕ) (w : List ℤ) → RunSwept label a a w 0 0 w
 run-none label a w =
     record { swept = over-none label a w; labelled = sym (ap (count (labelledAt label w)) (range-none a)) }
 
+-- one cell more
 pub run-more : (label a k : ℕ) (w v u : List ℤ) (r n q m : ℕ) → a ≤ k → RunSwept label a k w r n v → CellSwept label v k q m u → RunSwept label a (k + 1) w (r + q) (n + m) u
 unfolding sweptOn
 run-more label a k w v u r n q m h s c =
@@ -226,6 +231,7 @@ run-more label a k w v u r n q m h s c =
 pub column-on : (rows columns column : ℕ) → column < columns → column * rows + rows ≤ rows * columns
 column-on rows columns column h = omega (arith, mul-le-mul-right rows h)
 
+-- no column yet
 pub left-none : (rows label column : ℕ) (w : List ℤ) → SweptOver label ((column + 1) * rows) (column * rows + rows) w 0 w
 left-none rows label column w = rw seam (over-none label (column * rows + rows) w)
   where
@@ -247,11 +253,13 @@ module _ (rows label column left : ℕ) (w v u : List ℤ) (r q n : ℕ) (some :
       go zero h = absurd (omega arith)
       go (suc k) h = ap (λ (m : ℕ). m * rows + rows) (back k) ∙ up k
 
+  -- one column more to the left
   pub left-more : SweptOver label ((left - 1) * rows) (column * rows + rows) w (r + q) u
   left-more =
       to-left label ((left - 1) * rows) (left * rows) (column * rows + rows) w v u r q (omega (arith, seam-left)) (omega (arith, mul-le-mul-right rows few)) s
       (rw seam-left at (t .swept))
 
+  -- and it has no cell of the label
   pub left-ends : n ≡ 0 → LeftSwept rows label column w (r + q) u
   left-ends e =
       record {
@@ -271,11 +279,13 @@ module _ (rows columns label column right : ℕ) (w v u : List ℤ) (r q n : ℕ
   seam-right : right * rows + rows ≡ (right + 1) * rows
   seam-right = omega arith
 
+  -- one column more to the right
   pub right-more : SweptOver label (column * rows) ((right + 1) * rows) w (r + q) u
   right-more =
       to-right label (column * rows) (right * rows) ((right + 1) * rows) w v u r q (mul-le-mul-right rows some) (omega arith) s
       (rw seam-right at (t .swept))
 
+  -- and it has no cell of the label
   pub right-ends : right < columns → n ≡ 0 → RightSwept rows columns label column w (r + q) u
   right-ends h e =
       record {

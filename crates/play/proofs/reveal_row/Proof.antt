@@ -1,5 +1,5 @@
 -- `play::reveal_row`: the cells passed were revealed one after the other. Assumes nothing.
-use Prim.Native.Nat.{_≤_, _<_, _+_, _*_, _-_}
+use Prim.Native.Nat.{ℕ, _≤_, _<_, _+_, _*_, _-_}
 use native.Mathlib.Omega.{arith}
 use mathlib.Core.Path.{_≡_, refl}
 use mathlib.Core.List.{[], _∷_}
@@ -23,21 +23,27 @@ loop-holds : tie.Need-loop-holds Inv-loop μ-loop
 loop-holds c = let a = c .args in
     (omega arith, omega arith, refl, omega arith, rw (row-none (a .rows) (a .row) (a .from)) (opens-none (a .rows) (a .columns) (a .work .now)))
 
--- the cell of this turn lies on the grid
-cell : (c : tie.In-loop Inv-loop μ-loop)
-    → c .before .loop .column * c .before .before .args .rows + c .before .before .args .row < c .before .before .args .rows * c .before .before .args .columns
-cell c =
+-- the cells of the row up to that of this turn lie on the grid
+cell : (c : tie.In-loop Inv-loop μ-loop) (k : ℕ) → k ≤ c .before .loop .column
+    → k * c .before .before .args .rows + c .before .before .args .row < c .before .before .args .rows * c .before .before .args .columns
+cell c k h =
     let a = c .before .before .args in
-    inside (a .rows) (a .columns) (a .row) (c .before .loop .column) (omega arith) (omega arith)
+    inside (a .rows) (a .columns) (a .row) k (omega arith) (omega arith)
+
+-- the first of them, and that of this turn
+both : (c : tie.In-loop Inv-loop μ-loop)
+    → (c .before .before .args .from * c .before .before .args .rows + c .before .before .args .row < c .before .before .args .rows * c .before .before .args .columns)
+    × (c .before .loop .column * c .before .before .args .rows + c .before .before .args .row < c .before .before .args .rows * c .before .before .args .columns)
+both c = (cell c (c .before .before .args .from) (c .before .loop .inv .0), cell c (c .before .loop .column) (omega arith))
 
 mul-uncover : tie.Need-mul-uncover Inv-loop μ-loop
-mul-uncover c = omega (arith, cell (c .before))
+mul-uncover c = omega (arith, both (c .before))
 
 add-uncover : tie.Need-add-uncover Inv-loop μ-loop
-add-uncover c = omega (arith, cell (c .before))
+add-uncover c = omega (arith, both (c .before))
 
 uncover-requires : tie.Need-uncover-requires Inv-loop μ-loop
-uncover-requires c κs = (c .before .before .before .pre .0, (omega arith, cell (c .before)))
+uncover-requires c κs = (c .before .before .before .pre .0, (omega arith, omega (arith, both (c .before))))
 
 add-opened : tie.Need-add-opened Inv-loop μ-loop
 add-opened c = omega arith
