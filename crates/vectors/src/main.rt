@@ -18,17 +18,6 @@ struct Search {
     used: usize,
 }
 
-// The value of a hexadecimal digit, 0 for any other byte.
-fn digit(b: u8) -> usize
-    ensures { λ r. ⌜ r ≤ 15 ⌝ }
-{
-    match b {
-        48..=57 => b as usize - 48,
-        65..=70 => b as usize - 55,
-        _ => 0,
-    }
-}
-
 // The value of the digit at a place, 0 past the end.
 fn digit_at(line: &[u8], place: usize) -> usize
     ensures { λ r. ⌜ r ≤ 15 ⌝ }
@@ -36,7 +25,7 @@ fn digit_at(line: &[u8], place: usize) -> usize
     if place >= line.len() {
         return 0;
     }
-    digit(line[place])
+    lines::hex::value_of(line[place])
 }
 
 // The byte at a place, two digits each.
