@@ -1,23 +1,11 @@
 // Runs the 3BV count on document 01's boards, on boards about 512 cells and at the limits, and on every refusal, each on both sides of its edge.
 use trials::Plain;
 use zini::Counted;
-use zini::Refusal;
-
-fn refusal_number(refusal: Refusal) -> u64 {
-    match refusal {
-        Refusal::Shape => 1,
-        Refusal::Board => 2,
-        Refusal::Work => 3,
-        Refusal::Trace => 4,
-        Refusal::Rounds => 5,
-        Refusal::Draws => 6,
-    }
-}
 
 fn taken_apart(answer: Counted) -> Plain {
     match answer {
         Counted::Units(units) => made_plain(0, units as u64),
-        Counted::Refused(refusal) => made_plain(refusal_number(refusal), 0),
+        Counted::Refused(refusal) => made_plain(zini::checks::number_of(refusal) as u64, 0),
     }
 }
 

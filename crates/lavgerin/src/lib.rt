@@ -1,28 +1,12 @@
 // The calls under C names. Each returns the refusal's number, 0 for success; answers go through pointers, and what stands there is left alone where an answer has no such value.
 use zini::Counted;
 use zini::Priced;
-use zini::Refusal;
 use zini::Replayed;
 use zini::Rolled;
-ghost use mathlib.Core.Path.{_≡_};
-ghost use Rattle.game.specs.Calls.{greedyCall, numberOf, openingsFirstCall, randomRoundCall, randomSearchCall, replayCall, threeBVCall};
+use zini::checks::number_of;
+ghost use Rattle.game.specs.Calls.{greedyCall, openingsFirstCall, randomRoundCall, randomSearchCall, replayCall, threeBVCall};
 ghost use Rattle.area.specs.Numbers.{gridOf};
-ghost use Rattle.zini.specs.Answers.{named};
 ghost use Rattle.lavgerin.specs.Names.{Returned, ReturnedList, ReturnedListTwo, ReturnedTwo};
-
-// A refusal's number.
-fn number_of(refusal: Refusal) -> u8
-    ensures { λ r. ⌜ r ≡ numberOf (named refusal) ⌝ }
-{
-    match refusal {
-        Refusal::Shape => 1,
-        Refusal::Board => 2,
-        Refusal::Work => 3,
-        Refusal::Trace => 4,
-        Refusal::Rounds => 5,
-        Refusal::Draws => 6,
-    }
-}
 
 // 3BV of a grid.
 #[no_mangle]

@@ -1,23 +1,11 @@
 // Runs greedy and openings-first rounds on document 01's boards, with their lists and work areas, and their refusals on both sides of their edges.
 use trials::Plain;
 use zini::Priced;
-use zini::Refusal;
-
-fn refusal_number(refusal: Refusal) -> u64 {
-    match refusal {
-        Refusal::Shape => 1,
-        Refusal::Board => 2,
-        Refusal::Work => 3,
-        Refusal::Trace => 4,
-        Refusal::Rounds => 5,
-        Refusal::Draws => 6,
-    }
-}
 
 fn taken_apart(answer: Priced) -> Plain {
     match answer {
         Priced::Clicks(clicks) => made_plain(0, clicks as u64),
-        Priced::Refused(refusal) => made_plain(refusal_number(refusal), 0),
+        Priced::Refused(refusal) => made_plain(zini::checks::number_of(refusal) as u64, 0),
     }
 }
 

@@ -1,23 +1,11 @@
 // Runs random rounds and searches: document 01's examples, draws that end early, draws left over, and the refusals.
 use trials::Plain;
-use zini::Refusal;
 use zini::Rolled;
-
-fn refusal_number(refusal: Refusal) -> u64 {
-    match refusal {
-        Refusal::Shape => 1,
-        Refusal::Board => 2,
-        Refusal::Work => 3,
-        Refusal::Trace => 4,
-        Refusal::Rounds => 5,
-        Refusal::Draws => 6,
-    }
-}
 
 fn taken_apart(answer: Rolled) -> Plain {
     match answer {
         Rolled::Clicks(clicks, used) => made_plain(0, clicks as u64, used as u64),
-        Rolled::Refused(refusal) => made_plain(refusal_number(refusal), 0, 0),
+        Rolled::Refused(refusal) => made_plain(zini::checks::number_of(refusal) as u64, 0, 0),
     }
 }
 

@@ -1,24 +1,12 @@
 // Replays document 01's greedy lists, illegal moves of each sort at their place, and the refusals.
 use trials::Plain;
-use zini::Refusal;
 use zini::Replayed;
-
-fn refusal_number(refusal: Refusal) -> u64 {
-    match refusal {
-        Refusal::Shape => 1,
-        Refusal::Board => 2,
-        Refusal::Work => 3,
-        Refusal::Trace => 4,
-        Refusal::Rounds => 5,
-        Refusal::Draws => 6,
-    }
-}
 
 fn taken_apart(answer: Replayed) -> Plain {
     match answer {
         Replayed::Played(made, closed) => made_plain(0, made as u64, closed as u64),
         Replayed::Move(place) => made_plain(7, place as u64, 0),
-        Replayed::Refused(refusal) => made_plain(refusal_number(refusal), 0, 0),
+        Replayed::Refused(refusal) => made_plain(zini::checks::number_of(refusal) as u64, 0, 0),
     }
 }
 

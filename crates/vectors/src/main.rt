@@ -1,6 +1,5 @@
 // Replays the Rust's stored answers (docs/VECTORS.md) from standard input, and says how many boards there were and how many differ.
 use zini::Priced;
-use zini::Refusal;
 use zini::Rolled;
 ghost use Prim.Native.Nat.{_≤_};
 
@@ -141,14 +140,6 @@ fn clicks_of(answer: Priced) -> usize {
     }
 }
 
-// A refusal's number where the draws ran dry; no other is expected.
-fn number_of(refusal: Refusal) -> usize {
-    match refusal {
-        Refusal::Draws => 6,
-        _ => 255,
-    }
-}
-
 // A random search's answer taken apart.
 fn taken_apart(answer: Rolled) -> Search {
     match answer {
@@ -158,7 +149,7 @@ fn taken_apart(answer: Rolled) -> Search {
             used,
         },
         Rolled::Refused(refusal) => Search {
-            number: number_of(refusal),
+            number: zini::checks::number_of(refusal) as usize,
             clicks: 0,
             used: 0,
         },

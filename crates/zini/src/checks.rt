@@ -1,11 +1,25 @@
-// The checks of every call, in their order.
+// The checks of every call, in their order, and the refusals' numbers.
 use crate::Checked;
 use crate::Refusal;
 ghost use mathlib.Core.Path.{_≡_};
 ghost use mathlib.Core.List.{_++_};
-ghost use Rattle.game.specs.Calls.{firstGiven, gridChecks};
+ghost use Rattle.game.specs.Calls.{firstGiven, gridChecks, numberOf};
 ghost use Rattle.area.specs.Numbers.{gridOf};
-ghost use Rattle.zini.specs.Answers.{refusalOf, below, listed};
+ghost use Rattle.zini.specs.Answers.{refusalOf, below, listed, named};
+
+// A refusal's number.
+pub fn number_of(refusal: Refusal) -> u8
+    ensures { λ r. ⌜ r ≡ numberOf (named refusal) ⌝ }
+{
+    match refusal {
+        Refusal::Shape => 1,
+        Refusal::Board => 2,
+        Refusal::Work => 3,
+        Refusal::Trace => 4,
+        Refusal::Rounds => 5,
+        Refusal::Draws => 6,
+    }
+}
 
 // SHAPE, BOARD, WORK.
 pub fn check(rows: usize, columns: usize, grid: &[i32], work: &[i32]) -> Checked
