@@ -1,9 +1,9 @@
 -- One cell of each pass over the work area. Assumes nothing.
 use Prim.Native.Nat.{ℕ, _+_, _-_, _*_}
-use mathlib.Core.Bool.{Bool, true, false, not, cond, _&&_}
+use mathlib.Core.Bool.{Bool, not, cond, _&&_}
 use mathlib.Core.List.{List, [], map}
 use lib.Dec.{eqb}
-use lib.IntN.{ℤ, pos}
+use lib.IntN.{ℤ}
 use Rattle.game.specs.Lists.{bit, concat-map, count, fold, range}
 use Rattle.game.specs.Grid.{Grid, index, mine, square}
 use Rattle.area.specs.Numbers.{gridOf, numberAt, putAt, putLowered}
