@@ -1,15 +1,19 @@
 -- One cell of each pass over the work area. Assumes nothing.
 use Prim.Native.Nat.{ℕ, _+_, _-_, _*_}
-use mathlib.Core.Bool.{Bool, true, false, not, cond, _&&_}
-use mathlib.Core.List.{List, []}
+use mathlib.Core.Bool.{Bool, not, cond, _&&_}
+use mathlib.Core.List.{List, [], map}
 use lib.Dec.{eqb}
-use lib.IntN.{ℤ, pos}
-use Rattle.game.specs.Lists.{bit, fold}
-use Rattle.game.specs.Grid.{Grid, square}
+use lib.IntN.{ℤ}
+use Rattle.game.specs.Lists.{bit, concat-map, count, fold, range}
+use Rattle.game.specs.Grid.{Grid, index, mine, square}
 use Rattle.area.specs.Numbers.{gridOf, numberAt, putAt, putLowered}
 use Rattle.area.specs.Stages.{kind}
 
 -- ---- loading
+
+-- the mines of the rows from a on that are below b, in the columns from `first` on that are below `last`
+unfoldable pub minesOf : Grid → ℕ → ℕ → ℕ → ℕ → ℕ
+minesOf g first last a b = count (mine g) (concat-map (λ row. map (λ column. index g row column) (range first last)) (range a b))
 
 -- a cell before labelling: its kind, and 0 elsewhere
 abbrev pub loadAt : List ℤ → ℕ → ℕ → List ℤ

@@ -1,24 +1,44 @@
 // Each cell's kind is put into the work area.
 ghost use mathlib.Core.Path.{_≡_};
-ghost use Prim.Native.Nat.{ℕ, _+_, _*_, _<_, _≤_};
-ghost use lib.ListN.{length};
+ghost use mathlib.Core.Bool.{cond};
+ghost use Prim.Native.Nat.{_+_, _-_, _*_, _<_, _≤_, min};
+ghost use lib.IntN.{pos};
+ghost use lib.ListN.{getD, length};
 ghost use Rattle.game.specs.Lists.{range, fold};
-ghost use Rattle.game.specs.Grid.{size};
+ghost use Rattle.game.specs.Grid.{isMine};
 ghost use Rattle.game.specs.Area.{laid};
 ghost use Rattle.area.specs.Numbers.{gridOf};
-ghost use Rattle.area.specs.Stages.{Shape, kind, loadedFive};
-ghost use Rattle.start.specs.Passes.{loadAt, loadCell};
+ghost use Rattle.area.specs.Stages.{Shape, loadedFive};
+ghost use Rattle.start.specs.Passes.{loadAt, loadCell, minesOf};
 
 // What tells a cell's kind: 0 for a mine, 1 more than its number for a safe cell.
-pub fn kind_of(grid: &[i32], rows: usize, columns: usize, row: usize, column: usize) -> usize
-    requires { ⌜ Shape rows columns ⌝ }
-    requires { ⌜ (row < rows) × (column < columns) × (length (now grid) ≡ rows * columns) ⌝ }
-    ensures { λ r. ⌜ r ≡ kind (gridOf rows columns (now (grid .entry))) (column * rows + row) ⌝ }
+pub fn kind_of(grid: &[i32], at: usize, number: usize) -> usize
+    requires { ⌜ (at < length (now grid)) × (number ≤ 9) ⌝ }
+    ensures { λ r. ⌜ r ≡ cond (isMine (getD (now (grid .entry)) at (pos 0))) 0 (1 + number) ⌝ }
 {
-    if area::mine_at(grid, row * columns + column) {
+    if area::mine_at(grid, at) {
         return 0;
     }
-    1 + area::number(grid, rows, columns, row, column)
+    1 + number
+}
+
+// The mines of the row below a row, in the columns from one up to another; none below the last.
+pub fn mines_below(
+    grid: &[i32],
+    rows: usize,
+    columns: usize,
+    row: usize,
+    from: usize,
+    to: usize,
+) -> usize
+    requires { ⌜ Shape rows columns ⌝ }
+    requires { ⌜ (row < rows) × (from ≤ to) × (to ≤ columns) × (length (now grid) ≡ rows * columns) ⌝ }
+    ensures { λ r. ⌜ (r ≡ minesOf (gridOf rows columns (now (grid .entry))) from to (row + 1) (min (row + 2) rows)) × (r ≤ to - from) ⌝ }
+{
+    if row + 1 == rows {
+        return 0;
+    }
+    area::mines_in_row(grid, columns, row + 1, from, to)
 }
 
 // A cell before labelling.
@@ -34,15 +54,22 @@ pub fn load_cell(work: &mut [i32], index: usize, kind: usize)
     area::put(work, at + 4, 0);
 }
 
-// The cells of a column.
+// The cells of a column: the mines of each row of three are counted once and carried down.
 pub fn load_column(grid: &[i32], rows: usize, columns: usize, work: &mut [i32], column: usize)
     requires { ⌜ Shape rows columns ⌝ }
     requires { ⌜ (column < columns) × (length (now grid) ≡ rows * columns) × (5 * (rows * columns) ≤ length (now work)) ⌝ }
     ensures { λ _. ⌜ now (work .exit) ≡ fold (λ w r. loadCell (gridOf rows columns (now (grid .entry))) w (column * rows + r)) (now (work .entry)) (range 0 rows) ⌝ }
 {
+    let from = area::lower(column);
+    let to = area::upper(column, columns);
+    let mut above: usize = 0;
+    let mut here = area::mines_in_row(grid, columns, 0, from, to);
     for row in 0..rows {
-        let kind = kind_of(grid, rows, columns, row, column);
+        let below = mines_below(grid, rows, columns, row, from, to);
+        let kind = kind_of(grid, row * columns + column, above + here + below);
         load_cell(work, column * rows + row, kind);
+        above = here;
+        here = below;
     }
 }
 

@@ -1,15 +1,12 @@
 // Each cell's first premium and the counts: the work area is labelled, one of its numbers holds the kind.
 ghost use mathlib.Core.Path.{_≡_};
-ghost use mathlib.Core.List.{[]};
-ghost use Prim.Native.Nat.{ℕ, _+_, _*_, _<_, _≤_};
+ghost use Prim.Native.Nat.{_+_, _*_, _<_, _≤_};
 ghost use lib.ListN.{length};
 ghost use Rattle.game.specs.Lists.{count, range, fold};
-ghost use Rattle.game.specs.Grid.{square};
-ghost use Rattle.area.specs.Numbers.{gridOf};
 ghost use Rattle.area.specs.Stages.{Shape};
 ghost use Rattle.start.specs.Passes.{bareAt, safeAt, alonePremium, layCell, raiseCell, raiseNear};
 
-// The cells without label and the safe cells among those passed.
+// The safe cells without label, and all safe cells.
 pub struct Tally {
     pub bare: usize,
     pub safe: usize,

@@ -1,9 +1,7 @@
 -- `start::begin::set_up`: the passes one after the other. Assumes nothing.
-use Prim.Native.Nat.{ℕ, _+_, _*_, _≤_}
 use native.Mathlib.Omega.{arith}
 use borrow.Author.Needs.{needs}
-use mathlib.Core.Path.{_≡_, refl}
-use Rattle.game.specs.Grid.{Grid}
+use mathlib.Core.Path.{refl}
 use Rattle.area.specs.Numbers.{gridOf}
 use Rattle.area.proofs.Cells.{cells-few}
 use Rattle.start.proofs.Begun.{begun-setting, few-openings}

@@ -1,13 +1,12 @@
 -- `start::price::lay`: the cells passed are laid and counted. Assumes nothing.
-use Prim.Native.Nat.{ℕ, _+_, _-_, _*_, _≤_, _<_}
+use Prim.Native.Nat.{ℕ, _-_, _≤_}
 use native.Mathlib.Omega.{arith}
 use borrow.Author.Needs.{needs}
 use mathlib.Core.Path.{_≡_, refl, ap, sym, _∙_}
 use mathlib.Core.List.{List}
 use lib.IntN.{ℤ}
 use lib.ListN.{length}
-use Rattle.game.specs.Lists.{range, fold}
-use Rattle.game.specs.Lists.{count}
+use Rattle.game.specs.Lists.{count, fold, range}
 use Rattle.game.proofs.Counts.{count-more}
 use Rattle.game.proofs.Members.{fold-more}
 use Rattle.area.proofs.Tests.{count-none-yet}
