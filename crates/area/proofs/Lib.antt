@@ -1,6 +1,5 @@
 pub mod Signs
 pub mod Cells
 pub mod Tests
-pub mod Rows
 pub mod Held
 pub mod Sides

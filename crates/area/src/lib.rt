@@ -7,7 +7,7 @@ ghost use mathlib.Core.Bool.{not};
 ghost use mathlib.Core.List.{[]};
 ghost use lib.Dec.{eqb};
 ghost use Rattle.game.specs.Lists.{bit, count, range};
-ghost use Rattle.game.specs.Grid.{isMine, number};
+ghost use Rattle.game.specs.Grid.{isMine};
 ghost use Rattle.area.specs.Numbers.{numberAt, putAt, putLowered, gridOf, rowMine};
 ghost use Rattle.area.specs.Squares.{Neighbour};
 ghost use Rattle.area.specs.Stages.{Shape};
@@ -92,22 +92,6 @@ pub fn mines_in_row(grid: &[i32], columns: usize, row: usize, from: usize, to: u
     let mut mines: usize = 0;
     for column in from..to {
         mines += mine_at(grid, row * columns + column) as usize;
-    }
-    mines
-}
-
-// The number of a cell: the mines in its square.
-pub fn number(grid: &[i32], rows: usize, columns: usize, row: usize, column: usize) -> usize
-    requires { ⌜ Shape rows columns ⌝ }
-    requires { ⌜ (row < rows) × (column < columns) × (length (now grid) ≡ rows * columns) ⌝ }
-    ensures { λ r. ⌜ (r ≡ number (gridOf rows columns (now (grid .entry))) (column * rows + row)) × (r ≤ 9) ⌝ }
-{
-    let from = lower(column);
-    let to = upper(column, columns);
-    let last = upper(row, rows);
-    let mut mines: usize = 0;
-    for r in lower(row)..last {
-        mines += mines_in_row(grid, columns, r, from, to);
     }
     mines
 }
