@@ -29,17 +29,17 @@ pub fn better(work: &[i32], index: usize, opened_only: bool, best: Best) -> Best
     requires { ⌜ 5 * index + 5 ≤ length (now work) ⌝ }
     ensures { λ r. ⌜ r ≡ betterAt «opened_only» (now (work .entry)) best index ⌝ }
 {
+    if !looked(work, index, opened_only) {
+        return best;
+    }
     let premium = area::get(work, 5 * index + 2);
     if premium <= best.top {
         return best;
     }
-    if looked(work, index, opened_only) {
-        return Best {
-            top: premium,
-            at: index,
-        };
+    Best {
+        top: premium,
+        at: index,
     }
-    best
 }
 
 // The best so far, once the cells of a column have been looked at.
