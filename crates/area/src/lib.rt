@@ -61,27 +61,43 @@ pub fn upper(x: usize, n: usize) -> usize
     if x + 1 < n { x + 2 } else { n }
 }
 
-// The cell so many rows down and columns right in the square of a cell, or the number of cells where that is off the grid.
+// The cell so many rows down and columns right in the square of the cell in a row and a column, or the number of cells where that is off the grid.
+pub fn near_at(
+    rows: usize,
+    columns: usize,
+    row: usize,
+    column: usize,
+    down: usize,
+    right: usize,
+) -> usize
+    requires { ⌜ Shape rows columns ⌝ }
+    requires { ⌜ (row < rows) × (column < columns) × (down < 3) × (right < 3) ⌝ }
+    ensures { λ r. ⌜ Neighbour (gridOf rows columns []) (column * rows + row) down right r ⌝ }
+{
+    let below = row + down;
+    let beside = column + right;
+    if below == 0 {
+        return rows * columns;
+    }
+    if below > rows {
+        return rows * columns;
+    }
+    if beside == 0 {
+        return rows * columns;
+    }
+    if beside > columns {
+        return rows * columns;
+    }
+    (beside - 1) * rows + (below - 1)
+}
+
+// The same of a cell by its index.
 pub fn near(rows: usize, columns: usize, index: usize, down: usize, right: usize) -> usize
     requires { ⌜ Shape rows columns ⌝ }
     requires { ⌜ (index < rows * columns) × (down < 3) × (right < 3) ⌝ }
     ensures { λ r. ⌜ Neighbour (gridOf rows columns []) index down right r ⌝ }
 {
-    let row = index % rows + down;
-    let column = index / rows + right;
-    if row == 0 {
-        return rows * columns;
-    }
-    if row > rows {
-        return rows * columns;
-    }
-    if column == 0 {
-        return rows * columns;
-    }
-    if column > columns {
-        return rows * columns;
-    }
-    (column - 1) * rows + (row - 1)
+    near_at(rows, columns, index % rows, index / rows, down, right)
 }
 
 // The mines of a row, in the columns from one up to another.

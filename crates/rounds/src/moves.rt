@@ -125,9 +125,11 @@ pub fn flag_around(
     ensures { λ r. ⌜ ((g : Grid) (s : Position) (old : List ℤ) → Stands rows columns g s old (now (work .entry)) → state .closed ≡ closedSafe g s
         → Made rows columns g s old (map flag (keep (unflagged g s) (square g index))) (now (list .entry)) state (now (work .exit)) (now (list .exit)) r) ⌝ }
 {
+    let row = index % rows;
+    let column = index / rows;
     let mut flagged = state;
     for place in 0..9 {
-        let near = area::near(rows, columns, index, place / 3, place % 3);
+        let near = area::near_at(rows, columns, row, column, place / 3, place % 3);
         flagged = flag_mine(work, rows, columns, list, flagged, near);
     }
     flagged

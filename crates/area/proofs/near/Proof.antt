@@ -1,96 +1,31 @@
--- `area::near`: the row and the column, each counted from 1, are tested one after the other. Assumes nothing.
+-- `area::near`: a cell's index is that of its row and column. Assumes nothing.
+use Prim.Native.Nat.{ℕ}
+use mathlib.Core.Path.{subst}
+use mathlib.Core.List.{[]}
 use borrow.Author.Needs.{needs}
+use Rattle.game.proofs.Squares.{index-of}
+use Rattle.area.specs.Numbers.{gridOf}
+use Rattle.area.specs.Squares.{Neighbour}
+use Rattle.area.proofs.Sides.{column-of, row-of}
 use Rattle.area.proofs.near.Statement.{statement}
 use Rattle.area.proofs.near.Tie as tie
-use native.Mathlib.Omega.{arith}
-use Rattle.area.proofs.Cells.{cells-few}
-use Rattle.area.proofs.Sides.{column-of, near-below, off-grid, on-grid, row-of}
-use Prim.Native.Nat.{ℕ, _%_, _*_, _+_, _-_, _/_, _<_, _≤_}
-use mathlib.Core.Path.{_≡_, refl}
 
--- the row and the column of the neighbour, counted from 1
-abbrev row : tie.Start → ℕ
-row c = c .args .index % c .args .rows + c .args .down
+rem-near-at : tie.Need-rem-near-at
+rem-near-at c = search needs
 
-abbrev column : tie.Start → ℕ
-column c = c .args .index / c .args .rows + c .args .right
+div-near-at : tie.Need-div-near-at
+div-near-at c = search needs
 
-below : (c : tie.Start) → (row c ≡ 0 → ⊥) → row c ≤ c .args .rows → (column c ≡ 0 → ⊥) → column c ≤ c .args .columns
-    → (column c - 1) * c .args .rows + (row c - 1) < 65026
-below c f h e k =
-    omega (arith, near-below _ _ (c .pre .0) (row c) (column c) (omega arith) h (omega arith) k, cells-few _ _ (c .pre .0))
-
-rem-row : tie.Need-rem-row
-rem-row c = search needs
-
-add-row : tie.Need-add-row
-add-row c = omega (arith, row-of _ _ (c .pre .0) (c .args .index))
-
-div-column : tie.Need-div-column
-div-column c = search needs
-
-add-column : tie.Need-add-column
-add-column c = omega (arith, column-of _ _ (c .pre .0) (c .args .index) (c .pre .1 .0))
-
-mul-result : tie.Need-mul-result
-mul-result c = omega (arith, cells-few _ _ (c .before .pre .0))
+near-at-requires : tie.Need-near-at-requires
+near-at-requires c κs =
+    let a = c .args in
+    (c .pre .0, (row-of _ _ (c .pre .0) (a .index), column-of _ _ (c .pre .0) (a .index) (c .pre .1 .0), c .pre .1 .1, c .pre .1 .2))
 
 returns : tie.Need-returns
-returns c = off-grid _ _ (c .before .pre .0) _ _ _ (λ y h a b. omega arith)
-
-mul-result-2 : tie.Need-mul-result-2
-mul-result-2 c = omega (arith, cells-few _ _ (c .before .before .pre .0))
-
-returns-2 : tie.Need-returns-2
-returns-2 c = off-grid _ _ (c .before .before .pre .0) _ _ _ (λ y h a b. omega (arith, row-of _ _ (c .before .before .pre .0) y))
-
-mul-result-3 : tie.Need-mul-result-3
-mul-result-3 c = omega (arith, cells-few _ _ (c .before .before .before .pre .0))
-
-returns-3 : tie.Need-returns-3
-returns-3 c = off-grid _ _ (c .before .before .before .pre .0) _ _ _ (λ y h a b. omega arith)
-
-mul-result-4 : tie.Need-mul-result-4
-mul-result-4 c = omega (arith, cells-few _ _ (c .before .before .before .before .pre .0))
-
-returns-4 : tie.Need-returns-4
-returns-4 c = off-grid _ _ (c .before .before .before .before .pre .0) _ _ _ (λ y h a b. omega (arith, column-of _ _ (c .before .before .before .before .pre .0) y h))
-
-sub-result : tie.Need-sub-result
-sub-result c = search needs
-
-mul-result-5 : tie.Need-mul-result-5
-mul-result-5 c = omega (arith, below (c .before .before .before .before) (c .before .before .before .if1 .left) (c .before .before .if2 .left) (c .before .if3 .left) (c .if4 .left))
-
-sub-result-2 : tie.Need-sub-result-2
-sub-result-2 c = search needs
-
-add-result : tie.Need-add-result
-add-result c = omega (arith, below (c .before .before .before .before) (c .before .before .before .if1 .left) (c .before .before .if2 .left) (c .before .if3 .left) (c .if4 .left))
-
-returns-5 : tie.Need-returns-5
-returns-5 c =
-    on-grid _ _ (c .before .before .before .before .pre .0) _ _ _ (row (c .before .before .before .before)) (column (c .before .before .before .before)) refl refl
-    (omega arith) (c .before .before .if2 .left) (omega arith) (c .if4 .left)
+returns c =
+    let a = c .before .args in
+    let g = gridOf (a .rows) (a .columns) [] in
+    subst (λ (i : ℕ). Neighbour g i (a .down) (a .right) (c .near-at .result)) (index-of g (a .index)) (c .near-at .ensures)
 
 pub near-spec : {M : Type 1} → statement M
-near-spec =
-    tie.close
-    (tie.spec
-    rem-row
-    add-row
-    div-column
-    add-column
-    mul-result
-    returns
-    mul-result-2
-    returns-2
-    mul-result-3
-    returns-3
-    mul-result-4
-    returns-4
-    sub-result
-    mul-result-5
-    sub-result-2
-    add-result
-    returns-5)
+near-spec = tie.close (tie.spec rem-near-at div-near-at near-at-requires returns)
