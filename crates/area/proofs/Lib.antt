@@ -4,3 +4,5 @@ pub mod Tests
 pub mod Rows
 pub mod Held
 pub mod Sides
+pub mod Marks
+pub mod Spans
