@@ -3,3 +3,5 @@ pub mod Cells
 pub mod Tests
 pub mod Held
 pub mod Sides
+pub mod Marks
+pub mod Spans

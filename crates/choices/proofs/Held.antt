@@ -16,7 +16,7 @@ use Rattle.choices.specs.Tests.{lookedAt, unitAt}
 use Rattle.choices.specs.Tops.{closedZeroAt}
 use Rattle.game.specs.Grid.{Grid, cells, mine, number, safe, size, zeroCell}
 use Rattle.game.specs.Lists.{has, keep, range}
-use Rattle.game.specs.Openings.{firstLabel}
+use Rattle.game.specs.Openings.{firstLabel, secondLabel}
 use Rattle.game.specs.Position.{Position, closed, cost, gain, opened, premium}
 use Rattle.game.specs.Rounds.{closedUnitCell, leastChosen, looked, unitCells}
 use Rattle.choices.proofs.Passing.{keep-ext}
@@ -32,6 +32,7 @@ use Rattle.game.proofs.Zeros.{zero→}
 
 pub record Holds (g : Grid) (s : Position) (w : List ℤ) : Type 0 where
   pub firsts : (i : ℕ) → i < size g → numberAt w (5 * i) ≡ firstLabel g i
+  pub seconds : (i : ℕ) → i < size g → numberAt w (5 * i + 1) ≡ secondLabel g i
   pub premiums : (i : ℕ) → i < size g → numberAt w (5 * i + 2) ≡ raised g s i
   pub states : (i : ℕ) → i < size g → numberAt w (5 * i + 3) ≡ getD s i 0
   pub kinds : (i : ℕ) → i < size g → numberAt w (5 * i + 4) ≡ kind g i
@@ -41,6 +42,7 @@ unfolding heldFive
 held-numbers rows columns g s old w t =
     record {
       firsts = λ i h. ap (numberAt w) (first i) ∙ there i 0 h (omega arith);
+      seconds = λ i h. there i 1 h (omega arith);
       premiums = λ i h. there i 2 h (omega arith);
       states = λ i h. there i 3 h (omega arith);
       kinds = λ i h. there i 4 h (omega arith);

@@ -5,3 +5,5 @@ pub mod Below
 pub mod Columns
 pub mod Marks
 pub mod Borders
+pub mod Shares
+pub mod Spanned

@@ -27,7 +27,7 @@ use Rattle.area.specs.Stages.{held, kind, raised}
 use Rattle.play.specs.Walks.{Swept, openedOne, shifted, squareOf, sweptOn}
 use Rattle.play.proofs.Cells.{Cell, at, at-here, at-other, cellArea, fold-acts, fold-sweep, labelledCell, made, marked, opensCell, priced, put-area, read-first, same-area, shift-acts, shiftCell, sweepCell}
 use Rattle.play.proofs.Held.{heldCell, held-cells, kind-mine, level, moved, raised-small, restated, up-down}
-use Rattle.play.proofs.Marks.{marked-held}
+use Rattle.area.proofs.Marks.{marked-held}
 
 -- two cells are in each other's squares, or not
 near-sym : (g : Grid) (i x : ℕ) → i < size g → x < size g → has i (square g x) ≡ has x (square g i)

@@ -1,71 +1,28 @@
--- The columns of an opening are without gap, as neighbours' columns differ by at most 1: no cell of it lies beyond a column without its label. Assumes nothing.
+-- The columns of an opening are without gap, so the walks miss no cell of the label: none lies beyond a column without it. Assumes nothing.
 use Prim.Native.Nat.{ℕ, _*_, _+_, _-_, _/_, _<_, _≤_}
 use native.Mathlib.Omega.{arith}
-use native.Mathlib.Decide.{ℕ-discrete}
 use native.Mathlib.Nat.{div-lt-iff-lt-mul, le-div-iff-mul-le, mul-le-mul-right}
 use mathlib.Core.Path.{_∙_, _≡_, ap, subst, sym}
-use mathlib.Core.Logic.{_⊎_, inl, inr, ⊎-elim}
+use mathlib.Core.Logic.{inl, inr}
 use mathlib.Core.List.{List}
 use lib.Dec.{T}
 use lib.IntN.{ℤ}
-use Rattle.game.specs.Grid.{Grid, columnOf, rowOf, size, square, zeroCell}
-use Rattle.game.specs.Lists.{has, range}
-use Rattle.game.specs.Openings.{Joined, firstLabel, holds, itself, joinedTo, onward}
+use Rattle.game.specs.Grid.{Grid, columnOf, rowOf, size, zeroCell}
+use Rattle.game.specs.Lists.{range}
+use Rattle.game.specs.Openings.{firstLabel, holds, joinedTo}
 use Rattle.game.specs.Position.{Position}
-use Rattle.game.proofs.Chains.{joined-last}
 use Rattle.game.proofs.Counts.{none-counted}
-use Rattle.game.proofs.Members.{range-has, some-yes, yes-some}
-use Rattle.game.proofs.Openings.{joinedTo→, →joinedTo}
-use Rattle.game.proofs.Squares.{column-lt, in-own-square, index-of, row-lt, square→}
+use Rattle.game.proofs.Members.{range-has}
+use Rattle.game.proofs.Squares.{column-lt, index-of, row-lt}
 use Rattle.game.proofs.Zeros.{Zero}
 use Rattle.area.specs.Stages.{Stands}
+use Rattle.area.proofs.Marks.{marked-held}
+use Rattle.area.proofs.Spans.{Within, held-spans}
 use Rattle.play.specs.Walks.{LeftSwept, RightSwept, SweptOver, labelledAt, labelledIn}
 use Rattle.play.proofs.Cells.{read-first, read-second}
 use Rattle.play.proofs.Held.{heldCell, held-cells}
-use Rattle.play.proofs.Marks.{marked-held}
 use Rattle.play.proofs.Reveals.{inside, size-is}
 use Rattle.play.proofs.Sweeps.{labelled-stays, over-all, to-right}
-
--- ---- an opening has cells in every column between two of its columns
-
--- q lies between a and b, either way round
-abbrev Within : ℕ → ℕ → ℕ → Type 0
-Within a b q = ((a ≤ q) × (q ≤ b)) ⊎ ((b ≤ q) × (q ≤ a))
-
--- a place short of c lies short of a neighbour of c
-nearer : (a b c q : ℕ) → Within a c q → (q ≡ c → ⊥) → b ≤ c + 1 → c ≤ b + 1 → Within a b q
-nearer a b c q w n h k = ⊎-elim (λ p. inl (omega arith)) (λ p. inr (omega arith)) w
-
--- no further than a is a
-only : (a q : ℕ) → Within a a q → a ≡ q
-only a q w = ⊎-elim (λ p. omega arith) (λ p. omega arith) w
-
--- 0-cells joined to z
-pub spans : (g : Grid) (z k q : ℕ) → Joined g z k → Within (columnOf g z) (columnOf g k) q → (y : ℕ) × Joined g z y × (columnOf g y ≡ q)
-spans g z k q (itself h n) w = (z, itself h n, only (columnOf g z) q w)
-spans g z k q (onward {b = b} j t n) w =
-    elim (ℕ-discrete q (columnOf g k)) [
-      | yes e ↦ (k, onward j t n, sym e)
-      | no m ↦
-          let c = square→ g b k (joined-last g z b j .inside) t .1 in
-          spans g z b q j (nearer (columnOf g z) (columnOf g b) (columnOf g k) q w m (c .west) (c .east))
-    ]
-
--- and all cells that their opening holds
-pub held-spans : (g : Grid) (z x q : ℕ) → Zero g z → x < size g → T (holds g x (joinedTo g z)) → Within (columnOf g z) (columnOf g x) q
-    → (y : ℕ) × (y < size g) × T (holds g y (joinedTo g z)) × (columnOf g y ≡ q)
-held-spans g z x q zz h t w =
-    elim (ℕ-discrete q (columnOf g x)) [
-      | yes e ↦ (x, h, t, sym e)
-      | no m ↦
-          let a = yes-some (λ j. has j (joinedTo g z)) (square g x) t in
-          let c = square→ g x (a .0) h (a .1) .1 in
-          let y = spans g z (a .0) q (joinedTo→ g z (a .0) zz (a .2)) (nearer (columnOf g z) (columnOf g (a .0)) (columnOf g x) q w m (c .east) (c .west)) in
-          let i = joined-last g z (y .0) (y .1) .inside in
-          (y .0, i, some-yes (λ j. has j (joinedTo g z)) (y .0) (square g (y .0)) (in-own-square g (y .0) i) (→joinedTo g z (y .0) (y .1)), y .2)
-    ]
-
--- ---- so the walks miss no cell of the label
 
 module _ (rows columns : ℕ) (g : Grid) (s : Position) (old w : List ℤ) (i label : ℕ) (h : i < rows * columns) (st : Stands rows columns g s old w)
     (none : T (zeroCell g i)) (own : label ≡ firstLabel g i) where

@@ -3,14 +3,14 @@ use Prim.Native.Nat.{ℕ, _*_, _+_, _<_, _≤_}
 use native.Mathlib.Omega.{arith}
 use mathlib.Core.Path.{_∙_, _≡_, ap, ap₂, subst, sym}
 use mathlib.Core.Logic.{inl, inr}
-use mathlib.Core.Bool.{Bool, false}
+use mathlib.Core.Bool.{Bool}
 use mathlib.Core.List.{List, [], _∷_}
 use lib.IntN.{ℤ}
 use lib.ListN.{getD, getD-replicate, length-replicate, replicate}
 use Rattle.area.specs.Stages.{Stands}
 use Rattle.choices.specs.declared.Best.{Best}
-use Rattle.choices.specs.Tops.{Far, Forgotten, Kept, MarkedOr, bordersClosed, columnTop}
-use Rattle.game.specs.Grid.{Grid, columnOf, size}
+use Rattle.choices.specs.Tops.{Forgotten, Kept, MarkedOr, Still, columnTop}
+use Rattle.game.specs.Grid.{Grid, size}
 use Rattle.game.specs.Lists.{Each}
 use Rattle.game.specs.Moves.{Move, after, left}
 use Rattle.game.specs.Position.{Position}
@@ -32,11 +32,11 @@ module _ (rows columns : ℕ) (g : Grid) (s : Position) (old w w′ : List ℤ) 
   still-kept : (ms : List Move) → Each (MoveAt g i) ms → Stands rows columns g (after g s ms) old w′ → (openedOnly : Bool) → Kept openedOnly w rows columns tops → Kept openedOnly w′ rows columns tops′
   still-kept ms at st′ openedOnly k = record { room = omega (arith, k .room, f .long); right = λ c b n. go c b n (f .marks c) }
     where
-      go : (c : ℕ) → c < columns → (getD tops′ c 0 ≡ 0 → ⊥) → MarkedOr ((bordersClosed g s i ≡ false) × Far c (columnOf g i)) tops tops′ c → getD tops′ c 0 ≡ columnTop openedOnly w′ rows c + 1
+      go : (c : ℕ) → c < columns → (getD tops′ c 0 ≡ 0 → ⊥) → MarkedOr (Still g s i c) tops tops′ c → getD tops′ c 0 ≡ columnTop openedOnly w′ rows c + 1
       go c b n (inl z) = absurd (n z)
-      go c b n (inr (e, (none, far))) =
+      go c b n (inr (e, still)) =
           e ∙ k .right c b (λ z. n (e ∙ z))
-          ∙ ap (λ (x : Best). x .top + 1) (sym (quiet-column g s i inside none ms at rows columns old w w′ st st′ openedOnly (record { top = 9; at = 0 }) c b far))
+          ∙ ap (λ (x : Best). x .top + 1) (sym (quiet-column g s i inside ms at rows columns old w w′ st st′ openedOnly (record { top = 9; at = 0 }) c b still))
 
   module _ (list : List ℕ) (t : State) (list′ : List ℕ) (t′ : State) where
     -- one L

@@ -1,4 +1,4 @@
--- A step at a cell in whose square no 0-cell is closed is quiet: it opens no opening, so only cells of its square change, and no premium more than two columns away. Assumes nothing.
+-- A step at a cell changes cells of its square, and those of the openings that the closed 0-cells of its square are of: no premium in a column more than two away that has no cell of these. Assumes nothing.
 use Prim.Native.Nat.{ℕ, _*_, _+_, _-_, _<_}
 use native.Mathlib.Omega.{arith}
 use mathlib.Core.Path.{_∙_, _≡_, ap, ap₂, refl, subst, sym}
@@ -13,20 +13,22 @@ use Rattle.area.specs.Numbers.{numberAt}
 use Rattle.area.specs.Stages.{Stands, raised}
 use Rattle.choices.specs.declared.Best.{Best}
 use Rattle.choices.specs.Picks.{betterAt, columnBest}
-use Rattle.choices.specs.Tops.{Far, bordersClosed}
+use Rattle.choices.specs.Tops.{Far, Still}
 use Rattle.game.specs.Grid.{Grid, columnOf, index, mine, size, square, zeroCell}
 use Rattle.game.specs.Lists.{Each, bit, fold, has, keep, range}
-use Rattle.game.specs.Moves.{Move, after, chord, flag, left, play, reveal}
-use Rattle.game.specs.Openings.{holds, openings, unlabelled}
-use Rattle.game.specs.Position.{Position, cellUnit, closed, cost, gain, openingClosed, unflagged}
+use Rattle.game.specs.Moves.{Move, after, chord, flag, left, play, reveal, sweep}
+use Rattle.game.specs.Openings.{holds, joinedTo, openings, unlabelled}
+use Rattle.game.specs.Position.{Position, cellUnit, closed, cost, flagged, gain, openingClosed, unflagged}
 use Rattle.game.specs.Rounds.{movesAt}
 use Rattle.choices.proofs.Held.{held-numbers}
+use Rattle.game.proofs.Chains.{joined-trans}
 use Rattle.game.proofs.Counts.{count-each, count-ext, each-map}
-use Rattle.game.proofs.Members.{all-ext, first-of, fold-inv, has-range, keep-has, rest-of, some-yes}
-use Rattle.game.proofs.Openings.{good}
-use Rattle.game.proofs.Reveal.{Revealed, opens, revealed, stays, sweeps, zero-safe}
+use Rattle.game.proofs.Members.{all-ext, first-of, fold-inv, has-range, keep-has, rest-of, some-yes, yes-some}
+use Rattle.game.proofs.Openings.{Full, good, →joinedTo}
+use Rattle.game.proofs.Reveal.{Revealed, getD-sweep, held-joined, mine-off, opens, revealed, stays, sweeps, unlabelled-off, zero-safe}
 use Rattle.game.proofs.Squares.{in-own-square, index-column, index-lt, square→}
-use Rattle.game.proofs.Truth.{and-both, and-left}
+use Rattle.game.proofs.Truth.{and-left, and-under, no→false}
+use Rattle.game.proofs.Zeros.{Zero}
 
 -- ---- the moves of a step at a cell
 
@@ -68,29 +70,45 @@ moves-at g s i =
 
 -- ---- what it leaves as it is
 
--- only cells of the square that are no 0-cells have another state
-record Kept (g : Grid) (i : ℕ) (s s′ : Position) : Type 0 where
-  pub outside : (j : ℕ) → (T (has j (square g i)) → ⊥) → getD s′ j 0 ≡ getD s j 0
-  pub zeros : (j : ℕ) → T (zeroCell g j) → getD s′ j 0 ≡ getD s j 0
+-- no opening holds the cell that a closed 0-cell in the square of i is of
+abbrev Off : Grid → Position → ℕ → ℕ → Type 0
+Off g s i j = (z : ℕ) → T (has z (square g i)) → T (zeroCell g z) → T (closed s z) → T (holds g j (joinedTo g z)) → ⊥
 
-module _ (g : Grid) (s : Position) (i : ℕ) (inside : i < size g) (none : bordersClosed g s i ≡ false) where
+-- such a cell has its state, unless it stands in the square and is no 0-cell; and no 0-cell is closed again
+record Kept (g : Grid) (i : ℕ) (s s′ : Position) : Type 0 where
+  pub same : (j : ℕ) → j < size g → (T (has j (square g i)) → T (zeroCell g j)) → Off g s i j → getD s′ j 0 ≡ getD s j 0
+  pub shut : (j : ℕ) → j < size g → T (zeroCell g j) → T (closed s′ j) → T (closed s j)
+
+module _ (g : Grid) (s : Position) (i : ℕ) (inside : i < size g) where
   kept-set : (s′ : Position) (c v : ℕ) → T (has c (square g i)) → (T (zeroCell g c) → ⊥) → Kept g i s s′ → Kept g i s (set s′ c v)
   kept-set s′ c v t n k =
       record {
-        outside = λ j u. getD-set-other s′ c j v 0 (λ e. u (rw e t)) ∙ k .outside j u;
-        zeros = λ j z. getD-set-other s′ c j v 0 (λ e. n (subst (λ (x : ℕ). T (zeroCell g x)) e z)) ∙ k .zeros j z;
+        same = λ j h f off. getD-set-other s′ c j v 0 (λ e. n (subst (λ (x : ℕ). T (zeroCell g x)) e (f (rw e t)))) ∙ k .same j h f off;
+        shut = λ j h z u. k .shut j h z (subst (λ (x : ℕ). T (eqb x 0)) (getD-set-other s′ c j v 0 (λ e. n (subst (λ (x : ℕ). T (zeroCell g x)) e z))) u);
       }
 
-  -- no 0-cell of the square is closed, so none is swept
+  -- an opening swept is one that a closed 0-cell of the square is of
+  kept-sweep : (s′ : Position) (c : ℕ) → T (has c (square g i)) → T (closed s′ c) → T (zeroCell g c) → Kept g i s s′ → Kept g i s (sweep g s′ c)
+  kept-sweep s′ c t b z k =
+      record {
+        same = λ j h f off.
+            getD-sweep g s′ c j h
+            ∙ ap (λ (x : Bool). cond x 1 (getD s′ j 0)) (no→false (holds g j (joinedTo g c)) (off c t z (k .shut c (square→ g i c inside t .0) z b)))
+            ∙ k .same j h f off;
+        shut = λ j h y u. k .shut j h y (still (holds g j (joinedTo g c)) (getD s′ j 0) (subst (λ (x : ℕ). T (eqb x 0)) (getD-sweep g s′ c j h) u));
+      }
+    where
+      still : (x : Bool) (n : ℕ) → T (eqb (cond x 1 n) 0) → T (eqb n 0)
+      still true n u = absurd u
+      still false n u = u
+
   kept-reveal : (s′ : Position) (c : ℕ) → T (has c (square g i)) → Kept g i s s′ → Kept g i s (reveal g s′ c)
   kept-reveal s′ c t k = go (reveal g s′ c) (revealed g s′ c)
     where
       go : (p : Position) → Revealed g s′ c p → Kept g i s p
       go p (stays m) = k
       go p (opens a b m) = kept-set s′ c 1 t m k
-      go p (sweeps a b z) =
-          absurd (subst T none (some-yes (λ j. zeroCell g j && closed s j) c (square g i) t
-          (and-both (zeroCell g c) (closed s c) z (subst (λ (x : ℕ). T (eqb x 0)) (k .zeros c z) b))))
+      go p (sweeps a b z) = kept-sweep s′ c t b z k
 
   kept-play : (s′ : Position) (m : Move) → MoveAt g i m → Kept g i s s′ → Kept g i s (play g s′ m)
   unfolding play
@@ -103,42 +121,34 @@ module _ (g : Grid) (s : Position) (i : ℕ) (inside : i < size g) (none : borde
   kept-after [] s′ e k = k
   kept-after (m ∷ ms) s′ e k = kept-after ms (play g s′ m) (e .1) (kept-play s′ m (e .0) k)
 
-  module _ (ms : List Move) (at : Each (MoveAt g i) ms) where
-    kept : Kept g i s (after g s ms)
-    kept = kept-after ms s at (record { outside = λ j t. refl; zeros = λ j z. refl })
+  kept : (ms : List Move) → Each (MoveAt g i) ms → Kept g i s (after g s ms)
+  kept ms e = kept-after ms s e (record { same = λ j h f off. refl; shut = λ j h z u. u })
 
-    -- a cell outside the square keeps its state
-    pub only-square : (j : ℕ) → (T (has j (square g i)) → ⊥) → getD (after g s ms) j 0 ≡ getD s j 0
-    only-square = kept .outside
+-- ---- a premium is told by the unlabelled cells and the mines of its square, the cell itself and the 0-cells of its openings
 
-    -- a 0-cell keeps its state
-    pub zeros-stay : (j : ℕ) → T (zeroCell g j) → getD (after g s ms) j 0 ≡ getD s j 0
-    zeros-stay = kept .zeros
-
--- ---- a premium is told by its square and the 0-cells
-
-module _ (g : Grid) (s s′ : Position) (j : ℕ) (inside : j < size g) (near : (k : ℕ) → T (has k (square g j)) → getD s′ k 0 ≡ getD s k 0)
-    (zeros : (k : ℕ) → k < size g → T (zeroCell g k) → getD s′ k 0 ≡ getD s k 0) where
+module _ (g : Grid) (s s′ : Position) (j : ℕ) (own : getD s′ j 0 ≡ getD s j 0)
+    (bare : (k : ℕ) → T (has k (square g j)) → T (unlabelled g k) → getD s′ k 0 ≡ getD s k 0)
+    (mines : (k : ℕ) → T (has k (square g j)) → T (mine g k) → getD s′ k 0 ≡ getD s k 0)
+    (zeros : (o : List ℕ) → Full g o → T (holds g j o) → (k : ℕ) → T (has k o) → getD s′ k 0 ≡ getD s k 0) where
   same-gain : gain g s′ j ≡ gain g s j
   unfolding gain
   same-gain =
       ap₂ _+_
       (count-each (λ o. holds g j o && openingClosed s′ o) (λ o. holds g j o && openingClosed s o) (openings g)
-      (each-map (openings g) (λ o f. ap (λ (b : Bool). holds g j o && b)
-      (all-ext (closed s′) (closed s) o (λ k t. let z = f .zero-cell k t in ap (λ (x : ℕ). eqb x 0) (zeros k (z .inside) (z .none))))) (good g .full)))
-      (count-ext (cellUnit g s′) (cellUnit g s) (square g j) (λ k t. ap (λ (x : ℕ). unlabelled g k && eqb x 0) (near k t)))
+      (each-map (openings g) (λ o f. and-under (holds g j o) (openingClosed s′ o) (openingClosed s o)
+      (λ t. all-ext (closed s′) (closed s) o (λ k u. ap (λ (x : ℕ). eqb x 0) (zeros o f t k u)))) (good g .full)))
+      (count-ext (cellUnit g s′) (cellUnit g s) (square g j) (λ k t. and-under (unlabelled g k) (closed s′ k) (closed s k)
+      (λ u. ap (λ (x : ℕ). eqb x 0) (bare k t u))))
 
   same-cost : cost g s′ j ≡ cost g s j
   unfolding cost
   same-cost =
       ap₂ (λ (m n : ℕ). m + 1 + n)
-      (count-ext (unflagged g s′) (unflagged g s) (square g j) (λ k t. ap (λ (x : ℕ). mine g k && not (eqb x 2)) (near k t)))
-      (ap (λ (x : ℕ). bit (eqb x 0)) (near j (in-own-square g j inside)))
+      (count-ext (unflagged g s′) (unflagged g s) (square g j) (λ k t. and-under (mine g k) (not (flagged s′ k)) (not (flagged s k))
+      (λ u. ap (λ (x : ℕ). not (eqb x 2)) (mines k t u))))
+      (ap (λ (x : ℕ). bit (eqb x 0)) own)
 
-  pub same-premium : (gain g s′ j ≡ gain g s j) × (cost g s′ j ≡ cost g s j)
-  same-premium = (same-gain, same-cost)
-
--- ---- more than two columns away
+-- ---- more than two columns away, and in none of those openings
 
 -- the squares of cells in such columns do not meet
 apart : (g : Grid) (i j k : ℕ) → i < size g → j < size g → Far (columnOf g j) (columnOf g i) → T (has k (square g j)) → T (has k (square g i)) → ⊥
@@ -147,25 +157,55 @@ apart g i j k hi hj far t u =
     let b = square→ g j k hj t .1 in
     ⊎-elim (λ h. omega arith) (λ h. omega arith) far
 
-module _ (g : Grid) (s : Position) (i : ℕ) (inside : i < size g) (none : bordersClosed g s i ≡ false) (ms : List Move) (at : Each (MoveAt g i) ms) where
+-- a 0-cell of the square
+zero-there : (g : Grid) (i z : ℕ) → i < size g → T (has z (square g i)) → T (zeroCell g z) → Zero g z
+zero-there g i z h t n = record { inside = square→ g i z h t .0; none = n }
+
+-- a 0-cell of an opening that holds the cell is in none of those openings either
+opening-off : (g : Grid) (s : Position) (i j : ℕ) (o : List ℕ) → i < size g → Full g o → T (holds g j o) → Off g s i j → (k : ℕ) → T (has k o) → Off g s i k
+opening-off g s i j o hi f t off k u z a n b v =
+    let x = yes-some (λ y. has y o) (square g j) t in
+    off z a n b (some-yes (λ y. has y (joinedTo g z)) (x .0) (square g j) (x .1)
+    (→joinedTo g z (x .0) (joined-trans g z k (x .0) (held-joined g z k (zero-there g i z hi a n) (f .zero-cell k u) v) (f .linked k (x .0) u (x .2)))))
+
+module _ (g : Grid) (s : Position) (i : ℕ) (inside : i < size g) (ms : List Move) (at : Each (MoveAt g i) ms) where
   -- a cell there keeps its gain, its cost and its state
-  pub quiet : (j : ℕ) → j < size g → Far (columnOf g j) (columnOf g i)
+  pub quiet : (j : ℕ) → j < size g → Still g s i (columnOf g j)
       → (gain g (after g s ms) j ≡ gain g s j) × (cost g (after g s ms) j ≡ cost g s j) × (getD (after g s ms) j 0 ≡ getD s j 0)
-  quiet j h far =
-      let near : (k : ℕ) → T (has k (square g j)) → getD (after g s ms) k 0 ≡ getD s k 0 =
-      λ k t. only-square g s i inside none ms at k (apart g i j k inside h far t) in
-      let p = same-premium g s (after g s ms) j h near (λ k _ z. zeros-stay g s i inside none ms at k z) in
-      (p .0, p .1, near j (in-own-square g j h))
+  quiet j h still = (same-gain g s (after g s ms) j own bare mines zeros, same-cost g s (after g s ms) j own bare mines zeros, own)
+    where
+      k : Kept g i s (after g s ms)
+      k = kept g s i inside ms at
+
+      off : Off g s i j
+      off z t n u v = still .apart j z h refl t n u v
+
+      outside : (x : ℕ) → T (has x (square g j)) → T (has x (square g i)) → ⊥
+      outside x t u = apart g i j x inside h (still .far) t u
+
+      own : getD (after g s ms) j 0 ≡ getD s j 0
+      own = k .same j h (λ t. absurd (outside j (in-own-square g j h) t)) off
+
+      bare : (x : ℕ) → T (has x (square g j)) → T (unlabelled g x) → getD (after g s ms) x 0 ≡ getD s x 0
+      bare x t u = k .same x (square→ g j x h t .0) (λ v. absurd (outside x t v)) (λ z a n b v. unlabelled-off g x z u (zero-there g i z inside a n) v)
+
+      mines : (x : ℕ) → T (has x (square g j)) → T (mine g x) → getD (after g s ms) x 0 ≡ getD s x 0
+      mines x t u =
+          let l = square→ g j x h t .0 in
+          k .same x l (λ v. absurd (outside x t v)) (λ z a n b v. mine-off g z x (zero-there g i z inside a n) l u v)
+
+      zeros : (o : List ℕ) → Full g o → T (holds g j o) → (x : ℕ) → T (has x o) → getD (after g s ms) x 0 ≡ getD s x 0
+      zeros o f t x u = let z = f .zero-cell x u in k .same x (z .inside) (λ v. z .none) (opening-off g s i j o inside f t off x u)
 
   -- ---- in the work area
 
   module _ (rows columns : ℕ) (old w w′ : List ℤ) (st : Stands rows columns g s old w) (st′ : Stands rows columns g (after g s ms) old w′) where
     -- a cell there keeps its raised premium and its state
-    pub quiet-numbers : (j : ℕ) → j < size g → Far (columnOf g j) (columnOf g i)
+    pub quiet-numbers : (j : ℕ) → j < size g → Still g s i (columnOf g j)
         → (numberAt w′ (5 * j + 2) ≡ numberAt w (5 * j + 2)) × (numberAt w′ (5 * j + 3) ≡ numberAt w (5 * j + 3))
     unfolding raised
-    quiet-numbers j h far =
-        let q = quiet j h far in
+    quiet-numbers j h still =
+        let q = quiet j h still in
         let v = held-numbers rows columns g s old w st in
         let v′ = held-numbers rows columns g (after g s ms) old w′ st′ in (
           v′ .premiums j h ∙ ap₂ (λ (m n : ℕ). cond (mine g j) 0 (10 + m - n)) (q .0) (q .1) ∙ sym (v .premiums j h),
@@ -173,9 +213,9 @@ module _ (g : Grid) (s : Position) (i : ℕ) (inside : i < size g) (none : borde
         )
 
     -- a look at a column there finds what it found
-    pub quiet-column : (openedOnly : Bool) (b : Best) (c : ℕ) → c < columns → Far c (columnOf g i)
+    pub quiet-column : (openedOnly : Bool) (b : Best) (c : ℕ) → c < columns → Still g s i c
         → columnBest openedOnly w′ rows b c ≡ columnBest openedOnly w rows b c
-    quiet-column openedOnly b c h far = go (range 0 rows) b (λ row t. has-range 0 rows row t .1)
+    quiet-column openedOnly b c h still = go (range 0 rows) b (λ row t. has-range 0 rows row t .1)
       where
         one : (d : Best) (row : ℕ) → row < rows → betterAt openedOnly w′ d (c * rows + row) ≡ betterAt openedOnly w d (c * rows + row)
         one d row k =
@@ -184,7 +224,7 @@ module _ (g : Grid) (s : Position) (i : ℕ) (inside : i < size g) (none : borde
             let l : row < g .rows = omega arith in
             let e : index g row c ≡ j = ap (λ (n : ℕ). c * n + row) r in
             let q = quiet-numbers j (subst (λ (n : ℕ). n < size g) e (index-lt g row c l (omega (arith, st .columns-are))))
-            (subst (λ (n : ℕ). Far n (columnOf g i)) (sym (index-column g row c l) ∙ ap (columnOf g) e) far) in
+            (subst (Still g s i) (sym (index-column g row c l) ∙ ap (columnOf g) e) still) in
             ap₂ (λ (m n : ℕ). cond (ltb (d .top) m && (not openedOnly || eqb n 1)) (record { top = m; at = j }) d) (q .0) (q .1)
 
         go : (xs : List ℕ) (d : Best) → ((x : ℕ) → T (has x xs) → x < rows)

@@ -2,10 +2,10 @@
 use Prim.Native.Nat.{ℕ, _-_}
 use native.Mathlib.Omega.{arith}
 use mathlib.Core.Path.{_∙_, _≡_, refl}
-use lib.ListN.{length, length-set}
+use lib.ListN.{length, length-set, set}
 use borrow.Author.Needs.{needs}
 use Rattle.choices.specs.Tops.{MarkedOr}
-use Rattle.choices.proofs.Marks.{Outside, marked-near, marked-none, marked-one}
+use Rattle.choices.proofs.Marks.{Outside, marked-near, marked-next, marked-none, one-marked}
 use Rattle.choices.proofs.kept.forget_near.Statement.{statement}
 use Rattle.choices.proofs.kept.forget_near.Tie as tie
 
@@ -38,7 +38,7 @@ loop-again : tie.Need-loop-again Inv-loop μ-loop
 loop-again c =
     let l = c .before .loop in
     let a = c .before .before .before .before .before .args in
-    (length-set (l .tops) (l .near) 0 ∙ l .inv .0, marked-one (a .tops .now) (l .tops) (c .before .before .less .result) (l .near) (omega (arith, l .inv .0)) (l .inv .1))
+    (length-set (l .tops) (l .near) 0 ∙ l .inv .0, marked-next (a .tops .now) (l .tops) (set (l .tops) (l .near) 0) (l .near) (λ k. one-marked (l .tops) (l .near) k (omega (arith, l .inv .0))) (c .before .before .less .result) (l .inv .1))
 
 same-length : tie.Need-same-length Inv-loop μ-loop
 same-length c = c .before .loop .inv .0
