@@ -109,11 +109,12 @@ module _ (rows columns : ℕ) (g : Grid) (s : Position) (old w : List ℤ) (i : 
   pub forgotten-near : (tops tops′ : List ℕ) → false ≡ bordersClosed g s i → length tops′ ≡ length tops → ((c : ℕ) → MarkedOr (Far c (i / rows)) tops tops′ c) → Forgotten g s i tops tops′
   forgotten-near tops tops′ e l m = record { long = l; marks = λ c. marked-also tops tops′ c (still-far c e) (m c) }
 
-  pub forgotten-spanned : (first second from to : ℕ) (tops near left right : List ℕ) → first ≡ numberAt w (5 * i) → second ≡ numberAt w (5 * i + 1) → from ≡ i / rows - 2 → to ≡ i / rows + 3
+  pub forgotten-spanned : (first second from to : ℕ) (tops near left right : List ℕ) → first ≡ numberAt w (5 * i) → second ≡ numberAt w (5 * i + 1)
       → (length near ≡ length tops) × ((c : ℕ) → MarkedOr (Far c (i / rows)) tops near c)
       → (length left ≡ length near) × ((c : ℕ) → MarkedOr (c < from → Parted w rows first second c from) near left c)
-      → (length right ≡ length left) × ((c : ℕ) → MarkedOr (to ≤ c → c < columns → Parted w rows first second to c) left right c) → Forgotten g s i tops right
-  forgotten-spanned first second from to tops near left right e f x y a b d =
+      → (length right ≡ length left) × ((c : ℕ) → MarkedOr (to ≤ c → c < columns → Parted w rows first second to c) left right c) → from ≡ i / rows - 2 → to ≡ i / rows + 3
+      → Forgotten g s i tops right
+  forgotten-spanned first second from to tops near left right e f a b d x y =
       let v = held-numbers rows columns g s old w st in
       let p : first ≡ firstLabel g i = e ∙ v .firsts i inside in
       let q : second ≡ secondLabel g i = f ∙ v .seconds i inside in

@@ -1,5 +1,4 @@
 -- `choices::kept::forget`: the columns near the cell's own, and both walks from there on. Assumes nothing.
-use Prim.Native.Nat.{_+_, _/_}
 use native.Mathlib.Omega.{arith}
 use mathlib.Core.Path.{_∙_, sym}
 use mathlib.Core.List.{[]}
@@ -80,9 +79,9 @@ returns-2 c =
     let n = d .before .before .before .before .before in
     let s = n .before .before .before in
     let a = s .args in
-    λ g p old t. forgotten-spanned (a .rows) (a .columns) g p old (a .work .now) (a .index) (s .pre .1 .1) t (d .get .result) (k .get2 .result) (m .less .result) (a .index / a .rows + 3)
-    (a .tops .now) (n .forget-near .last .0) (l .forget-left .last .1 .1 .1 .0) (r .forget-right .last .1 .1 .1 .0) (d .get .ensures .0) (k .get2 .ensures .0) (omega (arith, m .less .ensures)) (omega arith)
-    (n .forget-near .ensures) (l .forget-left .ensures) (r .forget-right .ensures)
+    λ g p old t. forgotten-spanned (a .rows) (a .columns) g p old (a .work .now) (a .index) (s .pre .1 .1) t (d .get .result) (k .get2 .result) (m .less .result) _
+    (a .tops .now) (n .forget-near .last .0) (l .forget-left .last .1 .1 .1 .0) (r .forget-right .last .1 .1 .1 .0) (d .get .ensures .0) (k .get2 .ensures .0)
+    (n .forget-near .ensures) (l .forget-left .ensures) (r .forget-right .ensures) (omega (arith, m .less .ensures)) (omega arith)
 
 pub forget-spec : {M : Type 1} → statement M
 forget-spec =
