@@ -105,3 +105,29 @@ pub(crate) fn word_at(run: &[MoveRecord], k: usize, rows: usize) -> u32
 {
     word_of(read_record(run, k), rows)
 }
+
+// The first words of a list as records of a lent run, as far as both go; the rest of the run is unchanged.
+pub fn records_of(run: &mut [MoveRecord], list: &[u32], count: usize, rows: usize)
+    ensures { λ _. ⌜ now (run .exit) ≡ over (map (recordOf rows) (take count (now (list .entry)))) (now (run .entry)) ⌝ }
+{
+    let n = least(count, list.len(), run.len());
+    let mut k = 0;
+    while k < n {
+        let played = record_at(list, k, rows);
+        run[k] = played;
+        k = k + 1;
+    }
+}
+
+// The first records of a run as words of a lent list, as far as both go; the rest of the list is unchanged.
+pub fn words_of(list: &mut [u32], run: &[MoveRecord], count: usize, rows: usize)
+    ensures { λ _. ⌜ now (list .exit) ≡ over (map (moveWord rows) (take count (now (run .entry)))) (now (list .entry)) ⌝ }
+{
+    let n = least(count, run.len(), list.len());
+    let mut k = 0;
+    while k < n {
+        let word = word_at(run, k, rows);
+        list[k] = word;
+        k = k + 1;
+    }
+}
