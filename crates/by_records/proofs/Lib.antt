@@ -1,2 +1,3 @@
--- The check of a run, and what a call over a run leaves.
+-- The check of a run, what a call over a run leaves, and a slice lent again.
+pub mod Again
 pub mod Room
