@@ -125,3 +125,38 @@ pub fn greedy_records(
     records::records_of(run, list, count, rows);
     priced
 }
+
+// Openings-first ZiNi: its clicks, and its moves in the list and as records of the run.
+pub fn openings_first_records(
+    rows: usize,
+    columns: usize,
+    grid: &[i32],
+    work: &mut [i32],
+    list: &mut [u32],
+    run: &mut [MoveRecord],
+) -> Priced
+    ensures { λ r. ⌜ KeptRun (gridOf rows columns (now (grid .entry))) (within (gridOf rows columns (now (grid .entry))) (now (work .entry)) (now (list .entry)) (length (now (run .entry))) (openingsFirstCall (gridOf rows columns (now (grid .entry))) (now (work .entry)) (now (list .entry)))) (now (run .entry)) (pricedAnswer r) (now (work .exit)) (now (list .exit)) (now (run .exit)) ⌝ }
+{
+    let priced = openings_first_within(rows, columns, grid, work, list, run.len());
+    let count = written_by(priced, grid.len());
+    records::records_of(run, list, count, rows);
+    priced
+}
+
+// A single random round: its clicks, its moves in the list and as records of the run, and the draw bytes used.
+pub fn random_round_records(
+    rows: usize,
+    columns: usize,
+    grid: &[i32],
+    work: &mut [i32],
+    list: &mut [u32],
+    run: &mut [MoveRecord],
+    draws: &[u8],
+) -> Rolled
+    ensures { λ r. ⌜ KeptRun (gridOf rows columns (now (grid .entry))) (within (gridOf rows columns (now (grid .entry))) (now (work .entry)) (now (list .entry)) (length (now (run .entry))) (randomRoundCall (gridOf rows columns (now (grid .entry))) (now (work .entry)) (now (list .entry)) (now (draws .entry)))) (now (run .entry)) (rolledAnswer r) (now (work .exit)) (now (list .exit)) (now (run .exit)) ⌝ }
+{
+    let rolled = random_within(rows, columns, grid, work, list, draws, run.len());
+    let count = written_by_roll(rolled, grid.len());
+    records::records_of(run, list, count, rows);
+    rolled
+}
