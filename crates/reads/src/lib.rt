@@ -43,3 +43,10 @@ pub fn next_draw<'s, 'a>(reader: &'s mut DrawReader<'a>, n: usize) -> Drawn
     reader.place = place_after(drawn, reader.place);
     drawn
 }
+
+// A draw among n by a reader at a place of the bytes: whoever calls it needs no walk.
+pub fn draw_from(bytes: &[u8], place: usize, n: usize) -> Drawn
+    ensures { λ r. ⌜ drawnOf r ≡ draw (now (bytes .entry)) place n ⌝ }
+{
+    draw(reader(bytes, place), n)
+}
