@@ -3,15 +3,17 @@ use records::MoveRecord;
 use zini::Checked;
 use zini::Priced;
 use zini::Refusal;
+use zini::Replayed;
 use zini::Rolled;
 ghost use mathlib.Core.Path.{_≡_};
-ghost use mathlib.Core.List.{[], _∷_, _++_};
+ghost use mathlib.Core.List.{List, [], _∷_, _++_};
+ghost use lib.IntN.{ℤ};
 ghost use lib.ListN.{length};
-ghost use Rattle.game.specs.Calls.{firstGiven, greedyCall, gridChecks, openingsFirstCall, randomRoundCall};
+ghost use Rattle.game.specs.Calls.{firstGiven, greedyCall, gridChecks, openingsFirstCall, randomRoundCall, replayCall};
 ghost use Rattle.area.specs.Numbers.{gridOf};
-ghost use Rattle.zini.specs.Answers.{KeptList, pricedAnswer, refusalOf, rolledAnswer};
+ghost use Rattle.zini.specs.Answers.{Kept, KeptList, pricedAnswer, refusalOf, replayedAnswer, rolledAnswer};
 ghost use Rattle.zini.specs.declared.Priced.the-variants as Prices;
-ghost use Rattle.by_records.specs.Promises.{KeptRun, roomCheck, within, writtenBy};
+ghost use Rattle.by_records.specs.Promises.{KeptReplay, KeptRun, copiedIf, replayChecks, replayWithin, roomCheck, within, writtenBy};
 
 // SHAPE, BOARD, WORK, and TRACE for a run of so many records.
 fn check_room(rows: usize, columns: usize, grid: &[i32], work: &[i32], room: usize) -> Checked
@@ -159,4 +161,79 @@ pub fn random_round_records(
     let count = written_by_roll(rolled, grid.len());
     records::records_of(run, list, count, rows);
     rolled
+}
+
+// How many records are copied for a replay: the count, if nothing is refused by these lengths.
+pub(crate) fn copied(
+    rows: usize,
+    columns: usize,
+    board: usize,
+    area: usize,
+    room: usize,
+    words: usize,
+    count: usize,
+) -> usize
+    ensures { λ r. ⌜ ((vs ws : List ℤ) → length vs ≡ board → length ws ≡ area → r ≡ copiedIf (firstGiven (replayChecks (gridOf rows columns vs) ws room words count)) count) ⌝ }
+{
+    if rows == 0 {
+        return 0;
+    }
+    if 255 < rows {
+        return 0;
+    }
+    if columns == 0 {
+        return 0;
+    }
+    if 255 < columns {
+        return 0;
+    }
+    if board != rows * columns {
+        return 0;
+    }
+    if area < 5 * (rows * columns) {
+        return 0;
+    }
+    if room < count {
+        return 0;
+    }
+    if words < count {
+        return 0;
+    }
+    count
+}
+
+// Replay for a run of so many records.
+pub(crate) fn replay_within(
+    rows: usize,
+    columns: usize,
+    grid: &[i32],
+    work: &mut [i32],
+    list: &[u32],
+    count: usize,
+    room: usize,
+) -> Replayed
+    ensures { λ r. ⌜ Kept (replayWithin (gridOf rows columns (now (grid .entry))) (now (work .entry)) room count (replayCall (gridOf rows columns (now (grid .entry))) (now (work .entry)) (now (list .entry)) count)) (replayedAnswer r) (now (work .exit)) ⌝ }
+{
+    let checked = zini::checks::check_more(rows, columns, grid, work, room, count, Refusal::Trace);
+    match checked {
+        Checked::Refused(refusal) => Replayed::Refused(refusal),
+        Checked::Fine => zini::replays::replay(rows, columns, grid, work, list, count),
+    }
+}
+
+// The first records of a run are played on a board, by their words in the list.
+pub fn replay_records(
+    rows: usize,
+    columns: usize,
+    grid: &[i32],
+    work: &mut [i32],
+    list: &mut [u32],
+    run: &[MoveRecord],
+    count: usize,
+) -> Replayed
+    ensures { λ r. ⌜ KeptReplay (gridOf rows columns (now (grid .entry))) (now (work .entry)) (now (list .entry)) (now (run .entry)) count (replayedAnswer r) (now (work .exit)) (now (list .exit)) ⌝ }
+{
+    let moves = copied(rows, columns, grid.len(), work.len(), run.len(), list.len(), count);
+    records::words_of(list, run, moves, rows);
+    replay_within(rows, columns, grid, work, list, count, run.len())
 }
