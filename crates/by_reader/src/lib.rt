@@ -89,7 +89,15 @@ pub fn random_search<'g, 'w, 's, 'a>(
 ) -> Rolled
     ensures { λ r. ⌜ Kept (randomSearchCall (gridOf rows columns (now (grid .entry))) (now (work .entry)) (drop (now (reader .entry) .place) (now (now (reader .entry) .bytes))) rounds) (rolledAnswer r) (now (work .exit)) × (now (reader .exit) ≡ readOn (now (reader .entry)) r) ⌝ }
 {
-    let rolled = search_from(rows, columns, grid, work, reader.bytes, reader.place, rounds);
+    let rolled = search_from(
+        rows,
+        columns,
+        grid,
+        work,
+        reader.bytes,
+        reader.place,
+        rounds,
+    );
     reader.place = place_after(rolled, reader.place);
     rolled
 }

@@ -233,7 +233,15 @@ pub fn replay_records(
 ) -> Replayed
     ensures { λ r. ⌜ KeptReplay (gridOf rows columns (now (grid .entry))) (now (work .entry)) (now (list .entry)) (now (run .entry)) count (replayedAnswer r) (now (work .exit)) (now (list .exit)) ⌝ }
 {
-    let moves = copied(rows, columns, grid.len(), work.len(), run.len(), list.len(), count);
+    let moves = copied(
+        rows,
+        columns,
+        grid.len(),
+        work.len(),
+        run.len(),
+        list.len(),
+        count,
+    );
     records::words_of(list, run, moves, rows);
     replay_within(rows, columns, grid, work, list, count, run.len())
 }

@@ -53,13 +53,7 @@ fn seven() {
 fn eleven() {
     let mut work = [0i32; 45];
     let mut list = [0u32; 9];
-    let priced = zini::prices::greedy(
-        3,
-        3,
-        &[0i32, 0, 0, 0, -1, 0, 0, 0, 0],
-        &mut work,
-        &mut list,
-    );
+    let priced = zini::prices::greedy(3, 3, &[0i32, 0, 0, 0, -1, 0, 0, 0, 0], &mut work, &mut list);
     io::write_all(1, b"P11 as records");
     print_priced(priced);
     there_and_back(&list, 5, 3, 0);
