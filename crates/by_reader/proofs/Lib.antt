@@ -1,0 +1,2 @@
+-- What bounds the place of a reader.
+pub mod Within

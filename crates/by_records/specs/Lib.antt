@@ -1,0 +1,2 @@
+-- What the calls over runs of move records promise.
+pub mod Promises

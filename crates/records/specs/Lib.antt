@@ -1,0 +1,2 @@
+-- Move records, and the words that they stand for.
+pub mod Records
