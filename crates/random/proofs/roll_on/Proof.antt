@@ -100,12 +100,11 @@ loop-less c =
     (l .loop .inv .3 .course (f .grid) (f .old) (f .stands)) (x .step .last .0) (x .step .last .1 .1 .1 .0) (x .step .result) (k .if1 .taken) (λ s v h e. x .step .ensures (f .grid) s (f .old) v h e .0) _ (c .before .stepped .given .1)
 
 loop-again : tie.Need-loop-again Inv-loop μ-loop
-loop-again c =
-    (
-      search needs,
-      search needs,
-      search needs,
-      let x = c .before .before .before .before .before .before .before .before in
+loop-again c = (
+  search needs,
+  search needs,
+  search needs,
+  let x = c .before .before .before .before .before .before .before .before in
       let k = x .before .before .before .before .before .before in
       let l = k .before .before in
       let a = l .before .before .before .before .args in
@@ -113,14 +112,14 @@ loop-again c =
         course = λ g old st. course-goes-on (a .rows) (a .columns) g old (a .draws .now) (a .safe) (a .next) (a .list .now) (l .loop .work) (l .loop .list) (l .loop .state)
             (l .loop .inv .3 .course g old st) (x .step .last .0) (x .step .last .1 .1 .1 .0) (x .step .result) (k .if1 .taken) (λ s v h e. x .step .ensures g s old v h e .0) _ (c .before .stepped .given .1);
       },
-      let x = c .before .before .before .before .before .before .before .before in
+  let x = c .before .before .before .before .before .before .before .before in
       let k = x .before .before .before .before .before .before in
       let l = k .before .before in
       let f = l .before .before .before .before .pre .1 .1 .0 in
       let o = l .loop .inv .3 .course (f .grid) (f .old) (f .stands) in
       x .step .ensures (f .grid) (after (f .grid) (untouched (f .grid)) (movesOf (o .done))) (f .old) (o .made .stands) (omega (arith, o .made .left-closed, k .if1 .taken)) (o .made .left-closed) .1,
-      c .before .before .before .before .before .before .before .before .before .before .before .before .passed .ensures .0,
-      let x = c .before .before .before .before .before .before .before .before in
+  c .before .before .before .before .before .before .before .before .before .before .before .before .passed .ensures .0,
+  let x = c .before .before .before .before .before .before .before .before in
       let p = x .before .before .before .before .passed in
       let k = x .before .before .before .before .before .before in
       let l = k .before .before in
@@ -130,7 +129,7 @@ loop-again c =
       course-low (a .rows) (a .columns) (f .grid) (f .old) (a .draws .now) (a .safe) (a .next) (a .list .now) (l .loop .work) (l .loop .list) (l .loop .state)
       (l .loop .inv .3 .course (f .grid) (f .old) (f .stands)) (x .step .last .0) (x .step .last .1 .1 .1 .0) (x .step .result) (k .if1 .taken) (λ s v h e. x .step .ensures (f .grid) s (f .old) v h e .0) _ (c .before .stepped .given .1)
       (p .result * a .rows) (omega (arith, mul-le-mul-right (a .rows) (p .ensures .0))) (p .ensures .1),
-    )
+)
 
 same-length-4 : tie.Need-same-length-4 Inv-loop μ-loop
 same-length-4 c = search needs
