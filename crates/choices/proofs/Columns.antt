@@ -9,11 +9,11 @@ use mathlib.Core.Logic.{_⊎_, inl, inr, ⊎-elim}
 use mathlib.Core.Bool.{Bool, _&&_, cond, false, true}
 use mathlib.Core.List.{List, [], _∷_}
 use borrow.Author.Tests.{le-ltb, lt-ltb}
-use lib.Dec.{ltb}
+use lib.Dec.{T, ltb}
 use lib.IntN.{ℤ}
 use Rattle.area.specs.Numbers.{numberAt}
-use Rattle.game.specs.Lists.{fold, from, range}
-use Rattle.game.proofs.Members.{fold-columns}
+use Rattle.game.specs.Lists.{fold, from, has, range}
+use Rattle.game.proofs.Members.{fold-columns, has-cases, range-has}
 use Rattle.choices.specs.Picks.{bestOf, betterAt, columnBest}
 use Rattle.choices.specs.Tests.{lookedAt}
 use Rattle.choices.specs.Tops.{columnTop, firstOf, higherOf}
@@ -48,6 +48,18 @@ module _ (openedOnly : Bool) (w : List ℤ) where
               off true = refl
               off false = refl
 
+  -- a cell looked at has at most as much as the best after it
+  at-least : (b : Best) (i : ℕ) → T (lookedAt openedOnly w i) → numberAt w (5 * i + 2) ≤ betterAt openedOnly w b i .top
+  at-least b i t = go (lookedAt openedOnly w i) t (decLt (b .top) here)
+    where
+      here : ℕ
+      here = numberAt w (5 * i + 2)
+
+      go : (c : Bool) → T c → Dec (b .top < here) → here ≤ cond (ltb (b .top) here && c) (record { top = here; at = i }) b .top
+      go true u (yes k) = rw (lt-ltb (b .top) here k) (omega arith)
+      go true u (no k) = rw (le-ltb (b .top) here (omega arith)) (omega arith)
+      go false u k = absurd u
+
   module _ (f : ℕ → ℕ) where
     scanned : Best → List ℕ → Best
     scanned b xs = fold (λ d x. betterAt openedOnly w d (f x)) b xs
@@ -60,6 +72,14 @@ module _ (openedOnly : Bool) (w : List ℤ) where
         let r = rises xs (betterAt openedOnly w b (f x)) in
         ⊎-elim (λ u. omega (arith, u .1, r, ap (λ (e : Best). e .top) (u .0))) (λ u. omega (arith, r, ap (λ (e : Best). e .top) (u .0))) (one-cell b b (f x) (omega arith))
 
+    -- no cell looked at has more
+    none-higher : (xs : List ℕ) (b : Best) (x : ℕ) → T (has x xs) → T (lookedAt openedOnly w (f x)) → numberAt w (5 * f x + 2) ≤ scanned b xs .top
+    unfolding scanned
+    none-higher [] b x t u = absurd t
+    none-higher (y ∷ xs) b x t u =
+        has-cases x y xs (λ q. omega (arith, at-least b (f x) u, rises xs (betterAt openedOnly w b (f x)), ap (λ (z : ℕ). scanned (betterAt openedOnly w b (f z)) xs .top) q))
+        (λ r. none-higher xs (betterAt openedOnly w b (f y)) x r u) t
+
     -- from the higher start, the best from the lower one if that is higher still
     from-both : (xs : List ℕ) (b d : Best) → d .top ≤ b .top → scanned b xs ≡ cond (ltb (b .top) (scanned d xs .top)) (scanned d xs) b
     unfolding scanned
@@ -70,6 +90,12 @@ module _ (openedOnly : Bool) (w : List ℤ) where
         ∙ sym (ap (λ (c : Bool). cond c (scanned (betterAt openedOnly w d (f x)) xs) b) (lt-ltb (b .top) (scanned (betterAt openedOnly w d (f x)) xs .top) (omega (arith, u .1, rises xs (betterAt openedOnly w d (f x)))))))
         (λ u. ap (λ (e : Best). scanned e xs) (u .0) ∙ from-both xs b (betterAt openedOnly w d (f x)) (u .1))
         (one-cell b d (f x) h)
+
+-- no cell of a column has more than the column's highest premium
+pub column-bound : (w : List ℤ) (rows column row : ℕ) → row < rows → numberAt w (5 * (column * rows + row) + 2) ≤ columnTop false w rows column
+unfolding scanned
+column-bound w rows column row h =
+    none-higher false w (λ r. column * rows + r) (range 0 rows) (record { top = 9; at = 0 }) row (range-has 0 rows row (omega arith) h) tt
 
 -- ---- one column, then all
 

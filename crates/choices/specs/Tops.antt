@@ -1,5 +1,5 @@
 -- What is kept of each column, so that a step looks again only at the columns that may have changed. Assumes nothing.
-use Prim.Native.Nat.{ℕ, _+_, _*_, _<_, _≤_}
+use Prim.Native.Nat.{ℕ, _+_, _*_, _-_, _<_, _≤_}
 use mathlib.Core.Path.{_≡_}
 use mathlib.Core.Logic.{_⊎_}
 use mathlib.Core.Bool.{Bool, _&&_, _||_, cond, false, not}
@@ -36,6 +36,10 @@ higherOf b top column = cond (ltb (b .top) top) (record { top = top; at = column
 abbrev pub firstOf : Bool → List ℤ → ℕ → ℕ → ℕ → Best
 firstOf openedOnly w rows columns n =
     fold (λ b column. higherOf b (columnTop openedOnly w rows column) column) (record { top = 9; at = columns }) (range 0 n)
+
+-- a column that a random step passes over, where no closed unit is in the columns before one: for one L it is before that one, else a lower premium is kept of it
+abbrev pub skippedAt : ℕ → ℕ → List ℕ → ℕ → Bool
+skippedAt top from tops column = cond (ltb top 10) (ltb column from) (not (eqb (getD tops column 0) 0) && ltb (getD tops column 0 - 1) top)
 
 -- ---- what moves at a cell may change
 

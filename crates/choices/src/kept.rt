@@ -17,7 +17,7 @@ ghost use Rattle.choices.specs.Picks.{foundFirst};
 ghost use Rattle.choices.specs.Tops.{Far, Forgotten, Kept, MarkedOr, Parted, bordersClosed, closedZeroAt, columnShares, columnTop, firstOf, higherOf, keptOf, oneOf, sharesAt};
 
 // A byte as a wider number.
-fn wide(byte: u8) -> usize
+pub fn wide(byte: u8) -> usize
     ensures { λ r. ⌜ r ≡ byte ⌝ }
 {
     byte as usize
@@ -71,7 +71,7 @@ fn top_of(
 }
 
 // The highest premium of all columns, and the first column that has it.
-fn first_column(
+pub fn first_column(
     work: &[i32],
     rows: usize,
     columns: usize,

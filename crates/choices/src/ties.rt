@@ -1,5 +1,5 @@
 // The cells that a random step draws among: the highest premium, how many have it, the one at a place. No list of them is kept.
-use crate::highest;
+use crate::kept;
 use crate::units;
 ghost use mathlib.Core.Path.{_≡_};
 ghost use mathlib.Core.Bool.{false};
@@ -13,16 +13,18 @@ ghost use Rattle.game.specs.Lists.{count, keep, range};
 ghost use Rattle.game.specs.Position.{Position};
 ghost use Rattle.game.specs.Rounds.{choice};
 ghost use Rattle.area.specs.Stages.{Shape, Stands};
-ghost use Rattle.choices.specs.Tests.{candidateAt};
+ghost use Rattle.choices.specs.Tests.{NoUnitBelow, candidateAt};
 ghost use Rattle.choices.specs.Picks.{candidatesOf, forClick};
+ghost use Rattle.choices.specs.Tops.{Kept, skippedAt};
 
-// The highest raised premium, at least 9: below 10 the step is one L.
-pub fn top(work: &[i32], rows: usize, columns: usize) -> usize
+// The highest raised premium, at least 9: below 10 the step is one L. Only the columns marked are looked at again.
+pub fn top(work: &[i32], rows: usize, columns: usize, tops: &mut [u8]) -> usize
     requires { ⌜ Shape rows columns ⌝ }
-    requires { ⌜ 5 * (rows * columns) ≤ length (now work) ⌝ }
+    requires { ⌜ (5 * (rows * columns) ≤ length (now work)) × Kept false (now work) rows columns (now tops) ⌝ }
+    ensures { λ _. ⌜ (length (now (tops .exit)) ≡ length (now (tops .entry))) × Kept false (now (work .entry)) rows columns (now (tops .exit)) ⌝ }
     ensures { λ r. ⌜ ((g : Grid) (s : Position) (old : List ℤ) → Stands rows columns g s old (now (work .entry)) → (ltb r 10 ≡ forClick (choice false g s)) × (keep (candidateAt r (now (work .entry))) (range 0 (rows * columns)) ≡ candidatesOf (choice false g s))) ⌝ }
 {
-    let found = highest::scan(work, rows, columns, false);
+    let found = kept::first_column(work, rows, columns, tops, false);
     found.top
 }
 
@@ -37,31 +39,114 @@ pub fn candidate(work: &[i32], index: usize, top: usize) -> bool
     area::get(work, 5 * index + 2) == top
 }
 
-// How many cells the step may take.
-pub fn count(work: &[i32], cells: usize, top: usize) -> usize
-    requires { ⌜ 5 * cells ≤ length (now work) ⌝ }
-    ensures { λ r. ⌜ (r ≡ count (candidateAt top (now (work .entry))) (range 0 cells)) × (r ≤ cells) ⌝ }
+// Whether a column is known to have no candidate: for one L, one without closed unit; else one of a lower premium.
+fn skipped(tops: &[u8], top: usize, from: usize, column: usize) -> bool
+    requires { ⌜ column < length (now tops) ⌝ }
+    ensures { λ r. ⌜ r ≡ skippedAt top from (now (tops .entry)) column ⌝ }
 {
+    if top < 10 {
+        return column < from;
+    }
+    let kept = kept::wide(tops[column]);
+    if kept == 0 {
+        return false;
+    }
+    kept - 1 < top
+}
+
+// How many cells of a column the step may take.
+fn count_column(
+    work: &[i32],
+    rows: usize,
+    columns: usize,
+    tops: &[u8],
+    top: usize,
+    from: usize,
+    column: usize,
+) -> usize
+    requires { ⌜ Shape rows columns ⌝ }
+    requires { ⌜ (5 * (rows * columns) ≤ length (now work)) × (column < columns) × Kept false (now work) rows columns (now tops) × NoUnitBelow (now work) (from * rows) ⌝ }
+    ensures { λ r. ⌜ (r ≡ count (candidateAt top (now (work .entry))) (range (column * rows) (column * rows + rows))) × (r ≤ rows) ⌝ }
+{
+    if skipped(tops, top, from, column) {
+        return 0;
+    }
     let mut candidates: usize = 0;
-    for index in 0..cells {
+    for row in 0..rows {
+        let index = area::cell(rows, columns, row, column);
         candidates += candidate(work, index, top) as usize;
     }
     candidates
 }
 
-// The candidate at a place, in index order; 0 if there is none.
-pub fn pick(work: &[i32], cells: usize, top: usize, place: usize) -> usize
-    requires { ⌜ 5 * cells ≤ length (now work) ⌝ }
-    ensures { λ r. ⌜ r ≡ getD (keep (candidateAt top (now (work .entry))) (range 0 cells)) place 0 ⌝ }
+// How many cells the step may take, column after column.
+pub fn count(
+    work: &[i32],
+    rows: usize,
+    columns: usize,
+    tops: &[u8],
+    top: usize,
+    from: usize,
+) -> usize
+    requires { ⌜ Shape rows columns ⌝ }
+    requires { ⌜ (5 * (rows * columns) ≤ length (now work)) × Kept false (now work) rows columns (now tops) × NoUnitBelow (now work) (from * rows) ⌝ }
+    ensures { λ r. ⌜ (r ≡ count (candidateAt top (now (work .entry))) (range 0 (rows * columns))) × (r ≤ rows * columns) ⌝ }
 {
-    let mut passed: usize = 0;
-    for index in 0..cells {
+    let mut candidates: usize = 0;
+    for column in 0..columns {
+        candidates += count_column(work, rows, columns, tops, top, from, column);
+    }
+    candidates
+}
+
+// The candidate at a place, if it is in the column, before which so many were passed.
+fn pick_column(
+    work: &[i32],
+    rows: usize,
+    columns: usize,
+    top: usize,
+    column: usize,
+    before: usize,
+    place: usize,
+) -> usize
+    requires { ⌜ Shape rows columns ⌝ }
+    requires { ⌜ (5 * (rows * columns) ≤ length (now work)) × (column < columns) × (before ≤ place) × (before ≡ count (candidateAt top (now work)) (range 0 (column * rows))) ⌝ }
+    ensures { λ r. ⌜ (place < count (candidateAt top (now (work .entry))) (range 0 (column * rows + rows)) → r ≡ getD (keep (candidateAt top (now (work .entry))) (range 0 (rows * columns))) place 0) ⌝ }
+{
+    let mut passed = before;
+    for row in 0..rows {
+        let index = area::cell(rows, columns, row, column);
         if candidate(work, index, top) {
             if passed == place {
                 return index;
             }
             passed += 1;
         }
+    }
+    0
+}
+
+// The candidate at a place, in index order; 0 if there is none.
+pub fn pick(
+    work: &[i32],
+    rows: usize,
+    columns: usize,
+    tops: &[u8],
+    top: usize,
+    from: usize,
+    place: usize,
+) -> usize
+    requires { ⌜ Shape rows columns ⌝ }
+    requires { ⌜ (5 * (rows * columns) ≤ length (now work)) × Kept false (now work) rows columns (now tops) × NoUnitBelow (now work) (from * rows) ⌝ }
+    ensures { λ r. ⌜ r ≡ getD (keep (candidateAt top (now (work .entry))) (range 0 (rows * columns))) place 0 ⌝ }
+{
+    let mut passed: usize = 0;
+    for column in 0..columns {
+        let after = passed + count_column(work, rows, columns, tops, top, from, column);
+        if place < after {
+            return pick_column(work, rows, columns, top, column, passed, place);
+        }
+        passed = after;
     }
     0
 }

@@ -18,6 +18,7 @@ use lib.ListN.{List·getD-eq-default, getD, length}
 use Rattle.area.specs.Stages.{Shape}
 use Rattle.choices.specs.Picks.{candidatesOf, forClick}
 use Rattle.choices.specs.Tests.{candidateAt}
+use Rattle.choices.specs.Tops.{Kept}
 use Rattle.draws.specs.Answers.{drawnOf}
 use Rattle.game.specs.Draws.{draw}
 use Rattle.game.specs.Grid.{Grid, safe, zeroCell}
@@ -26,7 +27,7 @@ use Rattle.game.specs.Moves.{Move, left}
 use Rattle.game.specs.Position.{Position, closed, closedSafe}
 use Rattle.game.specs.Rounds.{Choice, choice, chords, clicks, movesAt, stepOf, topCells, unitCells, width}
 use Rattle.random.specs.Promises.{Stepping, takenMoves}
-use Rattle.rounds.specs.Promises.{Made}
+use Rattle.rounds.specs.Promises.{Made, MadeKept}
 use Rattle.game.proofs.Choices.{Top, looked→, never-stuck, premium-pays, top→, unit→}
 use Rattle.game.proofs.Counts.{length-keep}
 use Rattle.game.proofs.Legal.{zero-poor}
@@ -116,23 +117,26 @@ module _ (rows columns : ℕ) (g : Grid) (s : Position) (old w : List ℤ) (top 
       subst (λ (o : Option Game.Drawn). Stepping rows columns g s old o list t w w list Dry) (sym (ap drawnOf e) ∙ drawn-so)
       (record { answer = refl; same-work = refl; same-list = refl })
 
-  pub step-went : (p k i : ℕ) (w′ : List ℤ) (list′ : List ℕ) (r : State) → Played g s → 1 ≤ closedSafe g s → d ≡ Place p k → i ≡ getD (keep (candidateAt top w) (range 0 cells)) p 0
+  pub step-went : (p k i : ℕ) (tops : List ℕ) (w′ : List ℤ) (list′ tops′ : List ℕ) (r : State) → Played g s → 1 ≤ closedSafe g s → d ≡ Place p k → i ≡ getD (keep (candidateAt top w) (range 0 cells)) p 0
+      → Kept false w rows columns tops
       → (T (safe g i) → (top < 10 → T (closed s i)) → (10 ≤ top → T (zeroCell g i) → ⊥)
-      → Made rows columns g s old (takenMoves g s top i) list (record { moves = t .moves; closed = t .closed; next = k }) w′ list′ r)
-      → Stepping rows columns g s old (draw bytes (t .next) (width (choice false g s))) list t w w′ list′ (Went r)
-  step-went p k i w′ list′ r f h e q made =
+      → MadeKept rows columns g s old (takenMoves g s top i) list w tops (record { moves = t .moves; closed = t .closed; next = k }) w′ list′ tops′ r)
+      → Stepping rows columns g s old (draw bytes (t .next) (width (choice false g s))) list t w w′ list′ (Went r) × Kept false w′ rows columns tops′
+  step-went p k i tops w′ list′ tops′ r f h e q kept made =
       let o = sym (ap drawnOf e) ∙ drawn-so in
       let l = subst (IfSome (Rolled bytes (t .next) (width (choice false g s)))) (sym o) (rolled bytes (t .next) (width (choice false g s)) (never-stuck false g s f h)) in
       let a = takes g s top i p (l .inside) (tells .0) (q ∙ ap (λ (xs : List ℕ). getD xs p 0) (tells .1)) in
-      let m = subst (λ (ms : List Move). Made rows columns g s old ms list (record { moves = t .moves; closed = t .closed; next = k }) w′ list′ r) (a .same)
-      (made (a .is-safe) (a .shut) (a .no-zero)) in
-      subst (λ (o : Option Game.Drawn). Stepping rows columns g s old o list t w w′ list′ (Went r)) o
-      (record {
-        state = r;
-        answer = refl;
-        stands = m .stands;
-        noted = m .noted;
-        clicks = m .clicks;
-        left-closed = m .left-closed;
-        next-draw = m .next-draw;
-      })
+      let b = made (a .is-safe) (a .shut) (a .no-zero) in
+      let m = subst (λ (ms : List Move). Made rows columns g s old ms list (record { moves = t .moves; closed = t .closed; next = k }) w′ list′ r) (a .same) (b .made) in (
+        subst (λ (o : Option Game.Drawn). Stepping rows columns g s old o list t w w′ list′ (Went r)) o
+            (record {
+              state = r;
+              answer = refl;
+              stands = m .stands;
+              noted = m .noted;
+              clicks = m .clicks;
+              left-closed = m .left-closed;
+              next-draw = m .next-draw;
+            }),
+        b .kept false kept,
+      )

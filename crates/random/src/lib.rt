@@ -1,7 +1,7 @@
 // Random steps, rounds and searches on a work area that stands for a position.
 use draws::Drawn;
 use rounds::State;
-use rounds::moves;
+use rounds::steps;
 ghost use mathlib.Core.Path.{_≡_};
 ghost use mathlib.Core.Bool.{cond, false};
 ghost use mathlib.Core.List.{List};
@@ -15,7 +15,9 @@ ghost use Rattle.game.specs.Moves.{Move, after};
 ghost use Rattle.game.specs.Draws.{draw};
 ghost use Rattle.game.specs.Rounds.{choice, width, randomRound, randomSearch, searchFrom};
 ghost use Rattle.area.specs.Stages.{Shape, Stands};
-ghost use Rattle.rounds.specs.Promises.{Made, Fresh};
+ghost use Rattle.choices.specs.Tests.{NoUnitBelow};
+ghost use Rattle.choices.specs.Tops.{Kept};
+ghost use Rattle.rounds.specs.Promises.{MadeKept, Fresh};
 ghost use Rattle.random.specs.Promises.{Counted, takenMoves, once, Stepping, Rolling, Searching};
 
 // A step was made, or the draws ran dry.
@@ -36,6 +38,7 @@ fn take(
     rows: usize,
     columns: usize,
     list: &mut [u32],
+    tops: &mut [u8],
     state: State,
     top: usize,
     index: usize,
@@ -44,43 +47,81 @@ fn take(
     requires { ⌜ (5 * (rows * columns) ≤ length (now work)) × (index < rows * columns) × (state .moves ≤ 2 ^ 45) ⌝ }
     ensures { λ r. ⌜ ((g : Grid) (s : Position) (old : List ℤ) → Stands rows columns g s old (now (work .entry))
         → T (safe g index) → (top < 10 → T (isClosed s index)) → (10 ≤ top → T (zeroCell g index) → ⊥) → state .closed ≡ closedSafe g s
-        → Made rows columns g s old (takenMoves g s top index) (now (list .entry)) state (now (work .exit)) (now (list .exit)) r) ⌝ }
+        → MadeKept rows columns g s old (takenMoves g s top index) (now (list .entry)) (now (work .entry)) (now (tops .entry)) state (now (work .exit)) (now (list .exit)) (now (tops .exit)) r) ⌝ }
 {
     if top < 10 {
-        return moves::click(work, rows, columns, list, state, index);
+        return steps::click_at(work, rows, columns, list, tops, state, index);
     }
-    moves::act(work, rows, columns, list, state, index)
+    steps::act_at(work, rows, columns, list, tops, state, index)
 }
 
-// A step at a cell drawn among those of highest premium, or, if none reaches 0, among the closed units.
+// A step at a cell drawn among those of highest premium, or, if none reaches 0, among the closed units; there is none of these in the columns before one.
 pub fn step(
     work: &mut [i32],
     rows: usize,
     columns: usize,
     list: &mut [u32],
     draws: &[u8],
+    tops: &mut [u8],
     state: State,
+    from: usize,
 ) -> Stepped
     requires { ⌜ Shape rows columns ⌝ }
-    requires { ⌜ (5 * (rows * columns) ≤ length (now work)) × (state .moves ≤ 2 ^ 45) ⌝ }
+    requires { ⌜ (5 * (rows * columns) ≤ length (now work)) × (state .moves ≤ 2 ^ 45) × NoUnitBelow (now work) (from * rows) ⌝ }
+    requires { ⌜ Kept false (now work) rows columns (now tops) ⌝ }
     ensures { λ r. ⌜ ((g : Grid) (s : Position) (old : List ℤ) → Stands rows columns g s old (now (work .entry))
         → 1 ≤ closedSafe g s → state .closed ≡ closedSafe g s
-        → Stepping rows columns g s old (draw (now (draws .entry)) (state .next) (width (choice false g s))) (now (list .entry)) state (now (work .entry)) (now (work .exit)) (now (list .exit)) r) ⌝ }
+        → Stepping rows columns g s old (draw (now (draws .entry)) (state .next) (width (choice false g s))) (now (list .entry)) state (now (work .entry)) (now (work .exit)) (now (list .exit)) r
+        × Kept false (now (work .exit)) rows columns (now (tops .exit))) ⌝ }
 {
-    let cells = rows * columns;
-    let top = choices::ties::top(work, rows, columns);
-    let candidates = choices::ties::count(work, cells, top);
+    let top = choices::ties::top(work, rows, columns, tops);
+    let candidates = choices::ties::count(work, rows, columns, tops, top, from);
     let drawn = draws::draw(draws, state.next, candidates);
     let Drawn::Place(place, next) = drawn else {
         return Stepped::Dry;
     };
-    let index = choices::ties::pick(work, cells, top, place);
+    let index = choices::ties::pick(work, rows, columns, tops, top, from, place);
     let onward = State {
         moves: state.moves,
         closed: state.closed,
         next,
     };
-    Stepped::Went(take(work, rows, columns, list, onward, top, index))
+    Stepped::Went(take(work, rows, columns, list, tops, onward, top, index))
+}
+
+// Steps from the position before any move until all safe cells are open.
+fn roll_on(
+    work: &mut [i32],
+    rows: usize,
+    columns: usize,
+    list: &mut [u32],
+    draws: &[u8],
+    tops: &mut [u8],
+    safe: usize,
+    next: usize,
+) -> Rolled
+    requires { ⌜ Shape rows columns ⌝ }
+    requires { ⌜ 5 * (rows * columns) ≤ length (now work) ⌝ }
+    requires { ⌜ Fresh rows columns (now work) safe ⌝ }
+    requires { ⌜ Kept false (now work) rows columns (now tops) ⌝ }
+    ensures { λ r. ⌜ ((g : Grid) (old : List ℤ) → Stands rows columns g (untouched g) old (now (work .entry))
+        → Rolling rows columns g old (randomRound g (now (draws .entry)) next) (now (list .entry)) (now (work .exit)) (now (list .exit)) r) ⌝ }
+{
+    let mut state = State {
+        moves: 0,
+        closed: safe,
+        next,
+    };
+    let mut from = 0;
+    while 0 < state.closed {
+        from = choices::units::passed(work, rows, columns, from);
+        let stepped = step(work, rows, columns, list, draws, tops, state, from);
+        let Stepped::Went(after) = stepped else {
+            return Rolled::Dry;
+        };
+        state = after;
+    }
+    Rolled::Ended(state.moves, state.next)
 }
 
 // A round from the position before any move, of so many safe cells, that reads its draws from a place on.
@@ -99,19 +140,8 @@ pub fn round(
     ensures { λ r. ⌜ ((g : Grid) (old : List ℤ) → Stands rows columns g (untouched g) old (now (work .entry))
         → Rolling rows columns g old (randomRound g (now (draws .entry)) next) (now (list .entry)) (now (work .exit)) (now (list .exit)) r) ⌝ }
 {
-    let mut state = State {
-        moves: 0,
-        closed: safe,
-        next,
-    };
-    while 0 < state.closed {
-        let stepped = step(work, rows, columns, list, draws, state);
-        let Stepped::Went(after) = stepped else {
-            return Rolled::Dry;
-        };
-        state = after;
-    }
-    Rolled::Ended(state.moves, state.next)
+    let mut tops = [0u8; 255];
+    roll_on(work, rows, columns, list, draws, &mut tops, safe, next)
 }
 
 // A round that notes no move.

@@ -6,14 +6,11 @@ use borrow.Author.Needs.{needs}
 use Rattle.random.proofs.step.Statement.{statement}
 use Rattle.random.proofs.step.Tie as tie
 
-mul-cells : tie.Need-mul-cells
-mul-cells c = search needs
-
 top-requires : tie.Need-top-requires
 top-requires c κs = search needs
 
 count-requires : tie.Need-count-requires
-count-requires c κs = search needs
+count-requires c κs = let b = c .before .before .before .before .before .before .before .before .before .before in (b .pre .0, (b .pre .1 .0 .0, c .before .before .before .before .top .ensures .0 .1, b .pre .1 .0 .2))
 
 draw-requires : tie.Need-draw-requires
 draw-requires c κs = search needs
@@ -27,57 +24,68 @@ enum-told c = search needs
 same-length : tie.Need-same-length
 same-length c = search needs
 
+same-length-2 : tie.Need-same-length-2
+same-length-2 c = search needs
+
 returns : tie.Need-returns
 returns c =
     let d = c .before .before in
     let n = d .before in
-    let t = n .before .before in
-    let a = t .before .before .before .before .args in
-    λ g s old st h e. step-dry (a .rows) (a .columns) g s old (a .work .now) (t .top .result) (n .count .result) (a .rows * a .columns) (a .draws .now) (a .list .now) (a .state) (d .draw .result)
-    (t .top .ensures g s old st) (n .count .ensures .0) (d .draw .ensures) (c .enum-told .given .1)
+    let t = n .before .before .before .before .before in
+    let a = t .before .before .before .before .before .before .args in
+    λ g s old st h e. (
+      step-dry (a .rows) (a .columns) g s old (a .work .now) (t .top .result) (n .count .result) (a .rows * a .columns) (a .draws .now) (a .list .now) (a .state) (d .draw .result)
+          (t .top .ensures .1 g s old st) (n .count .ensures .0) (d .draw .ensures) (c .enum-told .given .1),
+      t .top .ensures .0 .1,
+    )
 
 pick-requires : tie.Need-pick-requires
-pick-requires c κs = search needs
+pick-requires c κs = let b = c .before .before .before .before .before .before .before .before .before .before .before .before .before .before .before .before .before in (b .pre .0, (b .pre .1 .0 .0, c .before .before .before .before .before .before .before .before .before .before .before .top .ensures .0 .1, b .pre .1 .0 .2))
 
 take-requires : tie.Need-take-requires
 take-requires c κs =
-    let p = c .before .before in
-    let b = p .before .before .before .before .before .before .before .before .before .before .before .before in
+    let p = c .before .before .before in
+    let b = p .before .before .before .before .before .before .before .before .before .before .before .before .before .before .before .before .before .before in
     (b .pre .0, (search needs, picked-inside _ _ _ _ _ (b .pre .0) (p .pick .ensures), search needs))
-
-same-length-2 : tie.Need-same-length-2
-same-length-2 c = search needs
 
 same-length-3 : tie.Need-same-length-3
 same-length-3 c = search needs
 
+same-length-4 : tie.Need-same-length-4
+same-length-4 c = search needs
+
+same-length-5 : tie.Need-same-length-5
+same-length-5 c = search needs
+
 returns-2 : tie.Need-returns-2
 returns-2 c =
-    let m = c .before .before .before in
-    let p = m .before .before .before in
-    let o = p .before .before .before in
+    let m = c .before .before .before .before .before in
+    let p = m .before .before .before .before in
+    let o = p .before .before .before .before in
     let d = o .before .before in
     let n = d .before in
-    let t = n .before .before in
-    let a = t .before .before .before .before .args in
+    let t = n .before .before .before .before .before in
+    let a = t .before .before .before .before .before .before .args in
+    let y = m .take in
     λ g s old st h e. step-went (a .rows) (a .columns) g s old (a .work .now) (t .top .result) (n .count .result) (a .rows * a .columns) (a .draws .now) (a .list .now) (a .state) (d .draw .result)
-    (t .top .ensures g s old st) (n .count .ensures .0) (d .draw .ensures) _ _ (p .pick .result) (m .take .last .0) (m .take .last .1 .1 .1 .0) (m .take .result)
-    (reached-played g s (st .reached)) h (o .drawn .given .1) (p .pick .ensures) (λ k u z. m .take .ensures g s old st k u z e)
+    (t .top .ensures .1 g s old st) (n .count .ensures .0) (d .draw .ensures) _ _ (p .pick .result) (t .top .last .1 .1 .1 .0) (y .last .0) (y .last .1 .1 .1 .0) (y .last .1 .1 .1 .1 .0) (y .result)
+    (reached-played g s (st .reached)) h (o .drawn .given .1) (p .pick .ensures) (t .top .ensures .0 .1) (λ k u z. y .ensures g s old st k u z e)
 
 pub step-spec : {M : Type 1} → statement M
 step-spec =
     tie.close
     (tie.spec
-    mul-cells
     top-requires
     count-requires
     draw-requires
     enum-known-drawn
     enum-told
     same-length
+    same-length-2
     returns
     pick-requires
     take-requires
-    same-length-2
     same-length-3
+    same-length-4
+    same-length-5
     returns-2)

@@ -1,35 +1,35 @@
--- `choices::ties::count`: the candidates counted so far are those passed. Assumes nothing.
-use Prim.Native.Nat.{ℕ, _-_, _≤_}
+-- `choices::ties::count`: the candidates counted so far are those of the columns passed. Assumes nothing.
+use Prim.Native.Nat.{ℕ, _*_, _+_, _-_, _≤_}
 use native.Mathlib.Omega.{arith}
-use borrow.Author.Needs.{needs}
-use mathlib.Core.Path.{_≡_, ap, _∙_}
+use native.Mathlib.Nat.{mul-comm}
+use mathlib.Core.Path.{_∙_, _≡_, ap}
 use Rattle.game.specs.Lists.{count, range}
-use Rattle.area.proofs.Tests.{byte-le, count-none-yet, count-one-more}
 use Rattle.choices.specs.Tests.{candidateAt}
+use Rattle.choices.proofs.Skips.{count-column-more, count-no-column, next-column, passed-few}
 use Rattle.choices.proofs.ties.count.Statement.{statement}
 use Rattle.choices.proofs.ties.count.Tie as tie
 
 abbrev Inv-loop : tie.InvT-loop
-Inv-loop work cells top candidates₀ index₀ candidates index =
-    (index ≤ cells) × (candidates ≡ count (candidateAt top work) (range 0 index)) × (candidates ≤ index)
+Inv-loop work rows columns tops top from candidates₀ column₀ candidates column =
+    (column ≤ columns) × (candidates ≡ count (candidateAt top work) (range 0 (column * rows))) × (candidates ≤ column * rows)
 
 abbrev μ-loop : tie.MeasureT-loop
-μ-loop work cells top candidates₀ index₀ candidates index = cells - index
+μ-loop work rows columns tops top from candidates₀ column₀ candidates column = columns - column
 
 loop-holds : tie.Need-loop-holds Inv-loop μ-loop
-loop-holds c = (omega arith, count-none-yet (candidateAt (c .args .top) (c .args .work .now)) 0, omega arith)
+loop-holds c = let a = c .before .args in (omega arith, count-no-column (candidateAt (a .top) (a .work .now)) (a .rows), omega arith)
 
-candidate-requires : tie.Need-candidate-requires Inv-loop μ-loop
-candidate-requires c κs = omega arith
-
-cast-candidates : tie.Need-cast-candidates Inv-loop μ-loop
-cast-candidates c = search needs
+count-column-requires : tie.Need-count-column-requires Inv-loop μ-loop
+count-column-requires c κs = let b = c .before .before .before in (b .pre .0, (b .pre .1 .0, omega arith, b .pre .1 .1, b .pre .1 .2))
 
 add-candidates : tie.Need-add-candidates Inv-loop μ-loop
-add-candidates c = omega (arith, byte-le (c .candidate .result))
+add-candidates c =
+    let l = c .before .before in
+    let b = l .before .before in
+    omega (arith, passed-few (b .args .rows) (b .args .columns) (l .loop .column) (b .pre .0) (c .before .loop-test .taken), c .count-column .ensures .1, l .loop .inv .2)
 
-add-index : tie.Need-add-index Inv-loop μ-loop
-add-index c = omega arith
+add-column : tie.Need-add-column Inv-loop μ-loop
+add-column c = omega arith
 
 loop-less : tie.Need-loop-less Inv-loop μ-loop
 loop-less c = omega arith
@@ -37,18 +37,21 @@ loop-less c = omega arith
 loop-again : tie.Need-loop-again Inv-loop μ-loop
 loop-again c =
     let l = c .before .before .loop in
-    let a = c .before .before .before .args in (
+    let a = c .before .before .before .before .args in
+    let f = candidateAt (a .top) (a .work .now) in
+    let e = next-column (a .rows) (l .column) in (
       omega arith,
-      count-one-more (candidateAt (a .top) (a .work .now)) 0 (l .index) (l .candidates) (c .candidate .result) (omega arith) (l .inv .1) (c .candidate .ensures),
-      omega (arith, byte-le (c .candidate .result)),
+      count-column-more f (a .rows) (l .column) (l .candidates) (c .count-column .result) (l .inv .1) (c .count-column .ensures .0) ∙ ap (λ (k : ℕ). count f (range 0 k)) e,
+      omega (arith, e, c .count-column .ensures .1, l .inv .2),
     )
 
 returns : tie.Need-returns Inv-loop μ-loop
 returns c =
     let l = c .before .loop in
-    let a = c .before .before .args in
-    let e : l .index ≡ a .cells = omega arith in
-    (l .inv .1 ∙ ap (λ (k : ℕ). count (candidateAt (a .top) (a .work .now)) (range 0 k)) e, omega arith)
+    let a = c .before .before .before .args in
+    let e : l .column ≡ a .columns = omega arith in
+    let m = ap (λ (k : ℕ). k * a .rows) e ∙ mul-comm (a .columns) (a .rows) in
+    (l .inv .1 ∙ ap (λ (k : ℕ). count (candidateAt (a .top) (a .work .now)) (range 0 k)) m, omega (arith, m, l .inv .2))
 
 pub count-spec : {M : Type 1} → statement M
 count-spec =
@@ -57,10 +60,9 @@ count-spec =
     Inv-loop
     μ-loop
     loop-holds
-    candidate-requires
-    cast-candidates
+    count-column-requires
     add-candidates
-    add-index
+    add-column
     loop-less
     loop-again
     returns)

@@ -1,66 +1,76 @@
--- `choices::ties::pick`: the candidates passed are counted; the one at the place has as many before it. Assumes nothing.
-use Prim.Native.Nat.{ℕ, _-_, _≤_}
+-- `choices::ties::pick`: the candidates of the columns passed are counted, until the place is in a column. Assumes nothing.
+use Prim.Native.Nat.{ℕ, _*_, _+_, _-_, _≤_}
 use native.Mathlib.Omega.{arith}
-use mathlib.Core.Path.{_≡_, ap, sym, subst, _∙_}
-use mathlib.Core.Logic.{⊎-elim}
-use lib.Dec.{T}
-use Rattle.game.specs.Lists.{bit, count, range}
-use Rattle.game.proofs.Counts.{count-more}
-use Rattle.area.proofs.Tests.{count-none-yet}
+use native.Mathlib.Nat.{mul-comm}
+use mathlib.Core.Path.{_∙_, _≡_, ap}
+use Rattle.game.specs.Lists.{count, range}
 use Rattle.choices.specs.Tests.{candidateAt}
-use Rattle.choices.proofs.Passing.{kept-at, kept-past}
+use Rattle.choices.proofs.Passing.{kept-past}
+use Rattle.choices.proofs.Skips.{count-column-more, count-no-column, next-column, passed-few}
 use Rattle.choices.proofs.ties.pick.Statement.{statement}
 use Rattle.choices.proofs.ties.pick.Tie as tie
 
 abbrev Inv-loop : tie.InvT-loop
-Inv-loop work cells top place passed₀ index₀ passed index =
-    (index ≤ cells) × (passed ≡ count (candidateAt top work) (range 0 index)) × (passed ≤ index) × (passed ≤ place)
+Inv-loop work rows columns tops top from place passed₀ column₀ passed column =
+    (column ≤ columns) × (passed ≡ count (candidateAt top work) (range 0 (column * rows))) × (passed ≤ column * rows) × (passed ≤ place)
 
 abbrev μ-loop : tie.MeasureT-loop
-μ-loop work cells top place passed₀ index₀ passed index = cells - index
+μ-loop work rows columns tops top from place passed₀ column₀ passed column = columns - column
 
 loop-holds : tie.Need-loop-holds Inv-loop μ-loop
-loop-holds c = (omega arith, count-none-yet (candidateAt (c .args .top) (c .args .work .now)) 0, omega arith, omega arith)
+loop-holds c = let a = c .before .args in (omega arith, count-no-column (candidateAt (a .top) (a .work .now)) (a .rows), omega arith, omega arith)
 
-candidate-requires : tie.Need-candidate-requires Inv-loop μ-loop
-candidate-requires c κs = omega arith
+count-column-requires : tie.Need-count-column-requires Inv-loop μ-loop
+count-column-requires c κs = let b = c .before .before .before in (b .pre .0, (b .pre .1 .0, omega arith, b .pre .1 .1, b .pre .1 .2))
+
+add-after : tie.Need-add-after Inv-loop μ-loop
+add-after c =
+    let l = c .before .before in
+    let b = l .before .before in
+    omega (arith, passed-few (b .args .rows) (b .args .columns) (l .loop .column) (b .pre .0) (c .before .loop-test .taken), c .count-column .ensures .1, l .loop .inv .2)
+
+pick-column-requires : tie.Need-pick-column-requires Inv-loop μ-loop
+pick-column-requires c κs =
+    let l = c .before .before .before in
+    let b = l .before .before in
+    (b .pre .0, (b .pre .1 .0, omega arith, l .loop .inv .3, l .loop .inv .1))
 
 returns : tie.Need-returns Inv-loop μ-loop
 returns c =
-    let l = c .before .before .before .before .loop in
-    let a = c .before .before .before .before .before .args in
+    let i = c .before in
+    let k = i .before in
+    let l = k .before .before in
+    let a = l .before .before .args in
     let f = candidateAt (a .top) (a .work .now) in
-    let t : T (f (l .index)) = subst T (sym (sym (c .before .before .candidate .ensures) ∙ c .before .if1 .taken)) tt in
-    kept-at f (a .cells) (l .index) (a .place) (omega arith) t (omega arith)
+    c .pick-column .ensures (omega (arith, i .if1 .taken, count-column-more f (a .rows) (l .loop .column) (l .loop .passed) (k .count-column .result) (l .loop .inv .1) (k .count-column .ensures .0)))
 
-add-passed : tie.Need-add-passed Inv-loop μ-loop
-add-passed c = omega arith
-
-add-index : tie.Need-add-index Inv-loop μ-loop
-add-index c = omega arith
+add-column : tie.Need-add-column Inv-loop μ-loop
+add-column c = omega arith
 
 loop-less : tie.Need-loop-less Inv-loop μ-loop
 loop-less c = omega arith
 
 loop-again : tie.Need-loop-again Inv-loop μ-loop
 loop-again c =
-    let l = c .before .before .before .loop in
-    let a = c .before .before .before .before .args in
+    let k = c .before in
+    let l = k .before .before .loop in
+    let a = k .before .before .before .before .args in
     let f = candidateAt (a .top) (a .work .now) in
-    let m = count-more f 0 (l .index) (omega arith) in
-    let e = c .before .candidate .ensures in
-    ⊎-elim
-    (λ u. let b = ap bit (sym e ∙ u .0 .taken) in omega arith)
-    (λ u. let b = ap bit (sym e ∙ u .0 .left) in omega arith)
-    (c .if1 .came)
+    let e = next-column (a .rows) (l .column) in (
+      omega arith,
+      count-column-more f (a .rows) (l .column) (l .passed) (k .count-column .result) (l .inv .1) (k .count-column .ensures .0) ∙ ap (λ (m : ℕ). count f (range 0 m)) e,
+      omega (arith, e, k .count-column .ensures .1, l .inv .2),
+      omega (arith, c .if1 .left),
+    )
 
 returns-2 : tie.Need-returns-2 Inv-loop μ-loop
 returns-2 c =
     let l = c .before .loop in
-    let a = c .before .before .args in
+    let a = c .before .before .before .args in
     let f = candidateAt (a .top) (a .work .now) in
-    let e : l .index ≡ a .cells = omega arith in
-    kept-past f (a .cells) (a .place) (omega (arith, ap (λ (k : ℕ). count f (range 0 k)) e))
+    let e : l .column ≡ a .columns = omega arith in
+    let m = ap (λ (k : ℕ). k * a .rows) e ∙ mul-comm (a .columns) (a .rows) in
+    kept-past f (a .rows * a .columns) (a .place) (omega (arith, l .inv .3, l .inv .1, ap (λ (k : ℕ). count f (range 0 k)) m))
 
 pub pick-spec : {M : Type 1} → statement M
 pick-spec =
@@ -69,10 +79,11 @@ pick-spec =
     Inv-loop
     μ-loop
     loop-holds
-    candidate-requires
+    count-column-requires
+    add-after
+    pick-column-requires
     returns
-    add-passed
-    add-index
+    add-column
     loop-less
     loop-again
     returns-2)

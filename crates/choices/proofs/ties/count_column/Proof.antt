@@ -1,0 +1,99 @@
+-- `choices::ties::count_column`: a column passed over has none; else the candidates counted so far are those passed. Assumes nothing.
+use Prim.Native.Nat.{ℕ, _*_, _+_, _-_, _≤_}
+use native.Mathlib.Omega.{arith}
+use native.Mathlib.Nat.{add-zero}
+use borrow.Author.Needs.{needs}
+use mathlib.Core.Path.{_∙_, _≡_, ap, subst, sym}
+use lib.Dec.{T}
+use Rattle.game.specs.Lists.{count, range}
+use Rattle.area.proofs.Tests.{byte-le, count-none-yet, count-one-more}
+use Rattle.choices.specs.Tests.{candidateAt}
+use Rattle.choices.proofs.Skips.{skipped-none}
+use Rattle.choices.proofs.ties.count_column.Statement.{statement}
+use Rattle.choices.proofs.ties.count_column.Tie as tie
+
+abbrev Inv-loop : tie.InvT-loop
+Inv-loop work rows columns tops top from column candidates₀ row₀ candidates row =
+    (row ≤ rows) × (candidates ≡ count (candidateAt top work) (range (column * rows) (column * rows + row))) × (candidates ≤ row)
+
+abbrev μ-loop : tie.MeasureT-loop
+μ-loop work rows columns tops top from column candidates₀ row₀ candidates row = rows - row
+
+skipped-requires : tie.Need-skipped-requires Inv-loop μ-loop
+skipped-requires c κs = let b = c .before in omega (arith, b .pre .1 .1, b .pre .1 .2 .room)
+
+returns : tie.Need-returns Inv-loop μ-loop
+returns c =
+    let k = c .before in
+    let b = k .before .before in
+    let a = b .args in (
+      skipped-none (a .work .now) (a .rows) (a .columns) (a .tops .now) (a .top) (a .from) (a .column) (b .pre .1 .2) (b .pre .1 .3) (b .pre .1 .1)
+          (subst T (sym (c .if1 .taken) ∙ k .skipped .ensures) tt),
+      omega arith,
+    )
+
+loop-holds : tie.Need-loop-holds Inv-loop μ-loop
+loop-holds c =
+    let a = c .before .before .before .args in
+    let f = candidateAt (a .top) (a .work .now) in
+    (omega arith, count-none-yet f (a .column * a .rows) ∙ ap (λ (k : ℕ). count f (range (a .column * a .rows) k)) (sym (add-zero (a .column * a .rows))), omega arith)
+
+cell-requires : tie.Need-cell-requires Inv-loop μ-loop
+cell-requires c κs =
+    let b = c .before .before .before .before .before in
+    let s = b .pre .0 in
+    (omega arith, b .pre .1 .1, omega (arith, s .few-rows), omega (arith, s .few-columns))
+
+candidate-requires : tie.Need-candidate-requires Inv-loop μ-loop
+candidate-requires c κs = omega (arith, c .cell .ensures .1, c .before .before .before .before .before .before .pre .1 .0)
+
+cast-candidates : tie.Need-cast-candidates Inv-loop μ-loop
+cast-candidates c = search needs
+
+add-candidates : tie.Need-add-candidates Inv-loop μ-loop
+add-candidates c = let s = c .before .before .before .before .before .before .before .pre .0 in omega (arith, byte-le (c .candidate .result), s .few-rows)
+
+add-row : tie.Need-add-row Inv-loop μ-loop
+add-row c = let s = c .before .before .before .before .before .before .before .pre .0 in omega (arith, s .few-rows)
+
+loop-less : tie.Need-loop-less Inv-loop μ-loop
+loop-less c = omega arith
+
+loop-again : tie.Need-loop-again Inv-loop μ-loop
+loop-again c =
+    let x = c .before in
+    let l = x .before .before in
+    let a = l .before .before .before .before .args in
+    let f = candidateAt (a .top) (a .work .now) in
+    let k = a .column * a .rows in
+    let up : k + l .loop .row + 1 ≡ k + (l .loop .row + 1) = omega arith in (
+      omega arith,
+      count-one-more f k (k + l .loop .row) (l .loop .candidates) (c .candidate .result) (omega arith) (l .loop .inv .1) (c .candidate .ensures ∙ ap f (x .cell .ensures .0))
+          ∙ ap (λ (m : ℕ). count f (range k m)) up,
+      omega (arith, byte-le (c .candidate .result)),
+    )
+
+returns-2 : tie.Need-returns-2 Inv-loop μ-loop
+returns-2 c =
+    let l = c .before .loop in
+    let a = c .before .before .before .before .before .args in
+    let e : l .row ≡ a .rows = omega arith in
+    (l .inv .1 ∙ ap (λ (k : ℕ). count (candidateAt (a .top) (a .work .now)) (range (a .column * a .rows) (a .column * a .rows + k))) e, omega arith)
+
+pub count-column-spec : {M : Type 1} → statement M
+count-column-spec =
+    tie.close
+    (tie.spec
+    Inv-loop
+    μ-loop
+    skipped-requires
+    returns
+    loop-holds
+    cell-requires
+    candidate-requires
+    cast-candidates
+    add-candidates
+    add-row
+    loop-less
+    loop-again
+    returns-2)
