@@ -74,7 +74,9 @@ fn count_column(
     let mut candidates: usize = 0;
     for row in 0..rows {
         let index = area::cell(rows, columns, row, column);
-        candidates += candidate(work, index, top) as usize;
+        if candidate(work, index, top) {
+            candidates += 1;
+        }
     }
     candidates
 }
