@@ -47,7 +47,7 @@ returns c =
     let t : T (f (x .cell .result)) = subst T (sym (sym (k .candidate .ensures) ∙ i .if1 .taken)) tt in
     let e = x .cell .ensures .0 in
     let h = cell-below (a .rows) (a .columns) (l .loop .row) (a .column) (omega arith) (b .pre .1 .1) in
-    kept-at f (a .rows * a .columns) (x .cell .result) (a .place) (omega (arith, e, h)) t (sym (c .if2 .taken) ∙ l .loop .inv .1 ∙ ap (λ (m : ℕ). count f (range 0 m)) (sym e))
+    kept-at f (a .rows * a .columns) (x .cell .result) (a .place) (omega (arith, e, h)) t (omega (arith, c .if2 .taken, l .loop .inv .1, l .loop .inv .2, ap (λ (m : ℕ). count f (range 0 m)) e))
 
 add-passed : tie.Need-add-passed Inv-loop μ-loop
 add-passed c = omega arith
