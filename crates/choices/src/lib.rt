@@ -1,6 +1,6 @@
 // Which cell a step takes.
-pub mod highest; // the highest premium, the lowest index
-pub mod kept; // the same, looking again only at columns that may have changed
+pub mod highest; // the highest premium of a column, the lowest index
+pub mod kept; // the same of all columns, looking again only at those that may have changed
 pub mod units; // the lowest closed unit
 pub mod ties; // the cells that a random step draws among
 

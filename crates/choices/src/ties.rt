@@ -74,7 +74,9 @@ fn count_column(
     let mut candidates: usize = 0;
     for row in 0..rows {
         let index = area::cell(rows, columns, row, column);
-        candidates += candidate(work, index, top) as usize;
+        if candidate(work, index, top) {
+            candidates += 1;
+        }
     }
     candidates
 }
@@ -110,7 +112,7 @@ fn pick_column(
     place: usize,
 ) -> usize
     requires { ⌜ Shape rows columns ⌝ }
-    requires { ⌜ (5 * (rows * columns) ≤ length (now work)) × (column < columns) × (before ≤ place) × (before ≡ count (candidateAt top (now work)) (range 0 (column * rows))) ⌝ }
+    requires { ⌜ (5 * (rows * columns) ≤ length (now work)) × (column < columns) × (before ≤ place) × (before ≡ count (candidateAt top (now work)) (range 0 (column * rows))) × (before ≤ column * rows) ⌝ }
     ensures { λ r. ⌜ (place < count (candidateAt top (now (work .entry))) (range 0 (column * rows + rows)) → r ≡ getD (keep (candidateAt top (now (work .entry))) (range 0 (rows * columns))) place 0) ⌝ }
 {
     let mut passed = before;

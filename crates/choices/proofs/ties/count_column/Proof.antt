@@ -2,11 +2,12 @@
 use Prim.Native.Nat.{ℕ, _*_, _+_, _-_, _≤_}
 use native.Mathlib.Omega.{arith}
 use native.Mathlib.Nat.{add-zero}
-use borrow.Author.Needs.{needs}
 use mathlib.Core.Path.{_∙_, _≡_, ap, subst, sym}
+use mathlib.Core.Logic.{⊎-elim}
 use lib.Dec.{T}
-use Rattle.game.specs.Lists.{count, range}
-use Rattle.area.proofs.Tests.{byte-le, count-none-yet, count-one-more}
+use Rattle.game.specs.Lists.{bit, count, range}
+use Rattle.game.proofs.Counts.{count-more}
+use Rattle.area.proofs.Tests.{count-none-yet}
 use Rattle.choices.specs.Tests.{candidateAt}
 use Rattle.choices.proofs.Skips.{skipped-none}
 use Rattle.choices.proofs.ties.count_column.Statement.{statement}
@@ -47,31 +48,31 @@ cell-requires c κs =
 candidate-requires : tie.Need-candidate-requires Inv-loop μ-loop
 candidate-requires c κs = omega (arith, c .cell .ensures .1, c .before .before .before .before .before .before .pre .1 .0)
 
-cast-candidates : tie.Need-cast-candidates Inv-loop μ-loop
-cast-candidates c = search needs
-
 add-candidates : tie.Need-add-candidates Inv-loop μ-loop
-add-candidates c = let s = c .before .before .before .before .before .before .before .pre .0 in omega (arith, byte-le (c .candidate .result), s .few-rows)
+add-candidates c = let s = c .before .before .before .before .before .before .before .before .pre .0 in omega (arith, s .few-rows)
 
 add-row : tie.Need-add-row Inv-loop μ-loop
-add-row c = let s = c .before .before .before .before .before .before .before .pre .0 in omega (arith, s .few-rows)
+add-row c = let s = c .before .before .before .before .before .before .before .before .pre .0 in omega (arith, s .few-rows)
 
 loop-less : tie.Need-loop-less Inv-loop μ-loop
 loop-less c = omega arith
 
 loop-again : tie.Need-loop-again Inv-loop μ-loop
 loop-again c =
-    let x = c .before in
-    let l = x .before .before in
-    let a = l .before .before .before .before .args in
+    let k = c .before in
+    let x = k .before in
+    let l = x .before .before .loop in
+    let a = x .before .before .before .before .before .before .args in
     let f = candidateAt (a .top) (a .work .now) in
-    let k = a .column * a .rows in
-    let up : k + l .loop .row + 1 ≡ k + (l .loop .row + 1) = omega arith in (
-      omega arith,
-      count-one-more f k (k + l .loop .row) (l .loop .candidates) (c .candidate .result) (omega arith) (l .loop .inv .1) (c .candidate .ensures ∙ ap f (x .cell .ensures .0))
-          ∙ ap (λ (m : ℕ). count f (range k m)) up,
-      omega (arith, byte-le (c .candidate .result)),
-    )
+    let j = a .column * a .rows + l .row in
+    let m = count-more f (a .column * a .rows) j (omega arith) in
+    let up : j + 1 ≡ a .column * a .rows + (l .row + 1) = omega arith in
+    let n = ap (λ (i : ℕ). count f (range (a .column * a .rows) i)) up in
+    let e = k .candidate .ensures ∙ ap f (x .cell .ensures .0) in
+    ⊎-elim
+    (λ u. let b = ap bit (sym e ∙ u .0 .taken) in omega arith)
+    (λ u. let b = ap bit (sym e ∙ u .0 .left) in omega arith)
+    (c .if2 .came)
 
 returns-2 : tie.Need-returns-2 Inv-loop μ-loop
 returns-2 c =
@@ -91,7 +92,6 @@ count-column-spec =
     loop-holds
     cell-requires
     candidate-requires
-    cast-candidates
     add-candidates
     add-row
     loop-less

@@ -33,7 +33,7 @@ pick-column-requires : tie.Need-pick-column-requires Inv-loop μ-loop
 pick-column-requires c κs =
     let l = c .before .before .before in
     let b = l .before .before in
-    (b .pre .0, (b .pre .1 .0, omega arith, l .loop .inv .3, l .loop .inv .1))
+    (b .pre .0, (b .pre .1 .0, omega arith, l .loop .inv .3, l .loop .inv .1, l .loop .inv .2))
 
 returns : tie.Need-returns Inv-loop μ-loop
 returns c =

@@ -7,15 +7,16 @@ use mathlib.Core.Logic.{⊎-elim}
 use lib.Dec.{T}
 use Rattle.game.specs.Lists.{bit, count, range}
 use Rattle.game.proofs.Counts.{count-more}
-use Rattle.area.proofs.Cells.{cell-below, cells-few}
+use Rattle.area.proofs.Cells.{cell-below}
 use Rattle.choices.specs.Tests.{candidateAt}
 use Rattle.choices.proofs.Passing.{kept-at}
+use Rattle.choices.proofs.Skips.{passed-few}
 use Rattle.choices.proofs.ties.pick_column.Statement.{statement}
 use Rattle.choices.proofs.ties.pick_column.Tie as tie
 
 abbrev Inv-loop : tie.InvT-loop
 Inv-loop work rows columns top column before place passed₀ row₀ passed row =
-    (row ≤ rows) × (passed ≡ count (candidateAt top work) (range 0 (column * rows + row))) × (passed ≤ place)
+    (row ≤ rows) × (passed ≡ count (candidateAt top work) (range 0 (column * rows + row))) × (passed ≤ place) × (passed ≤ column * rows + row)
 
 abbrev μ-loop : tie.MeasureT-loop
 μ-loop work rows columns top column before place passed₀ row₀ passed row = rows - row
@@ -23,7 +24,7 @@ abbrev μ-loop : tie.MeasureT-loop
 loop-holds : tie.Need-loop-holds Inv-loop μ-loop
 loop-holds c =
     let a = c .args in
-    (omega arith, c .pre .1 .3 ∙ ap (λ (k : ℕ). count (candidateAt (a .top) (a .work .now)) (range 0 k)) (sym (add-zero (a .column * a .rows))), c .pre .1 .2)
+    (omega arith, c .pre .1 .3 ∙ ap (λ (k : ℕ). count (candidateAt (a .top) (a .work .now)) (range 0 k)) (sym (add-zero (a .column * a .rows))), c .pre .1 .2, omega (arith, c .pre .1 .4))
 
 cell-requires : tie.Need-cell-requires Inv-loop μ-loop
 cell-requires c κs =
@@ -47,10 +48,13 @@ returns c =
     let t : T (f (x .cell .result)) = subst T (sym (sym (k .candidate .ensures) ∙ i .if1 .taken)) tt in
     let e = x .cell .ensures .0 in
     let h = cell-below (a .rows) (a .columns) (l .loop .row) (a .column) (omega arith) (b .pre .1 .1) in
-    kept-at f (a .rows * a .columns) (x .cell .result) (a .place) (omega (arith, e, h)) t (sym (c .if2 .taken) ∙ l .loop .inv .1 ∙ ap (λ (m : ℕ). count f (range 0 m)) (sym e))
+    kept-at f (a .rows * a .columns) (x .cell .result) (a .place) (omega (arith, e, h)) t (omega (arith, c .if2 .taken, l .loop .inv .1, l .loop .inv .2, ap (λ (m : ℕ). count f (range 0 m)) e))
 
 add-passed : tie.Need-add-passed Inv-loop μ-loop
-add-passed c = omega arith
+add-passed c =
+    let l = c .before .before .before .before .before in
+    let b = l .before in
+    omega (arith, passed-few (b .args .rows) (b .args .columns) (b .args .column) (b .pre .0) (b .pre .1 .1), l .loop .inv .3)
 
 add-row : tie.Need-add-row Inv-loop μ-loop
 add-row c = let s = c .before .before .before .before .before .pre .0 in omega (arith, s .few-rows)
