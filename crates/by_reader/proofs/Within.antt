@@ -1,7 +1,7 @@
 -- A random call uses no more bytes than it is lent, so a reader's place after it is a place of its bytes, or its place before. Assumes nothing.
 use mathlib.Core.Path.{_≡_, refl, sym, ap, subst, _∙_}
 use mathlib.Core.Logic.{_⊎_, inl, inr}
-use Prim.Native.Nat.{ℕ, zero, suc, _+_, _-_, _<_, _≤_, _^_, min, zero-le}
+use Prim.Native.Nat.{ℕ, zero, suc, _-_, _<_, _≤_, _^_, min, zero-le}
 use native.Mathlib.Omega.{arith}
 use mathlib.Core.List.{List, [], _∷_, _++_}
 use mathlib.Core.Option.{Option, none, some}

@@ -1,9 +1,8 @@
 -- What stands in a run after a call: a round's moves as records, zeros after DRAWS, nothing new after another refusal; and the words of a replay. Assumes nothing.
-use Prim.Native.Nat.{ℕ, zero, suc, _≤_, _/_, _%_}
+use Prim.Native.Nat.{ℕ, zero, suc, _/_}
 use native.Mathlib.Nat.{zero-div, zero-mod}
 use mathlib.Core.Path.{_≡_, refl, ap, sym, _∙_}
-use mathlib.Core.List.{List, [], _∷_, _++_, map}
-use lib.IntN.{ℤ}
+use mathlib.Core.List.{List, _∷_, _++_, map}
 use lib.ListN.{drop, length, length-map, length-replicate, replicate, take}
 use lib.Seq.{take-append-seam}
 use Rattle.game.specs.Area.{clearedList, listOf}

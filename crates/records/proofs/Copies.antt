@@ -1,11 +1,10 @@
 -- A run with new entries written from its start: one entry more, the copy cut at the least length, and what stands where. Assumes nothing.
-use mathlib.Core.Path.{_≡_, refl, sym, ap, subst, _∙_}
+use mathlib.Core.Path.{_≡_, refl, ap}
 use mathlib.Core.Logic.{_⊎_, inl, inr}
-use Prim.Native.Nat.{ℕ, zero, suc, _+_, _<_, _≤_}
+use Prim.Native.Nat.{ℕ, zero, suc, _<_, _≤_}
 use native.Mathlib.Nat.{le-of-suc-le-suc, not-suc-le-zero}
-use native.Mathlib.Omega.{arith}
-use mathlib.Core.List.{List, [], _∷_, _++_, map}
-use lib.ListN.{length, take, drop, set, getD}
+use mathlib.Core.List.{List, [], _∷_, map}
+use lib.ListN.{length, take, set, getD}
 use Rattle.game.specs.Area.{begun}
 use Rattle.records.specs.Records.{Least, over}
 

@@ -1,6 +1,6 @@
 -- `by_reader::place_after`: each arm by the answer it is for. Assumes nothing.
-use Prim.Native.Nat.{ℕ, _<_, _^_}
-use mathlib.Core.Path.{_≡_, refl, sym, ap, subst}
+use Prim.Native.Nat.{_<_, _^_}
+use mathlib.Core.Path.{sym, ap, subst}
 use borrow.Author.Needs.{needs}
 use Rattle.by_reader.specs.Stands.{standsAt}
 use Rattle.zini.specs.declared.Rolled.{Rolled}

@@ -1,6 +1,6 @@
 -- `by_reader::random_round` meets its contract: a walk of its MIR, by hand. The reader's borrow is opened, and stays open over the calls of `round_from`, which is passed the work area and the list at their own lifetimes and copies of what the grid and the bytes own, and of `place_after`; it is closed at the reader with its new place.
 -- Assumes nothing.
-use mathlib.Core.Path.{_≡_, refl, sym, ap, subst, _∙_}
+use mathlib.Core.Path.{_≡_, refl, ap, _∙_}
 use Prim.Native.Nat.{ℕ, _<_, _^_}
 use mathlib.Core.List.{List, [], _∷_}
 use lib.IntN.{ℤ}

@@ -2,7 +2,6 @@
 use mathlib.Core.Path.{refl}
 use mathlib.Core.Logic.{inl, inr}
 use native.Mathlib.Omega.{arith}
-use Rattle.by_reader.specs.Stands.{Starts}
 use Rattle.by_reader.proofs.start_at.Statement.{statement}
 use Rattle.by_reader.proofs.start_at.Tie as tie
 

@@ -1,5 +1,5 @@
 -- `by_records::replay_within`: refused as the checks say, else the flat replay. Assumes nothing.
-use mathlib.Core.Path.{_≡_, ap, sym, _∙_}
+use mathlib.Core.Path.{ap, sym, _∙_}
 use mathlib.Core.List.{[], _∷_, _++_}
 use mathlib.Core.Option.{Option}
 use denote.Ref.{now}

@@ -1,5 +1,5 @@
 -- `by_records::written_by_roll`: each arm by the answer it is for. Assumes nothing.
-use mathlib.Core.Path.{_≡_, sym, ap, _∙_}
+use mathlib.Core.Path.{sym, ap, _∙_}
 use borrow.Author.Needs.{needs}
 use Rattle.zini.specs.Answers.{rolledAnswer}
 use Rattle.zini.specs.declared.Rolled.{Rolled}

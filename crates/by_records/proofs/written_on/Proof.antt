@@ -1,6 +1,6 @@
 -- `by_records::written_on`: each arm by the refusal it is for. Assumes nothing.
 use Prim.Native.Nat.{ℕ}
-use mathlib.Core.Path.{_≡_, sym, ap}
+use mathlib.Core.Path.{sym, ap}
 use borrow.Author.Needs.{needs}
 use Rattle.zini.specs.Answers.{pricedAnswer}
 use Rattle.zini.specs.declared.Priced.the-variants as Prices

@@ -1,6 +1,6 @@
 -- `reads::next_draw` meets its contract: a walk of its MIR, by hand. The reader is lent by a `&mut`: its borrow is opened, and stays open over the calls of `draws::draw` and `place_after`, which are passed a copy of what the bytes own, and it is closed at the reader with the next place.
 -- Assumes nothing.
-use mathlib.Core.Path.{_≡_, refl, sym, ap, subst, _∙_}
+use mathlib.Core.Path.{_≡_, refl, ap, subst, _∙_}
 use Prim.Native.Nat.{ℕ, _<_, _^_}
 use mathlib.Core.List.{List, [], _∷_}
 use mathlib.Core.Option.{Option}

@@ -1,7 +1,6 @@
 -- `records::least`: each arm is the least of what its tests leave. Assumes nothing.
 use mathlib.Core.Logic.{inl, inr}
 use native.Mathlib.Omega.{arith}
-use Rattle.records.specs.Records.{Least}
 use Rattle.records.proofs.least.Statement.{statement}
 use Rattle.records.proofs.least.Tie as tie
 

@@ -1,7 +1,7 @@
 -- `records::read_record` meets its contract: a walk of its MIR, by hand, with a BRANCH. Where k is below the count the read is an element's; else the record of zeros is made, which `getD` gives past the end.
 -- Assumes nothing.
-use mathlib.Core.Path.{_≡_, refl, sym}
-use Prim.Native.Nat.{ℕ, _+_, _*_, _<_, _≤_, _^_}
+use mathlib.Core.Path.{refl, sym}
+use Prim.Native.Nat.{ℕ, _*_, _<_, _≤_, _^_}
 use native.Mathlib.Omega.{arith}
 use mathlib.Core.List.{List, [], _∷_}
 use lib.Dec.{ltb→lt, nltb→le, lit<}

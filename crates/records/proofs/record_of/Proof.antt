@@ -1,11 +1,10 @@
 -- `records::record_of`: a row and a column are at most the index, and without rows the index is the row. Assumes nothing.
-use mathlib.Core.Path.{_≡_, sym}
-use Prim.Native.Nat.{ℕ, _/_, _%_, _<_, _≤_, _^_}
+use mathlib.Core.Path.{_≡_}
+use Prim.Native.Nat.{ℕ, _/_, _%_, _<_, _^_}
 use native.Mathlib.Nat.{div-le-self, div-zero, lt-of-le-of-lt, mod-le, mod-lt, mod-zero}
 use native.Mathlib.Omega.{arith}
 use borrow.Author.Needs.{needs}
 use Rattle.records.specs.Records.{recordOf}
-use Rattle.records.specs.declared.MoveRecord.{MoveRecord}
 use Rattle.records.proofs.record_of.Statement.{statement}
 use Rattle.records.proofs.record_of.Tie as tie
 
