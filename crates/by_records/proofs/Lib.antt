@@ -2,3 +2,4 @@
 pub mod Again
 pub mod Room
 pub mod Runs
+pub mod Once
