@@ -7,8 +7,9 @@ use mathlib.Mathlib.Logic.Function.Defs.{LeftInverse·injective}
 use lib.Dec.{eqb}
 use lib.ListN.{getD}
 use Rattle.game.specs.Calls.{Answer}
-use Rattle.lines.specs.PriceLine.{Price, heldPrice}
+use Rattle.lines.specs.PriceLine.{heldPrice}
 use Rattle.lines.specs.declared.price.Price as Struct
+use Rattle.reader.specs.Prices.{priceOf}
 use Rattle.reader.specs.Blocks.{DeskOutcome}
 use Rattle.reader.specs.Answers.{KeptDesk, answeredAnswer}
 use Rattle.reader.specs.declared.Refusal.the-variants.{Trace, Work}
@@ -32,8 +33,7 @@ block-once p r r′ held held′ out out′ k k′ = (
     back (Refused Trace) = refl
 
 -- a line priced
-pub price-once : (p : Price) (r r′ : Struct.Price) → heldPrice r ≡ p → heldPrice r′ ≡ p → r ≡ r′
-price-once p r r′ e e′ = LeftInverse·injective structOf heldPrice (λ r. refl) r r′ (e ∙ sym e′)
-  where
-    structOf : Price → Struct.Price
-    structOf q = record { number = q .number; units = q .units; greedy = q .greedy; «openings_first» = q .openings-first }
+pub price-once : (line : List ℕ) (r r′ : Struct.Price) → heldPrice r ≡ priceOf line → heldPrice r′ ≡ priceOf line → r ≡ r′
+price-once line r r′ e e′ =
+    let q : heldPrice r ≡ heldPrice r′ = e ∙ sym e′ in
+    λ i. record { number = q i .number; units = q i .units; greedy = q i .greedy; «openings_first» = q i .openings-first }
