@@ -1,4 +1,4 @@
--- Whether a cell, and whether a column, has one of two labels: by one test after the other. Assumes nothing.
+-- Whether a cell has one of two labels: by one test after the other; whether a column has a cell that passes a test. Assumes nothing.
 use Prim.Native.Nat.{ℕ, _*_, _+_, _<_, _≤_}
 use native.Mathlib.Omega.{arith}
 use native.Mathlib.Decide.{ℕ-discrete}
@@ -9,10 +9,10 @@ use borrow.Author.Tests.{eq-eqb, ne-eqb}
 use lib.Dec.{T, eqb}
 use lib.IntN.{ℤ}
 use Rattle.area.specs.Numbers.{numberAt}
-use Rattle.game.specs.Lists.{range}
+use Rattle.game.specs.Lists.{range, some-of}
 use Rattle.game.proofs.Members.{has-range, range-has, some-yes, yes-some}
 use Rattle.game.proofs.Truth.{T→true, no→false}
-use Rattle.choices.specs.Tops.{columnShares, oneOf, sharesAt}
+use Rattle.choices.specs.Tops.{oneOf, sharesAt}
 
 -- ---- a label
 
@@ -44,22 +44,21 @@ module _ (w : List ℤ) (first second i k : ℕ) (r : Bool) (o : r ≡ oneOf fir
 
 -- ---- a column
 
-module _ (w : List ℤ) (rows first second column : ℕ) where
+-- by a test of its cells, row after row
+module _ (f : ℕ → Bool) (rows column : ℕ) where
   abbrev in-row : ℕ → Bool
-  in-row row = sharesAt w first second (column * rows + row)
+  in-row row = f (column * rows + row)
 
-  pub column-has : (row i : ℕ) → row < rows → i ≡ column * rows + row → true ≡ sharesAt w first second i → true ≡ columnShares w rows first second column
+  pub column-has : (row i : ℕ) → row < rows → i ≡ column * rows + row → true ≡ f i → true ≡ some-of in-row (range 0 rows)
   column-has row i h e t =
-      sym (T→true (columnShares w rows first second column)
-      (some-yes in-row row (range 0 rows) (range-has 0 rows row (omega arith) h) (subst T (t ∙ ap (sharesAt w first second) e) tt)))
+      sym (T→true (some-of in-row (range 0 rows)) (some-yes in-row row (range 0 rows) (range-has 0 rows row (omega arith) h) (subst T (t ∙ ap f e) tt)))
 
   -- one row more
-  pub none-more : (row i : ℕ) → ((k : ℕ) → k < row → sharesAt w first second (column * rows + k) ≡ false) → i ≡ column * rows + row → sharesAt w first second i ≡ false
-      → (k : ℕ) → k < row + 1 → sharesAt w first second (column * rows + k) ≡ false
-  none-more row i n e f k h =
-      elim (ℕ-discrete k row) [ yes q ↦ ap in-row q ∙ ap (sharesAt w first second) (sym e) ∙ f | no q ↦ n k (omega arith) ]
+  pub none-more : (row i : ℕ) → ((k : ℕ) → k < row → f (column * rows + k) ≡ false) → i ≡ column * rows + row → f i ≡ false
+      → (k : ℕ) → k < row + 1 → f (column * rows + k) ≡ false
+  none-more row i n e t k h = elim (ℕ-discrete k row) [ yes q ↦ ap in-row q ∙ ap f (sym e) ∙ t | no q ↦ n k (omega arith) ]
 
-  pub column-none : (row : ℕ) → rows ≤ row → ((k : ℕ) → k < row → sharesAt w first second (column * rows + k) ≡ false) → false ≡ columnShares w rows first second column
+  pub column-none : (row : ℕ) → rows ≤ row → ((k : ℕ) → k < row → f (column * rows + k) ≡ false) → false ≡ some-of in-row (range 0 rows)
   column-none row h n =
-      sym (no→false (columnShares w rows first second column)
+      sym (no→false (some-of in-row (range 0 rows))
       (λ t. let p = yes-some in-row (range 0 rows) t in subst T (n (p .0) (omega (arith, has-range 0 rows (p .0) (p .1) .1))) (p .2)))
