@@ -13,7 +13,7 @@ use lib.Dec.{T, ltb}
 use lib.IntN.{ℤ}
 use Rattle.area.specs.Numbers.{numberAt}
 use Rattle.game.specs.Lists.{fold, from, has, range}
-use Rattle.game.proofs.Members.{fold-columns, has-cases, range-has}
+use Rattle.game.proofs.Members.{fold-columns, has-cases, has-head, has-range, has-tail, range-has}
 use Rattle.choices.specs.Picks.{bestOf, betterAt, columnBest}
 use Rattle.choices.specs.Tests.{lookedAt}
 use Rattle.choices.specs.Tops.{columnTop, firstOf, higherOf}
@@ -60,6 +60,17 @@ module _ (openedOnly : Bool) (w : List ℤ) where
       go true u (no k) = rw (le-ltb (b .top) here (omega arith)) (omega arith)
       go false u k = absurd u
 
+  -- a cell is passed over, or taken
+  taken-or : (b : Best) (i : ℕ) → (betterAt openedOnly w b i ≡ b) ⊎ (betterAt openedOnly w b i .at ≡ i)
+  taken-or b i = go (ltb (b .top) (numberAt w (5 * i + 2)) && lookedAt openedOnly w i)
+    where
+      new : Best
+      new = record { top = numberAt w (5 * i + 2); at = i }
+
+      go : (c : Bool) → (cond c new b ≡ b) ⊎ (cond c new b .at ≡ i)
+      go true = inr refl
+      go false = inl refl
+
   module _ (f : ℕ → ℕ) where
     scanned : Best → List ℕ → Best
     scanned b xs = fold (λ d x. betterAt openedOnly w d (f x)) b xs
@@ -90,6 +101,31 @@ module _ (openedOnly : Bool) (w : List ℤ) where
         ∙ sym (ap (λ (c : Bool). cond c (scanned (betterAt openedOnly w d (f x)) xs) b) (lt-ltb (b .top) (scanned (betterAt openedOnly w d (f x)) xs .top) (omega (arith, u .1, rises xs (betterAt openedOnly w d (f x)))))))
         (λ u. ap (λ (e : Best). scanned e xs) (u .0) ∙ from-both xs b (betterAt openedOnly w d (f x)) (u .1))
         (one-cell b d (f x) h)
+
+    -- the start, or one of the cells
+    one-of-them : (xs : List ℕ) (b : Best) → (scanned b xs ≡ b) ⊎ ((x : ℕ) × T (has x xs) × (scanned b xs .at ≡ f x))
+    unfolding scanned
+    one-of-them [] b = inl refl
+    one-of-them (x ∷ xs) b =
+        ⊎-elim
+        (λ e. ⊎-elim (λ q. inl (e ∙ q)) (λ q. inr (x, has-head x x xs refl, ap (λ (d : Best). d .at) e ∙ q)) (taken-or b (f x)))
+        (λ u. inr (u .0, has-tail (u .0) x xs (u .1), u .2))
+        (one-of-them xs (betterAt openedOnly w b (f x)))
+
+-- a premium of 10 or more is that of a cell of the column
+pub column-at : (openedOnly : Bool) (w : List ℤ) (rows n column : ℕ) (b : Best) → b ≡ columnBest openedOnly w rows (record { top = 9; at = n }) column → 10 ≤ b .top
+    → (column * rows ≤ b .at) × (b .at < column * rows + rows)
+unfolding scanned
+column-at openedOnly w rows n column b e h =
+    ⊎-elim (λ q. absurd (other h (ap (λ (d : Best). d .top) (e ∙ q))))
+    (λ u. inside (ap (λ (d : Best). d .at) e ∙ u .2) (has-range 0 rows (u .0) (u .1) .1))
+    (one-of-them openedOnly w (λ row. column * rows + row) (range 0 rows) (record { top = 9; at = n }))
+  where
+    other : {a : ℕ} → 10 ≤ a → a ≡ 9 → ⊥
+    other k q = omega arith
+
+    inside : {i row : ℕ} → i ≡ column * rows + row → row < rows → (column * rows ≤ i) × (i < column * rows + rows)
+    inside q k = (omega arith, omega arith)
 
 -- no cell of a column has more than the column's highest premium
 pub column-bound : (w : List ℤ) (rows column row : ℕ) → row < rows → numberAt w (5 * (column * rows + row) + 2) ≤ columnTop false w rows column

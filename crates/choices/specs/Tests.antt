@@ -11,6 +11,10 @@ use Rattle.area.specs.Numbers.{numberAt}
 abbrev pub lookedAt : Bool → List ℤ → ℕ → Bool
 lookedAt openedOnly w i = not openedOnly || eqb (numberAt w (5 * i + 3)) 1
 
+-- such a cell that has that raised premium
+abbrev pub topAt : Bool → ℕ → List ℤ → ℕ → Bool
+topAt openedOnly top w i = lookedAt openedOnly w i && eqb (numberAt w (5 * i + 2)) top
+
 -- a closed safe cell of number 0 or without label
 abbrev pub unitAt : List ℤ → ℕ → Bool
 unitAt w i =
