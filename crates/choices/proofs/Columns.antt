@@ -9,11 +9,12 @@ use mathlib.Core.Logic.{_⊎_, inl, inr, ⊎-elim}
 use mathlib.Core.Bool.{Bool, _&&_, cond, false, true}
 use mathlib.Core.List.{List, [], _∷_}
 use borrow.Author.Tests.{le-ltb, lt-ltb}
-use lib.Dec.{T, ltb}
+use lib.Dec.{T, ltb, ltb→lt}
 use lib.IntN.{ℤ}
 use Rattle.area.specs.Numbers.{numberAt}
 use Rattle.game.specs.Lists.{fold, from, has, range}
-use Rattle.game.proofs.Members.{fold-columns, has-cases, has-head, has-range, has-tail, range-has}
+use Rattle.game.proofs.Members.{first-of, fold-columns, has-cases, has-head, has-range, has-tail, range-has, rest-of}
+use Rattle.game.proofs.Truth.{and-left, and-right, no→false}
 use Rattle.choices.specs.Picks.{bestOf, betterAt, columnBest}
 use Rattle.choices.specs.Tests.{lookedAt}
 use Rattle.choices.specs.Tops.{columnTop, firstOf, higherOf}
@@ -132,6 +133,28 @@ pub column-bound : (w : List ℤ) (rows column row : ℕ) → row < rows → num
 unfolding scanned
 column-bound w rows column row h =
     none-higher false w (λ r. column * rows + r) (range 0 rows) (record { top = 9; at = 0 }) row (range-has 0 rows row (omega arith) h) tt
+
+-- where no premium of a column reaches 0, none is kept of it
+pub column-low : (openedOnly : Bool) (w : List ℤ) (rows column : ℕ)
+    → ((row : ℕ) → row < rows → T (lookedAt openedOnly w (column * rows + row)) → numberAt w (5 * (column * rows + row) + 2) ≤ 9) → columnTop openedOnly w rows column ≡ 9
+column-low openedOnly w rows column h = go (range 0 rows) (λ row t. h row (has-range 0 rows row t .1))
+  where
+    none : Best
+    none = record { top = 9; at = 0 }
+
+    stays : (i : ℕ) → (T (lookedAt openedOnly w i) → numberAt w (5 * i + 2) ≤ 9) → betterAt openedOnly w none i ≡ none
+    stays i f =
+        ap (λ (c : Bool). cond c (record { top = numberAt w (5 * i + 2); at = i }) none)
+        (no→false (ltb 9 (numberAt w (5 * i + 2)) && lookedAt openedOnly w i) (λ t.
+        let l = ltb→lt 9 (numberAt w (5 * i + 2)) (and-left (ltb 9 (numberAt w (5 * i + 2))) (lookedAt openedOnly w i) t) in
+        let k = f (and-right (ltb 9 (numberAt w (5 * i + 2))) (lookedAt openedOnly w i) t) in
+        omega arith))
+
+    go : (xs : List ℕ) → ((row : ℕ) → T (has row xs) → T (lookedAt openedOnly w (column * rows + row)) → numberAt w (5 * (column * rows + row) + 2) ≤ 9)
+        → fold (λ d row. betterAt openedOnly w d (column * rows + row)) none xs .top ≡ 9
+    go [] f = refl
+    go (x ∷ xs) f =
+        ap (λ (d : Best). fold (λ d row. betterAt openedOnly w d (column * rows + row)) d xs .top) (stays (column * rows + x) (first-of x xs f)) ∙ go xs (rest-of x xs f)
 
 -- ---- one column, then all
 

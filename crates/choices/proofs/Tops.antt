@@ -191,6 +191,15 @@ module _ (openedOnly : Bool) (g : Grid) (s : Position) (w : List ℤ) (n : ℕ) 
   unmet : bestOf openedOnly w n .top ≡ 9 → topCells openedOnly g s ≡ []
   unmet q = tops-none openedOnly g s w r (bestOf openedOnly w n .top) below (omega arith)
 
+  -- where no premium reaches 0, each that is looked at is lower
+  pub none-reaches : topCells openedOnly g s ≡ [] → (j : ℕ) → j < size g → T (lookedAt openedOnly w j) → numberAt w (5 * j + 2) ≤ 9
+  none-reaches q j h u =
+      ⊎-elim
+      (λ v. omega (arith, below j h u, v .0))
+      (λ l. absurd (subst (λ (xs : List ℕ). T (has (bestOf openedOnly w n .at) xs)) (sym (scanned l) ∙ q)
+      (has-keep (topAt openedOnly (bestOf openedOnly w n .top) w) (bestOf openedOnly w n .at) (range 0 n) (range-has 0 n (bestOf openedOnly w n .at) (omega arith) (l .inside)) (l .has-it))))
+      (passed-all openedOnly w n .which)
+
   -- a premium of 10 or more is that of a cell, the lowest that has it
   best-lowest : 10 ≤ bestOf openedOnly w n .top → Lowest openedOnly w n (bestOf openedOnly w n)
   best-lowest h = ⊎-elim (λ u. absurd (other h (u .0))) (λ l. l) (passed-all openedOnly w n .which)

@@ -15,7 +15,7 @@ ghost use Rattle.area.specs.Squares.{onGrid};
 ghost use Rattle.area.specs.Stages.{Shape, Stands};
 ghost use Rattle.choices.specs.Tests.{topAt};
 ghost use Rattle.choices.specs.Picks.{foundFirst};
-ghost use Rattle.choices.specs.Tops.{Far, Forgotten, Kept, MarkedOr, Parted, bordersClosed, closedZeroAt, columnShares, columnTop, firstOf, higherOf, keptOf, oneOf, sharesAt};
+ghost use Rattle.choices.specs.Tops.{Clicked, Far, Forgotten, Kept, MarkedOr, Parted, bordersClosed, closedZeroAt, columnShares, columnTop, firstOf, higherOf, keptOf, oneOf, sharesAt};
 
 // A byte as a wider number.
 pub fn wide(byte: u8) -> usize
@@ -24,8 +24,8 @@ pub fn wide(byte: u8) -> usize
     byte as usize
 }
 
-// The byte kept of a highest premium.
-fn kept_of(top: usize) -> u8
+// The byte kept of a number.
+pub fn kept_of(top: usize) -> u8
     ensures { λ r. ⌜ r ≡ keptOf top ⌝ }
 {
     if top < 255 {
@@ -304,11 +304,14 @@ pub fn forget(work: &[i32], rows: usize, columns: usize, tops: &mut [u8], index:
     ensures { λ _. ⌜ ((g : Grid) (s : Position) (old : List ℤ) → Stands rows columns g s old (now (work .entry)) → Forgotten g s index (now (tops .entry)) (now (tops .exit))) ⌝ }
 {
     forget_near(tops, index / rows);
+    let first = area::get(work, 5 * index);
+    if first == 0 {
+        return;
+    }
     if !borders_closed(work, rows, columns, index) {
         return;
     }
     let column = index / rows;
-    let first = area::get(work, 5 * index);
     let second = area::get(work, 5 * index + 1);
     forget_left(
         work,
@@ -320,4 +323,17 @@ pub fn forget(work: &[i32], rows: usize, columns: usize, tops: &mut [u8], index:
         second,
     );
     forget_right(work, rows, columns, tops, column + 3, first, second);
+}
+
+// Marks the columns that one L at a cell may change, where no premium reaches 0: its own, and for a 0-cell those of its opening too.
+pub fn forget_click(work: &[i32], rows: usize, columns: usize, tops: &mut [u8], index: usize)
+    requires { ⌜ Shape rows columns ⌝ }
+    requires { ⌜ (5 * (rows * columns) ≤ length (now work)) × (index < rows * columns) ⌝ }
+    ensures { λ _. ⌜ ((g : Grid) (s : Position) (old : List ℤ) → Stands rows columns g s old (now (work .entry)) → Clicked g s index (now (tops .entry)) (now (tops .exit))) ⌝ }
+{
+    if area::get(work, 5 * index + 4) == 1 {
+        forget(work, rows, columns, tops, index);
+        return;
+    }
+    forget_one(tops, index / rows);
 }
