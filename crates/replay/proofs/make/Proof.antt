@@ -1,12 +1,12 @@
--- `play::make`: the kind says which move the word is; past the grid, and of another kind, it is refused. Assumes nothing.
+-- `replay::make`: the kind says which move the word is; past the grid, and of another kind, it is refused. Assumes nothing.
 use Prim.Native.Nat.{_%_, _/_}
 use native.Mathlib.Omega.{arith}
 use mathlib.Core.Path.{_≡_}
 use Rattle.game.specs.Moves.{chord, flag, left}
-use Rattle.play.proofs.Makes.{as-read, other-kind, past, read-chord, read-flag, read-left}
+use Rattle.replay.proofs.Makes.{as-read, other-kind, past, read-chord, read-flag, read-left}
 use borrow.Author.Needs.{needs}
-use Rattle.play.proofs.make.Statement.{statement}
-use Rattle.play.proofs.make.Tie as tie
+use Rattle.replay.proofs.make.Statement.{statement}
+use Rattle.replay.proofs.make.Tie as tie
 
 cast-index : tie.Need-cast-index
 cast-index c = search needs

@@ -17,15 +17,15 @@ use Rattle.game.proofs.Played.{legal-inside}
 use Rattle.game.proofs.Squares.{square→}
 use Rattle.game.proofs.Truth.{T→true, and-both, and-left, and-right, eqb-no, eqb-yes, no→false}
 use Rattle.area.specs.Stages.{Stands}
 use Rattle.play.specs.Promises.{Chording, Revealing}
-use Rattle.play.specs.Replays.{Making}
+use Rattle.replay.specs.Replays.{Making}
 use Rattle.play.specs.Walks.{bareAt, kindAt, squareOf, stateAt}
-use Rattle.play.specs.declared.Made.{Made}
-use Rattle.play.specs.declared.Made.the-variants.{Illegal, Opened}
+use Rattle.replay.specs.declared.Made.{Made}
+use Rattle.replay.specs.declared.Made.the-variants.{Illegal, Opened}
 use Rattle.play.proofs.Changes.{flag-count}
 use Rattle.play.proofs.Chords.{square-of}
 use Rattle.play.proofs.Held.{kind-mine}
 use Rattle.play.proofs.Reveals.{flag-legal, inside, is-closed, is-mine, is-safe, is-zero, kind-read, not-closed, played, size-is, state-read}
 
 -- ---- all pass a test where none passes its opposite
 

@@ -1,12 +1,12 @@
--- `play::run`: so far the list was played as its replay goes; a refused move stops both. Assumes nothing.
+-- `replay::run`: so far the list was played as its replay goes; a refused move stops both. Assumes nothing.
 use Prim.Native.Nat.{_≤_, _-_}
 use native.Mathlib.Omega.{arith}
 use mathlib.Core.Path.{_≡_, refl}
 use lib.ListN.{length, take}
 use borrow.Author.Needs.{needs}
-use Rattle.play.proofs.Runs.{Midway, begins, ends, goes-on, stops}
-use Rattle.play.proofs.run.Statement.{statement}
-use Rattle.play.proofs.run.Tie as tie
+use Rattle.replay.proofs.Runs.{Midway, begins, ends, goes-on, stops}
+use Rattle.replay.proofs.run.Statement.{statement}
+use Rattle.replay.proofs.run.Tie as tie
 
 abbrev Inv-loop : tie.InvT-loop
 Inv-loop work₀ rows columns list count safe closed₀ place₀ work closed place = (place ≤ count) × (length work ≡ length work₀) × Midway rows columns work₀ (take count list) safe place closed work

@@ -1,13 +1,13 @@
--- `play::unflagged_row`: the mines of the cells passed are counted. Assumes nothing.
+-- `replay::unflagged_row`: the mines of the cells passed are counted. Assumes nothing.
 use Prim.Native.Nat.{_≤_, _<_, _+_, _*_, _-_}
 use native.Mathlib.Omega.{arith}
 use mathlib.Core.Path.{_≡_}
 use Rattle.game.specs.Lists.{count}
 use Rattle.play.specs.Walks.{bareAt, rowCells}
 use Rattle.play.proofs.Rows.{count-row, inside, row-none}
 use Rattle.play.proofs.Steps.{bit-small}
-use Rattle.play.proofs.unflagged_row.Statement.{statement}
-use Rattle.play.proofs.unflagged_row.Tie as tie
+use Rattle.replay.proofs.unflagged_row.Statement.{statement}
+use Rattle.replay.proofs.unflagged_row.Tie as tie
 
 abbrev Inv-loop : tie.InvT-loop
 Inv-loop work rows columns row from to mines₀ column₀ mines column = (from ≤ column) × (column ≤ to) × (mines ≤ column - from) × (mines ≡ count (bareAt work) (rowCells rows row from column))

@@ -1,8 +1,8 @@
--- `play::make_flag`: a safe cell, and a mine that isn't closed, is refused; any other mine is flagged. Assumes nothing.
-use Rattle.play.proofs.Makes.{flag-safe, flag-state, flag-played}
+-- `replay::make_flag`: a safe cell, and a mine that isn't closed, is refused; any other mine is flagged. Assumes nothing.
+use Rattle.replay.proofs.Makes.{flag-safe, flag-state, flag-played}
 use borrow.Author.Needs.{needs}
-use Rattle.play.proofs.make_flag.Statement.{statement}
-use Rattle.play.proofs.make_flag.Tie as tie
+use Rattle.replay.proofs.make_flag.Statement.{statement}
+use Rattle.replay.proofs.make_flag.Tie as tie
 
 mul-get : tie.Need-mul-get
 mul-get c = search needs

@@ -1,9 +1,9 @@
--- `play::unflagged`: a safe cell and a flagged mine count nothing. Assumes nothing.
+-- `replay::unflagged`: a safe cell and a flagged mine count nothing. Assumes nothing.
 use Rattle.play.proofs.Steps.{bare-flagged, bare-mine, bare-safe}
 use native.Mathlib.Omega.{arith}
 use borrow.Author.Needs.{needs}
-use Rattle.play.proofs.unflagged.Statement.{statement}
-use Rattle.play.proofs.unflagged.Tie as tie
+use Rattle.replay.proofs.unflagged.Statement.{statement}
+use Rattle.replay.proofs.unflagged.Tie as tie
 
 mul-get : tie.Need-mul-get
 mul-get c = search needs

@@ -1,8 +1,8 @@
--- `play::chordable`: the cell is opened and no 0-cell, so the mines without flag decide. Assumes nothing.
-use Rattle.play.proofs.Makes.{mines-decide, not-opened, zero-opened}
+-- `replay::chordable`: the cell is opened and no 0-cell, so the mines without flag decide. Assumes nothing.
+use Rattle.replay.proofs.Makes.{mines-decide, not-opened, zero-opened}
 use borrow.Author.Needs.{needs}
-use Rattle.play.proofs.chordable.Statement.{statement}
-use Rattle.play.proofs.chordable.Tie as tie
+use Rattle.replay.proofs.chordable.Statement.{statement}
+use Rattle.replay.proofs.chordable.Tie as tie
 
 mul-get : tie.Need-mul-get
 mul-get c = search needs

@@ -12,10 +12,10 @@ use Rattle.game.specs.Grid.{Grid}
 use Rattle.game.specs.Moves.{Replayed, legalRead, playRead, readMove, replayFrom, stopped}
 use Rattle.game.specs.Position.{Position, closedSafe}
 use Rattle.area.specs.Stages.{Stands}
-use Rattle.play.specs.Replays.{Making, Replaying}
-use Rattle.play.specs.declared.Made.{Made}
-use Rattle.play.specs.declared.Made.the-variants.{Illegal, Opened}
-use Rattle.play.specs.declared.Replay.the-variants.{Stopped, Whole}
+use Rattle.replay.specs.Replays.{Making, Replaying}
+use Rattle.replay.specs.declared.Made.{Made}
+use Rattle.replay.specs.declared.Made.the-variants.{Illegal, Opened}
+use Rattle.replay.specs.declared.Replay.the-variants.{Stopped, Whole}
 
 -- so many moves of a list were played: w stands for a position with so many safe cells closed, and the replay goes on from there
 pub record Onward (rows columns : ℕ) (g : Grid) (s : Position) (old : List ℤ) (ms : List ℕ) (place closed : ℕ) (w : List ℤ) : Type 0 where

@@ -1,8 +1,8 @@
--- `play::make_left`: a mine, and a cell that isn't closed, is refused; any other cell is revealed. Assumes nothing.
-use Rattle.play.proofs.Makes.{left-mine, left-state, left-played}
+-- `replay::make_left`: a mine, and a cell that isn't closed, is refused; any other cell is revealed. Assumes nothing.
+use Rattle.replay.proofs.Makes.{left-mine, left-state, left-played}
 use borrow.Author.Needs.{needs}
-use Rattle.play.proofs.make_left.Statement.{statement}
-use Rattle.play.proofs.make_left.Tie as tie
+use Rattle.replay.proofs.make_left.Statement.{statement}
+use Rattle.replay.proofs.make_left.Tie as tie
 
 mul-get : tie.Need-mul-get
 mul-get c = search needs

@@ -1,12 +1,12 @@
--- `play::unflagged_square`: the mines of the rows passed are counted; all rows are the square. Assumes nothing.
+-- `replay::unflagged_square`: the mines of the rows passed are counted; all rows are the square. Assumes nothing.
 use Prim.Native.Nat.{_≤_, _*_, _-_}
 use native.Mathlib.Omega.{arith}
 use mathlib.Core.Path.{_≡_}
 use Rattle.game.specs.Lists.{count}
 use Rattle.play.specs.Walks.{bareAt, blockCells}
 use Rattle.play.proofs.Rows.{block-none, count-block}
-use Rattle.play.proofs.unflagged_square.Statement.{statement}
-use Rattle.play.proofs.unflagged_square.Tie as tie
+use Rattle.replay.proofs.unflagged_square.Statement.{statement}
+use Rattle.replay.proofs.unflagged_square.Tie as tie
 
 abbrev Inv-loop : tie.InvT-loop
 Inv-loop work rows columns index first last from to mines₀ row₀ mines row = (first ≤ row) × (row ≤ last) × (mines ≤ 255 * (row - first)) × (mines ≡ count (bareAt work) (blockCells rows first row from to))

@@ -9,10 +9,10 @@ use Rattle.game.specs.Grid.{Grid}
 use Rattle.game.specs.Position.{Position, closedSafe}
 use Rattle.game.specs.Moves.{Move, Replayed, playRead, stopped, whole}
 use Rattle.area.specs.Stages.{Stands}
-use Rattle.play.specs.declared.Made.{Made}
-use Rattle.play.specs.declared.Made.the-variants.{Illegal, Opened}
-use Rattle.play.specs.declared.Replay.{Replay}
-use Rattle.play.specs.declared.Replay.the-variants.{Stopped, Whole}
+use Rattle.replay.specs.declared.Made.{Made}
+use Rattle.replay.specs.declared.Made.the-variants.{Illegal, Opened}
+use Rattle.replay.specs.declared.Replay.{Replay}
+use Rattle.replay.specs.declared.Replay.the-variants.{Stopped, Whole}
 
 -- a legal move was played: r says how many safe cells it opened, and v stands for the position after it
 pub record Moved (rows columns : ℕ) (g : Grid) (s : Position) (old : List ℤ) (m : Option Move) (r : Made) (v : List ℤ) : Type 0 where

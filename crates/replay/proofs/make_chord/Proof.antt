@@ -1,9 +1,9 @@
--- `play::make_chord`: a chord that may not be played is refused. Assumes nothing.
+-- `replay::make_chord`: a chord that may not be played is refused. Assumes nothing.
 use borrow.Author.Tests.{not-false, not-true}
-use Rattle.play.proofs.Makes.{chord-played, chord-refused}
+use Rattle.replay.proofs.Makes.{chord-played, chord-refused}
 use borrow.Author.Needs.{needs}
-use Rattle.play.proofs.make_chord.Statement.{statement}
-use Rattle.play.proofs.make_chord.Tie as tie
+use Rattle.replay.proofs.make_chord.Statement.{statement}
+use Rattle.replay.proofs.make_chord.Tie as tie
 
 chordable-requires : tie.Need-chordable-requires
 chordable-requires c κs = search needs
