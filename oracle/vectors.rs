@@ -1,4 +1,6 @@
 //! Writes the Rust's answers on some thousand boards, a line of hexadecimal each, for program `vectors` to replay (docs/VECTORS.md).
+//!
+//! A number is another seed; a second one asks for every grid up to 4 by 4 first, and then for so many times as many boards.
 mod boards;
 mod original;
 
@@ -94,26 +96,59 @@ fn large(dice: &mut Dice) -> (usize, usize) {
     (rows, dice.from_to(1024 / rows + 1, 2048 / rows))
 }
 
-fn run() {
-    let mut dice = Dice(11);
+/// Every grid up to 4 by 4.
+fn every(dice: &mut Dice) {
+    for (rows, columns) in (1..=4).flat_map(|rows| (1..=4).map(move |columns| (rows, columns))) {
+        for mines in 0..1u32 << (rows * columns) {
+            let value = |k| if mines >> k & 1 == 1 { -1 } else { 0 };
+            let values = (0..rows * columns).map(value).collect();
+            let board = Board {
+                rows,
+                columns,
+                values,
+            };
+            line(dice, &board, 1);
+        }
+    }
+}
+
+/// The boards of docs/VECTORS.md.
+fn some(dice: &mut Dice) {
     boards(
-        &mut dice,
+        dice,
         2000,
         |dice| (dice.from_to(1, 8), dice.from_to(1, 8)),
         (0, 100),
     );
-    boards(&mut dice, 100, |dice| (1, dice.from_to(1, 255)), (0, 100));
-    boards(&mut dice, 100, |dice| (dice.from_to(1, 255), 1), (0, 100));
+    boards(dice, 100, |dice| (1, dice.from_to(1, 255)), (0, 100));
+    boards(dice, 100, |dice| (dice.from_to(1, 255), 1), (0, 100));
     boards(
-        &mut dice,
+        dice,
         500,
         |dice| (dice.from_to(1, 20), dice.from_to(1, 20)),
         (0, 100),
     );
-    boards(&mut dice, 300, |_| (16, 30), (10, 30));
-    boards(&mut dice, 40, edge, (5, 60));
-    boards(&mut dice, 30, large, (0, 100));
-    boards(&mut dice, 4, |_| (32, 64), (10, 25));
+    boards(dice, 300, |_| (16, 30), (10, 30));
+    boards(dice, 40, edge, (5, 60));
+    boards(dice, 30, large, (0, 100));
+    boards(dice, 4, |_| (32, 64), (10, 25));
+}
+
+/// The number at a place of the command line.
+fn number_at(place: usize) -> Option<u64> {
+    let word = std::env::args().nth(place)?;
+    Some(word.parse().expect("a number"))
+}
+
+fn run() {
+    let mut dice = Dice(number_at(1).unwrap_or(11));
+    let times = number_at(2);
+    if times.is_some() {
+        every(&mut dice);
+    }
+    for _ in 0..times.unwrap_or(1) {
+        some(&mut dice);
+    }
 }
 
 fn main() {
