@@ -1,30 +1,33 @@
 -- There is only one answer and one end content of each lent run for the calls over runs: the promises are functions. Assumes nothing.
 use Prim.Native.Nat.{ℕ}
-use mathlib.Core.Path.{_∙_, _≡_, ap, sym}
+use mathlib.Core.Path.{_∙_, _≡_, subst, sym}
 use mathlib.Core.List.{List}
 use lib.IntN.{ℤ}
 use lib.ListN.{length}
-use Rattle.game.specs.Calls.{Answer, ListOutcome, replayCall}
+use Rattle.game.specs.Calls.{ListOutcome, replayCall}
 use Rattle.game.specs.Grid.{Grid}
+use Rattle.zini.specs.Answers.{Kept, pricedAnswer, replayedAnswer, rolledAnswer}
+use Rattle.zini.specs.declared.Priced.{Priced}
+use Rattle.zini.specs.declared.Replayed.{Replayed}
+use Rattle.zini.specs.declared.Rolled.{Rolled}
+use Rattle.zini.proofs.Once.{priced-once, replayed-once, rolled-once}
 use Rattle.records.specs.declared.MoveRecord.{MoveRecord}
 use Rattle.by_records.specs.Promises.{KeptReplay, KeptRun, replayWithin}
 
--- a round over a run
-pub run-once : (g : Grid) (p : ListOutcome) (before : List MoveRecord) (a a′ : Answer) (w w′ : List ℤ) (l l′ : List ℕ) (r r′ : List MoveRecord)
-    → KeptRun g p before a w l r → KeptRun g p before a′ w′ l′ r′ → (a ≡ a′) × (w ≡ w′) × (l ≡ l′) × (r ≡ r′)
-run-once g p before a a′ w w′ l l′ r r′ k k′ = (
-  k .flat .answers ∙ sym (k′ .flat .answers),
-  k .flat .leaves ∙ sym (k′ .flat .leaves),
-  k .flat .lists ∙ sym (k′ .flat .lists),
-  k .in-records ∙ sym (k′ .in-records),
-)
+module _ (g : Grid) (p : ListOutcome) (before : List MoveRecord) (w w′ : List ℤ) (l l′ : List ℕ) (run run′ : List MoveRecord) where
+  -- greedy and openings-first over a run
+  pub run-once : (r r′ : Priced) → KeptRun g p before (pricedAnswer r) w l run → KeptRun g p before (pricedAnswer r′) w′ l′ run′ → (r ≡ r′) × (w ≡ w′) × (l ≡ l′) × (run ≡ run′)
+  run-once r r′ k k′ = let e = priced-once p r r′ w w′ l l′ (k .flat) (k′ .flat) in (e .0, e .1, e .2, k .in-records ∙ sym (k′ .in-records))
+
+  -- a single random round over a run
+  pub rolled-run-once : (r r′ : Rolled) → KeptRun g p before (rolledAnswer r) w l run → KeptRun g p before (rolledAnswer r′) w′ l′ run′ → (r ≡ r′) × (w ≡ w′) × (l ≡ l′) × (run ≡ run′)
+  rolled-run-once r r′ k k′ = let e = rolled-once p r r′ w w′ l l′ (k .flat) (k′ .flat) in (e .0, e .1, e .2, k .in-records ∙ sym (k′ .in-records))
 
 -- a replay over a run
-pub replay-once : (g : Grid) (ws : List ℤ) (ms : List ℕ) (run : List MoveRecord) (n : ℕ) (a a′ : Answer) (w w′ : List ℤ) (l l′ : List ℕ)
-    → KeptReplay g ws ms run n a w l → KeptReplay g ws ms run n a′ w′ l′ → (a ≡ a′) × (w ≡ w′) × (l ≡ l′)
-replay-once g ws ms run n a a′ w w′ l l′ k k′ =
-    let e = k .words ∙ sym (k′ .words) in (
-      k .flat .answers ∙ ap (λ (x : List ℕ). replayWithin g ws (length run) n (replayCall g ws x n) .answer) e ∙ sym (k′ .flat .answers),
-      k .flat .leaves ∙ ap (λ (x : List ℕ). replayWithin g ws (length run) n (replayCall g ws x n) .work) e ∙ sym (k′ .flat .leaves),
-      e,
-    )
+pub replay-once : (g : Grid) (ws : List ℤ) (ms : List ℕ) (run : List MoveRecord) (n : ℕ) (r r′ : Replayed) (w w′ : List ℤ) (l l′ : List ℕ)
+    → KeptReplay g ws ms run n (replayedAnswer r) w l → KeptReplay g ws ms run n (replayedAnswer r′) w′ l′ → (r ≡ r′) × (w ≡ w′) × (l ≡ l′)
+replay-once g ws ms run n r r′ w w′ l l′ k k′ =
+    let same = k .words ∙ sym (k′ .words) in
+    let kept′ = subst (λ (x : List ℕ). Kept (replayWithin g ws (length run) n (replayCall g ws x n)) (replayedAnswer r′) w′) (sym same) (k′ .flat) in
+    let e = replayed-once (replayWithin g ws (length run) n (replayCall g ws l n)) r r′ w w′ (k .flat) kept′ in
+    (e .0, e .1, same)

@@ -172,6 +172,10 @@ module _ (g : Grid) (s : Position) (w : List ℤ) (r : Holds g s w) where
       has-keep (λ i. safe g i && (opened s i || not openedOnly)) i (cells g) (→cells g i h)
       (and-both (safe g i) (opened s i || not openedOnly) t (subst T (looked-there openedOnly i h) u))
 
+  -- a cell of another kind is no 0-cell
+  pub other-kind : (i : ℕ) → i < size g → (numberAt w (5 * i + 4) ≡ 1 → ⊥) → T (zeroCell g i) → ⊥
+  other-kind i h f t = f (r .kinds i h ∙ eqb→eq (kind g i) 1 (subst T (sym (zero-kind g i h)) t))
+
   -- a closed 0-cell
   pub closed-zero-there : (i : ℕ) → i < size g → closedZeroAt w i ≡ (zeroCell g i && closed s i)
   closed-zero-there i h =

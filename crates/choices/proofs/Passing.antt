@@ -10,8 +10,8 @@ use lib.Dec.{T}
 use lib.ListN.{List·getD-eq-default, getD}
 use Rattle.choices.specs.Picks.{foundFirst}
 use Rattle.game.specs.Lists.{bit, count, from, has, keep, range}
-use Rattle.game.proofs.Counts.{length-keep}
-use Rattle.game.proofs.Members.{first-of, has-cases, has-range, keep-has, rest-of}
+use Rattle.game.proofs.Counts.{count-none, length-keep}
+use Rattle.game.proofs.Members.{first-of, has-cases, has-from, has-range, keep-has, rest-of}
 use Rattle.game.proofs.Orders.{Ordered}
 
 -- ---- lists in index order
@@ -92,3 +92,15 @@ kept-at f n i k h t e = kept-from f (n - 0) 0 i k (omega arith) (omega arith) t 
 
 pub kept-past : (f : ℕ → Bool) (n k : ℕ) → count f (range 0 n) ≤ k → 0 ≡ getD (keep f (range 0 n)) k 0
 kept-past f n k h = sym (List·getD-eq-default (keep f (range 0 n)) 0 (omega (arith, length-keep f (range 0 n))))
+
+-- ---- the first of a run
+
+pub first-at : (f : ℕ → Bool) (a b i : ℕ) → a ≤ i → i < b → T (f i) → ((j : ℕ) → a ≤ j → j < i → T (f j) → ⊥) → i ≡ getD (keep f (range a b)) 0 0
+first-at f a b i h k t n =
+    kept-from f (b - a) a i 0 h (omega arith) t
+    (sym (count-none f (from a (i - a)) (λ j u v. let r = has-from (i - a) a j u in n j (r .0) (omega (arith, r .1)) v)))
+
+pub first-none : (f : ℕ → Bool) (a b : ℕ) → ((j : ℕ) → a ≤ j → j < b → T (f j) → ⊥) → 0 ≡ getD (keep f (range a b)) 0 0
+first-none f a b n =
+    sym (ap (λ (l : List ℕ). getD l 0 0)
+    (none-there (keep f (range a b)) (λ x t. let k = keep-has f x (range a b) t in let r = has-range a b x (k .0) in n x (r .0) (r .1) (k .1))))

@@ -1,5 +1,5 @@
--- Whether a cell, and whether a column, has one of two labels: by one test after the other. Assumes nothing.
-use Prim.Native.Nat.{ℕ, _*_, _+_, _<_, _≤_}
+-- Whether a cell has one of two labels: by one test after the other. Whether a column has a cell that passes a test, and the first. Assumes nothing.
+use Prim.Native.Nat.{ℕ, _*_, _+_, _-_, _<_, _≤_}
 use native.Mathlib.Omega.{arith}
 use native.Mathlib.Decide.{ℕ-discrete}
 use mathlib.Core.Path.{_∙_, _≡_, ap, subst, sym}
@@ -8,11 +8,13 @@ use mathlib.Core.List.{List}
 use borrow.Author.Tests.{eq-eqb, ne-eqb}
 use lib.Dec.{T, eqb}
 use lib.IntN.{ℤ}
+use lib.ListN.{getD}
 use Rattle.area.specs.Numbers.{numberAt}
-use Rattle.game.specs.Lists.{range}
+use Rattle.game.specs.Lists.{keep, range, some-of}
 use Rattle.game.proofs.Members.{has-range, range-has, some-yes, yes-some}
 use Rattle.game.proofs.Truth.{T→true, no→false}
-use Rattle.choices.specs.Tops.{columnShares, oneOf, sharesAt}
+use Rattle.choices.specs.Tops.{oneOf, sharesAt}
+use Rattle.choices.proofs.Passing.{first-at, first-none}
 
 -- ---- a label
 
@@ -44,22 +46,36 @@ module _ (w : List ℤ) (first second i k : ℕ) (r : Bool) (o : r ≡ oneOf fir
 
 -- ---- a column
 
-module _ (w : List ℤ) (rows first second column : ℕ) where
+-- by a test of its cells, row after row
+module _ (f : ℕ → Bool) (rows column : ℕ) where
   abbrev in-row : ℕ → Bool
-  in-row row = sharesAt w first second (column * rows + row)
+  in-row row = f (column * rows + row)
 
-  pub column-has : (row i : ℕ) → row < rows → i ≡ column * rows + row → true ≡ sharesAt w first second i → true ≡ columnShares w rows first second column
+  pub column-has : (row i : ℕ) → row < rows → i ≡ column * rows + row → true ≡ f i → true ≡ some-of in-row (range 0 rows)
   column-has row i h e t =
-      sym (T→true (columnShares w rows first second column)
-      (some-yes in-row row (range 0 rows) (range-has 0 rows row (omega arith) h) (subst T (t ∙ ap (sharesAt w first second) e) tt)))
+      sym (T→true (some-of in-row (range 0 rows)) (some-yes in-row row (range 0 rows) (range-has 0 rows row (omega arith) h) (subst T (t ∙ ap f e) tt)))
 
   -- one row more
-  pub none-more : (row i : ℕ) → ((k : ℕ) → k < row → sharesAt w first second (column * rows + k) ≡ false) → i ≡ column * rows + row → sharesAt w first second i ≡ false
-      → (k : ℕ) → k < row + 1 → sharesAt w first second (column * rows + k) ≡ false
-  none-more row i n e f k h =
-      elim (ℕ-discrete k row) [ yes q ↦ ap in-row q ∙ ap (sharesAt w first second) (sym e) ∙ f | no q ↦ n k (omega arith) ]
+  pub none-more : (row i : ℕ) → ((k : ℕ) → k < row → f (column * rows + k) ≡ false) → i ≡ column * rows + row → f i ≡ false
+      → (k : ℕ) → k < row + 1 → f (column * rows + k) ≡ false
+  none-more row i n e t k h = elim (ℕ-discrete k row) [ yes q ↦ ap in-row q ∙ ap f (sym e) ∙ t | no q ↦ n k (omega arith) ]
 
-  pub column-none : (row : ℕ) → rows ≤ row → ((k : ℕ) → k < row → sharesAt w first second (column * rows + k) ≡ false) → false ≡ columnShares w rows first second column
+  pub column-none : (row : ℕ) → rows ≤ row → ((k : ℕ) → k < row → f (column * rows + k) ≡ false) → false ≡ some-of in-row (range 0 rows)
   column-none row h n =
-      sym (no→false (columnShares w rows first second column)
+      sym (no→false (some-of in-row (range 0 rows))
       (λ t. let p = yes-some in-row (range 0 rows) t in subst T (n (p .0) (omega (arith, has-range 0 rows (p .0) (p .1) .1))) (p .2)))
+
+  -- the first of its cells that passes
+  before : (row : ℕ) → ((k : ℕ) → k < row → f (column * rows + k) ≡ false) → (j : ℕ) → column * rows ≤ j → j < column * rows + row → T (f j) → ⊥
+  before row n j l h t = subst T (n (j - column * rows) (omega arith)) (subst (λ (i : ℕ). T (f i)) (there j l) t)
+    where
+      there : (j : ℕ) → column * rows ≤ j → j ≡ column * rows + (j - column * rows)
+      there j l = omega arith
+
+  pub column-first : (row i : ℕ) → row < rows → i ≡ column * rows + row → true ≡ f i → ((k : ℕ) → k < row → f (column * rows + k) ≡ false)
+      → i ≡ getD (keep f (range (column * rows) (column * rows + rows))) 0 0
+  column-first row i h e t n =
+      first-at f (column * rows) (column * rows + rows) i (omega arith) (omega arith) (subst T t tt) (λ j l k. before row n j l (omega arith))
+
+  pub column-first-none : (row : ℕ) → rows ≤ row → ((k : ℕ) → k < row → f (column * rows + k) ≡ false) → 0 ≡ getD (keep f (range (column * rows) (column * rows + rows))) 0 0
+  column-first-none row h n = first-none f (column * rows) (column * rows + rows) (λ j l k. before row n j l (omega arith))

@@ -1,13 +1,12 @@
--- A column that is passed over has no candidate: it is before every closed unit, or all of its premiums are lower. Assumes nothing.
+-- A column that is passed over has no candidate: all of its premiums are lower. Assumes nothing.
 use Prim.Native.Nat.{ℕ, _*_, _+_, _-_, _<_, _≤_, suc, zero}
 use native.Mathlib.Omega.{arith}
-use native.Mathlib.Decide.{decLt}
 use native.Mathlib.Nat.{add-zero, mul-le-mul-right, suc-mul}
 use native.Mathlib.Numerals.{add-one}
 use mathlib.Core.Path.{_∙_, _≡_, ap, subst, sym}
 use mathlib.Core.Bool.{Bool, _&&_, cond, false, not}
 use mathlib.Core.List.{List}
-use borrow.Author.Tests.{eq-eqb, le-ltb, lt-ltb}
+use borrow.Author.Tests.{eq-eqb, le-ltb}
 use lib.Dec.{T, eqb, eqb→eq, ltb, ltb→lt}
 use lib.IntN.{ℤ}
 use lib.ListN.{getD}
@@ -19,15 +18,22 @@ use Rattle.game.specs.Lists.{count, range}
 use Rattle.game.proofs.Counts.{count-more, count-none}
 use Rattle.game.proofs.Members.{has-range, range-none}
 use Rattle.game.proofs.Truth.{and-left, and-right}
-use Rattle.choices.specs.Tests.{NoUnitBelow, candidateAt, unitAt}
+use Rattle.choices.specs.Tests.{candidateAt, unitAt}
 use Rattle.choices.specs.Tops.{Kept, columnTop, skippedAt}
 use Rattle.choices.proofs.Columns.{column-bound}
 
 -- ---- no candidate in it
 
-module _ (w : List ℤ) (rows columns : ℕ) (tops : List ℕ) (top from column : ℕ) (kept : Kept false w rows columns tops) (low : NoUnitBelow w (from * rows)) (inside : column < columns) where
-  none-there : T (skippedAt top from tops column) → (row : ℕ) → row < rows → T (candidateAt top w (column * rows + row)) → ⊥
-  none-there t row h u = go (decLt top 10)
+module _ (w : List ℤ) (rows columns : ℕ) (tops : List ℕ) (top column : ℕ) (kept : Kept false w rows columns tops) (chord : 10 ≤ top) (inside : column < columns) where
+  none-there : T (skippedAt top tops column) → (row : ℕ) → row < rows → T (candidateAt top w (column * rows + row)) → ⊥
+  none-there t row h u =
+      omega (
+        arith,
+        eqb→eq (numberAt w (5 * here + 2)) top (subst (λ (c : Bool). T (cond c (unitAt w here) (eqb (numberAt w (5 * here + 2)) top))) (le-ltb top 10 chord) u),
+        kept .right column inside some,
+        ltb→lt (k - 1) top (and-right (not (eqb k 0)) (ltb (k - 1) top) t),
+        column-bound w rows column row h,
+      )
     where
       here : ℕ
       here = column * rows + row
@@ -35,19 +41,10 @@ module _ (w : List ℤ) (rows columns : ℕ) (tops : List ℕ) (top from column 
       k : ℕ
       k = getD tops column 0
 
-      go : Dec (top < 10) → ⊥
-      go (yes l) =
-          let e = lt-ltb top 10 l in
-          let b = ltb→lt column from (subst (λ (c : Bool). T (cond c (ltb column from) (not (eqb k 0) && ltb (k - 1) top))) e t) in
-          low .none here (omega (arith, mul-le-mul-right rows b)) (subst (λ (c : Bool). T (cond c (unitAt w here) (eqb (numberAt w (5 * here + 2)) top))) e u)
-      go (no l) =
-          let e = le-ltb top 10 (omega arith) in
-          let b = subst (λ (c : Bool). T (cond c (ltb column from) (not (eqb k 0) && ltb (k - 1) top))) e t in
-          let q = eqb→eq (numberAt w (5 * here + 2)) top (subst (λ (c : Bool). T (cond c (unitAt w here) (eqb (numberAt w (5 * here + 2)) top))) e u) in
-          let some : k ≡ 0 → ⊥ = λ z. subst (λ (c : Bool). T (not c)) (eq-eqb k 0 z) (and-left (not (eqb k 0)) (ltb (k - 1) top) b) in
-          omega (arith, q, kept .right column inside some, ltb→lt (k - 1) top (and-right (not (eqb k 0)) (ltb (k - 1) top) b), column-bound w rows column row h)
+      some : k ≡ 0 → ⊥
+      some z = subst (λ (c : Bool). T (not c)) (eq-eqb k 0 z) (and-left (not (eqb k 0)) (ltb (k - 1) top) t)
 
-  pub skipped-none : T (skippedAt top from tops column) → 0 ≡ count (candidateAt top w) (range (column * rows) (column * rows + rows))
+  pub skipped-none : T (skippedAt top tops column) → 0 ≡ count (candidateAt top w) (range (column * rows) (column * rows + rows))
   skipped-none t =
       sym (count-none (candidateAt top w) (range (column * rows) (column * rows + rows)) (λ j u v.
       let r = has-range (column * rows) (column * rows + rows) j u in

@@ -1,29 +1,30 @@
 -- The columns of an opening are without gap and its cells have its label: none that a cell borders reaches over a column without the cell's labels. Assumes nothing.
 use Prim.Native.Nat.{ℕ, _*_, _+_, _-_, _/_, _<_, _≤_}
 use native.Mathlib.Omega.{arith}
-use mathlib.Core.Path.{_∙_, _≡_, ap, ap₂, subst, sym}
+use mathlib.Core.Path.{_∙_, _≡_, ap, ap₂, refl, subst, sym}
 use mathlib.Core.Logic.{inl, inr, ⊎-elim}
-use mathlib.Core.Bool.{Bool, _&&_, _||_, false, not}
+use mathlib.Core.Bool.{Bool, _&&_, _||_, false, not, true}
 use mathlib.Core.List.{List}
 use lib.Dec.{T, eqb, eqb→eq, not-T}
 use lib.IntN.{ℤ}
 use lib.ListN.{length}
-use Rattle.game.specs.Grid.{Grid, columnOf, rowOf, size, square, zeroCell}
+use Rattle.game.specs.Grid.{Grid, columnOf, mine, rowOf, safe, size, square, zeroCell}
 use Rattle.game.specs.Lists.{has, range}
-use Rattle.game.specs.Openings.{firstLabel, holds, itself, joinedTo, secondLabel}
+use Rattle.game.specs.Openings.{firstLabel, holds, itself, joinedTo, secondLabel, unlabelled}
 use Rattle.game.specs.Position.{Position, closed}
-use Rattle.game.proofs.Labels.{first-seat}
-use Rattle.game.proofs.Members.{range-has, some-yes}
+use Rattle.game.proofs.Labels.{first-label, first-seat}
+use Rattle.game.proofs.Members.{range-has, some-yes, yes-some}
 use Rattle.game.proofs.Openings.{→joinedTo}
-use Rattle.game.proofs.Squares.{column-lt, index-of, row-lt, square→}
-use Rattle.game.proofs.Truth.{and-both, eqb-yes, or-cases, or-left, or-right}
-use Rattle.game.proofs.Zeros.{Zero}
+use Rattle.game.proofs.Reveal.{no-zero-near}
+use Rattle.game.proofs.Squares.{close-sym, column-lt, index-of, row-lt, square→}
+use Rattle.game.proofs.Truth.{and-both, and-left, eqb-yes, no→false, or-cases, or-left, or-right}
+use Rattle.game.proofs.Zeros.{Zero, zero→}
 use Rattle.area.specs.Numbers.{numberAt}
 use Rattle.area.specs.Stages.{Stands}
 use Rattle.area.proofs.Marks.{marked-held}
 use Rattle.area.proofs.Spans.{Within, held-spans}
-use Rattle.choices.specs.Tops.{Far, Forgotten, MarkedOr, Parted, Still, bordersClosed, columnShares, oneOf, sharesAt}
-use Rattle.choices.proofs.Held.{held-numbers}
+use Rattle.choices.specs.Tops.{Clicked, Far, Forgotten, MarkedOr, Parted, Still, bordersClosed, columnShares, oneOf, sharesAt}
+use Rattle.choices.proofs.Held.{held-numbers, other-kind}
 use Rattle.choices.proofs.Marks.{marked-also, marked-both}
 
 -- a label that is some k is one of two, of which one is k
@@ -125,4 +126,40 @@ module _ (rows columns : ℕ) (g : Grid) (s : Position) (old w : List ℤ) (i : 
         marks = λ c.
             marked-also tops right c (λ r. still-past from to c x y (r .0 .0) (λ k. labels c from (r .0 .1 k)) (λ k l. labels to c (r .1 k l)))
             (marked-both tops left right c (marked-both tops near left c (a .1 c) (b .1 c)) (d .1 c));
+      }
+
+  -- no opening has a cell without label
+  pub none-borders : 0 ≡ numberAt w (5 * i) → false ≡ bordersClosed g s i
+  none-borders e = sym (no→false (bordersClosed g s i) none)
+    where
+      bare : safe g i ≡ true → T (unlabelled g i)
+      bare b =
+          subst T (sym (first-label g i))
+          (and-both (safe g i) (eqb (firstLabel g i) 0) (subst T (sym b) tt) (subst T (sym (eqb-yes (firstLabel g i) 0 (sym (e ∙ held-numbers rows columns g s old w st .firsts i inside)))) tt))
+
+      near : (z : ℕ) → T (has z (square g i)) → Zero g z → (b : Bool) → mine g i ≡ b → ⊥
+      near z t n true m = zero→ g z i n inside (close-sym g i z (square→ g i z inside t .1)) (subst T (sym m) tt)
+      near z t n false m = no-zero-near g i z (bare (ap not m)) t n
+
+      none : T (bordersClosed g s i) → ⊥
+      none u =
+          let z = yes-some (λ j. zeroCell g j && closed s j) (square g i) u in
+          near (z .0) (z .1) (zero-there (z .0) (z .1) (and-left (zeroCell g (z .0)) (closed s (z .0)) (z .2))) (mine g i) refl
+
+  -- ---- what one L marks
+
+  pub clicked-opening : (tops tops′ : List ℕ) → Forgotten g s i tops tops′ → Clicked g s i tops tops′
+  clicked-opening tops tops′ f =
+      record { long = f .long; marks = λ c. marked-also tops tops′ c (λ k. record { other = away c (k .far); still = λ _. k }) (f .marks c) }
+    where
+      away : (c : ℕ) → Far c (columnOf g i) → c ≡ columnOf g i → ⊥
+      away c k e = ⊎-elim (λ l. omega arith) (λ l. omega arith) k
+
+  pub clicked-one : (tops tops′ : List ℕ) → (numberAt w (5 * i + 4) ≡ 1 → ⊥) → length tops′ ≡ length tops → ((c : ℕ) → MarkedOr (c ≡ i / rows → ⊥) tops tops′ c) → Clicked g s i tops tops′
+  clicked-one tops tops′ n l m =
+      record {
+        long = l;
+        marks = λ c.
+            marked-also tops tops′ c
+            (λ k. record { other = λ e. k (e ∙ own-column); still = λ z. absurd (other-kind g s w (held-numbers rows columns g s old w st) i inside n z) }) (m c);
       }

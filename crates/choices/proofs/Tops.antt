@@ -15,7 +15,7 @@ use lib.IntN.{ℤ}
 use lib.Signed.{leZ}
 use Rattle.area.specs.Numbers.{numberAt}
 use Rattle.choices.specs.Picks.{bestOf, betterAt, candidatesOf, forClick, foundFirst}
-use Rattle.choices.specs.Tests.{candidateAt, lookedAt, unitAt}
+use Rattle.choices.specs.Tests.{candidateAt, lookedAt, topAt, unitAt}
 use Rattle.game.specs.Grid.{Grid, cells, safe, size}
 use Rattle.game.specs.Lists.{fold, from, has, keep, range}
 use Rattle.game.specs.Position.{Position, opened, premium}
@@ -27,10 +27,6 @@ use Rattle.game.proofs.Members.{has-keep, keep-has, range-has}
 use Rattle.game.proofs.Orders.{ordered-keep, ordered-range}
 use Rattle.game.proofs.Squares.{cells→, →cells}
 use Rattle.game.proofs.Truth.{and-both, and-left, and-right, eqb-yes}
-
--- a cell that is looked at and has that raised premium
-abbrev topAt : Bool → ℕ → List ℤ → ℕ → Bool
-topAt openedOnly m w i = lookedAt openedOnly w i && eqb (numberAt w (5 * i + 2)) m
 
 top→looked : (openedOnly : Bool) (m : ℕ) (w : List ℤ) (i : ℕ) → T (topAt openedOnly m w i) → T (lookedAt openedOnly w i) × (numberAt w (5 * i + 2) ≡ m)
 top→looked openedOnly m w i t =
@@ -195,12 +191,28 @@ module _ (openedOnly : Bool) (g : Grid) (s : Position) (w : List ℤ) (n : ℕ) 
   unmet : bestOf openedOnly w n .top ≡ 9 → topCells openedOnly g s ≡ []
   unmet q = tops-none openedOnly g s w r (bestOf openedOnly w n .top) below (omega arith)
 
-  -- a premium of 10 or more is that of a cell
-  pub best-inside : 10 ≤ bestOf openedOnly w n .top → bestOf openedOnly w n .at < n
-  best-inside h = ⊎-elim (λ u. absurd (other h (u .0))) (λ l. l .inside) (passed-all openedOnly w n .which)
+  -- where no premium reaches 0, each that is looked at is lower
+  pub none-reaches : topCells openedOnly g s ≡ [] → (j : ℕ) → j < size g → T (lookedAt openedOnly w j) → numberAt w (5 * j + 2) ≤ 9
+  none-reaches q j h u =
+      ⊎-elim
+      (λ v. omega (arith, below j h u, v .0))
+      (λ l. absurd (subst (λ (xs : List ℕ). T (has (bestOf openedOnly w n .at) xs)) (sym (scanned l) ∙ q)
+      (has-keep (topAt openedOnly (bestOf openedOnly w n .top) w) (bestOf openedOnly w n .at) (range 0 n) (range-has 0 n (bestOf openedOnly w n .at) (omega arith) (l .inside)) (l .has-it))))
+      (passed-all openedOnly w n .which)
+
+  -- a premium of 10 or more is that of a cell, the lowest that has it
+  best-lowest : 10 ≤ bestOf openedOnly w n .top → Lowest openedOnly w n (bestOf openedOnly w n)
+  best-lowest h = ⊎-elim (λ u. absurd (other h (u .0))) (λ l. l) (passed-all openedOnly w n .which)
     where
       other : {a : ℕ} → 10 ≤ a → a ≡ 9 → ⊥
       other k q = omega arith
+
+  pub best-inside : 10 ≤ bestOf openedOnly w n .top → bestOf openedOnly w n .at < n
+  best-inside h = best-lowest h .inside
+
+  pub best-first : 10 ≤ bestOf openedOnly w n .top
+      → T (topAt openedOnly (bestOf openedOnly w n .top) w (bestOf openedOnly w n .at)) × ((j : ℕ) → j < bestOf openedOnly w n .at → T (topAt openedOnly (bestOf openedOnly w n .top) w j) → ⊥)
+  best-first h = let l = best-lowest h in (l .has-it, l .first)
 
   pub best-found : bestOf openedOnly w n .at < n → At (bestOf openedOnly w n .at) ≡ foundFirst (topCells openedOnly g s)
   best-found h =

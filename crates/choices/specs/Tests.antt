@@ -4,16 +4,25 @@ use mathlib.Core.Bool.{Bool, not, cond, _&&_, _||_}
 use mathlib.Core.List.{List}
 use lib.Dec.{T, eqb, ltb}
 use lib.IntN.{ℤ}
+use Rattle.game.specs.Lists.{range, some-of}
 use Rattle.area.specs.Numbers.{numberAt}
 
 -- a step may look at the cell: it is opened, unless closed cells count too
 abbrev pub lookedAt : Bool → List ℤ → ℕ → Bool
 lookedAt openedOnly w i = not openedOnly || eqb (numberAt w (5 * i + 3)) 1
 
+-- such a cell that has that raised premium
+abbrev pub topAt : Bool → ℕ → List ℤ → ℕ → Bool
+topAt openedOnly top w i = lookedAt openedOnly w i && eqb (numberAt w (5 * i + 2)) top
+
 -- a closed safe cell of number 0 or without label
 abbrev pub unitAt : List ℤ → ℕ → Bool
 unitAt w i =
     eqb (numberAt w (5 * i + 3)) 0 && not (eqb (numberAt w (5 * i + 4)) 0) && (eqb (numberAt w (5 * i + 4)) 1 || eqb (numberAt w (5 * i)) 0)
+
+-- such a cell stands in the column
+abbrev pub columnUnits : List ℤ → ℕ → ℕ → Bool
+columnUnits w rows column = some-of (λ row. unitAt w (column * rows + row)) (range 0 rows)
 
 -- a cell that a random step may take: of the highest raised premium if that is 10 or more, else a closed unit
 abbrev pub candidateAt : ℕ → List ℤ → ℕ → Bool

@@ -8,11 +8,12 @@ use lib.Dec.{T, eqb, ltb}
 use lib.IntN.{ℤ}
 use lib.ListN.{getD, length}
 use Rattle.game.specs.Grid.{Grid, columnOf, size, square, zeroCell}
-use Rattle.game.specs.Lists.{fold, has, range, some-of}
+use Rattle.game.specs.Lists.{count, fold, has, range, some-of}
 use Rattle.game.specs.Openings.{holds, joinedTo}
 use Rattle.game.specs.Position.{Position, closed}
 use Rattle.area.specs.Numbers.{numberAt}
 use Rattle.choices.specs.Picks.{columnBest}
+use Rattle.choices.specs.Tests.{unitAt}
 use Rattle.choices.specs.declared.Best.{Best}
 
 -- the highest raised premium of 10 or more in a column, 9 if there is none
@@ -24,9 +25,9 @@ pub record Kept (openedOnly : Bool) (w : List ℤ) (rows columns : ℕ) (tops : 
   pub room : columns ≤ length tops
   pub right : (c : ℕ) → c < columns → (getD tops c 0 ≡ 0 → ⊥) → getD tops c 0 ≡ columnTop openedOnly w rows c + 1
 
--- the byte kept of a highest premium: 1 more, or 0 where that is no byte
+-- the byte kept of a number: 1 more, or 0 where that is no byte
 abbrev pub keptOf : ℕ → ℕ
-keptOf top = cond (ltb top 255) (top + 1) 0
+keptOf n = cond (ltb n 255) (n + 1) 0
 
 -- the higher premium so far, and the first column that has it
 abbrev pub higherOf : Best → ℕ → ℕ → Best
@@ -37,9 +38,18 @@ abbrev pub firstOf : Bool → List ℤ → ℕ → ℕ → ℕ → Best
 firstOf openedOnly w rows columns n =
     fold (λ b column. higherOf b (columnTop openedOnly w rows column) column) (record { top = 9; at = columns }) (range 0 n)
 
--- a column that a random step passes over, where no closed unit is in the columns before one: for one L it is before that one, else a lower premium is kept of it
-abbrev pub skippedAt : ℕ → ℕ → List ℕ → ℕ → Bool
-skippedAt top from tops column = cond (ltb top 10) (ltb column from) (not (eqb (getD tops column 0) 0) && ltb (getD tops column 0 - 1) top)
+-- a column that a random step passes over: a lower premium is kept of it
+abbrev pub skippedAt : ℕ → List ℕ → ℕ → Bool
+skippedAt top tops column = not (eqb (getD tops column 0) 0) && ltb (getD tops column 0 - 1) top
+
+-- the closed units of a column
+abbrev pub columnUnits : List ℤ → ℕ → ℕ → ℕ
+columnUnits w rows column = count (unitAt w) (range (column * rows) (column * rows + rows))
+
+-- what is kept of each column's closed units: 1 more than their count, but 0 where they must be counted, and where marks has 0 it may be anything
+pub record UnitsKept (w : List ℤ) (rows columns : ℕ) (marks units : List ℕ) : Type 0 where
+  pub room : columns ≤ length units
+  pub right : (c : ℕ) → c < columns → (getD marks c 0 ≡ 0 → ⊥) → (getD units c 0 ≡ 0 → ⊥) → getD units c 0 ≡ columnUnits w rows c + 1
 
 -- ---- what moves at a cell may change
 
@@ -68,6 +78,16 @@ pub record Still (g : Grid) (s : Position) (i c : ℕ) : Type 0 where
 pub record Forgotten (g : Grid) (s : Position) (index : ℕ) (tops tops′ : List ℕ) : Type 0 where
   pub long : length tops′ ≡ length tops
   pub marks : (c : ℕ) → MarkedOr (Still g s index c) tops tops′ c
+
+-- one L at the cell leaves a column its closed units, and no premium in it rises: it is not the cell's own, and if the cell is a 0-cell, moves there leave it as it is
+pub record Beside (g : Grid) (s : Position) (i c : ℕ) : Type 0 where
+  pub other : c ≡ columnOf g i → ⊥
+  pub still : T (zeroCell g i) → Still g s i c
+
+-- marked at a cell that one L opens: the columns that it may change, where no premium reaches 0
+pub record Clicked (g : Grid) (s : Position) (index : ℕ) (tops tops′ : List ℕ) : Type 0 where
+  pub long : length tops′ ≡ length tops
+  pub marks : (c : ℕ) → MarkedOr (Beside g s index c) tops tops′ c
 
 -- ---- the columns that openings span
 

@@ -8,13 +8,14 @@ ghost use Prim.Native.Nat.{ℕ, _+_, _*_, _<_, _≤_, min};
 ghost use lib.IntN.{ℤ};
 ghost use lib.ListN.{getD, length};
 ghost use Rattle.game.specs.Grid.{Grid};
-ghost use Rattle.game.specs.Lists.{some-of};
+ghost use Rattle.game.specs.Lists.{keep, range, some-of};
 ghost use Rattle.game.specs.Position.{Position};
 ghost use Rattle.game.specs.Rounds.{topCells};
 ghost use Rattle.area.specs.Squares.{onGrid};
 ghost use Rattle.area.specs.Stages.{Shape, Stands};
+ghost use Rattle.choices.specs.Tests.{topAt};
 ghost use Rattle.choices.specs.Picks.{foundFirst};
-ghost use Rattle.choices.specs.Tops.{Far, Forgotten, Kept, MarkedOr, Parted, bordersClosed, closedZeroAt, columnShares, columnTop, firstOf, higherOf, keptOf, oneOf, sharesAt};
+ghost use Rattle.choices.specs.Tops.{Clicked, Far, Forgotten, Kept, MarkedOr, Parted, bordersClosed, closedZeroAt, columnShares, columnTop, firstOf, higherOf, keptOf, oneOf, sharesAt};
 
 // A byte as a wider number.
 pub fn wide(byte: u8) -> usize
@@ -23,8 +24,8 @@ pub fn wide(byte: u8) -> usize
     byte as usize
 }
 
-// The byte kept of a highest premium.
-fn kept_of(top: usize) -> u8
+// The byte kept of a number.
+pub fn kept_of(top: usize) -> u8
     ensures { λ r. ⌜ r ≡ keptOf top ⌝ }
 {
     if top < 255 {
@@ -94,6 +95,39 @@ pub fn first_column(
     found
 }
 
+// Whether a step may look at the cell, and it has the premium.
+fn has_top(work: &[i32], index: usize, opened_only: bool, top: usize) -> bool
+    requires { ⌜ 5 * index + 5 ≤ length (now work) ⌝ }
+    ensures { λ r. ⌜ r ≡ topAt «opened_only» top (now (work .entry)) index ⌝ }
+{
+    if area::get(work, 5 * index + 2) != top {
+        return false;
+    }
+    highest::looked(work, index, opened_only)
+}
+
+// The first such cell of a column; 0 if there is none.
+fn first_row(
+    work: &[i32],
+    rows: usize,
+    columns: usize,
+    column: usize,
+    opened_only: bool,
+    top: usize,
+) -> usize
+    requires { ⌜ Shape rows columns ⌝ }
+    requires { ⌜ (5 * (rows * columns) ≤ length (now work)) × (column < columns) ⌝ }
+    ensures { λ r. ⌜ r ≡ getD (keep (topAt «opened_only» top (now (work .entry))) (range (column * rows) (column * rows + rows))) 0 0 ⌝ }
+{
+    for row in 0..rows {
+        let at = area::cell(rows, columns, row, column);
+        if has_top(work, at, opened_only, top) {
+            return at;
+        }
+    }
+    0
+}
+
 // The lowest of the cells of highest premium, if that is 0 or more: only its column is looked at again, and those marked.
 pub fn best(work: &[i32], rows: usize, columns: usize, tops: &mut [u8], opened_only: bool) -> Found
     requires { ⌜ Shape rows columns ⌝ }
@@ -106,12 +140,7 @@ pub fn best(work: &[i32], rows: usize, columns: usize, tops: &mut [u8], opened_o
     if column >= columns {
         return Found::Nothing;
     }
-    let start = Best {
-        top: 9,
-        at: rows * columns,
-    };
-    let found = highest::scan_column(work, rows, columns, column, opened_only, start);
-    Found::At(found.at)
+    Found::At(first_row(work, rows, columns, column, opened_only, first.top))
 }
 
 // The place so many on from another, at most n.
@@ -275,11 +304,14 @@ pub fn forget(work: &[i32], rows: usize, columns: usize, tops: &mut [u8], index:
     ensures { λ _. ⌜ ((g : Grid) (s : Position) (old : List ℤ) → Stands rows columns g s old (now (work .entry)) → Forgotten g s index (now (tops .entry)) (now (tops .exit))) ⌝ }
 {
     forget_near(tops, index / rows);
+    let first = area::get(work, 5 * index);
+    if first == 0 {
+        return;
+    }
     if !borders_closed(work, rows, columns, index) {
         return;
     }
     let column = index / rows;
-    let first = area::get(work, 5 * index);
     let second = area::get(work, 5 * index + 1);
     forget_left(
         work,
@@ -291,4 +323,17 @@ pub fn forget(work: &[i32], rows: usize, columns: usize, tops: &mut [u8], index:
         second,
     );
     forget_right(work, rows, columns, tops, column + 3, first, second);
+}
+
+// Marks the columns that one L at a cell may change, where no premium reaches 0: its own, and for a 0-cell those of its opening too.
+pub fn forget_click(work: &[i32], rows: usize, columns: usize, tops: &mut [u8], index: usize)
+    requires { ⌜ Shape rows columns ⌝ }
+    requires { ⌜ (5 * (rows * columns) ≤ length (now work)) × (index < rows * columns) ⌝ }
+    ensures { λ _. ⌜ ((g : Grid) (s : Position) (old : List ℤ) → Stands rows columns g s old (now (work .entry)) → Clicked g s index (now (tops .entry)) (now (tops .exit))) ⌝ }
+{
+    if area::get(work, 5 * index + 4) == 1 {
+        forget(work, rows, columns, tops, index);
+        return;
+    }
+    forget_one(tops, index / rows);
 }

@@ -9,7 +9,7 @@ ghost use Rattle.game.specs.Grid.{Grid, size};
 ghost use Rattle.game.specs.Position.{Position};
 ghost use Rattle.game.specs.Rounds.{unitCells};
 ghost use Rattle.area.specs.Stages.{Shape, Stands};
-ghost use Rattle.choices.specs.Tests.{NoUnitBelow, unitAt};
+ghost use Rattle.choices.specs.Tests.{NoUnitBelow, columnUnits, unitAt};
 ghost use Rattle.choices.specs.Picks.{foundFirst};
 
 // Whether there is a closed safe cell of number 0 or without label.
@@ -30,22 +30,33 @@ pub fn unit(work: &[i32], index: usize) -> bool
     area::get(work, 5 * index) == 0
 }
 
-// A column before which there is none: the next one, where this one has none either.
+// Whether there is one in the column.
+fn has_unit(work: &[i32], rows: usize, columns: usize, column: usize) -> bool
+    requires { ⌜ Shape rows columns ⌝ }
+    requires { ⌜ (5 * (rows * columns) ≤ length (now work)) × (column < columns) ⌝ }
+    ensures { λ r. ⌜ r ≡ columnUnits (now (work .entry)) rows column ⌝ }
+{
+    for row in 0..rows {
+        let index = area::cell(rows, columns, row, column);
+        if unit(work, index) {
+            return true;
+        }
+    }
+    false
+}
+
+// Where there is none in the columns before one: the first column from there on that has one, or past the last.
 pub fn passed(work: &[i32], rows: usize, columns: usize, from: usize) -> usize
     requires { ⌜ Shape rows columns ⌝ }
     requires { ⌜ (5 * (rows * columns) ≤ length (now work)) × (from ≤ columns) × NoUnitBelow (now work) (from * rows) ⌝ }
     ensures { λ r. ⌜ (r ≤ columns) × NoUnitBelow (now (work .entry)) (r * rows) ⌝ }
 {
-    if from == columns {
-        return from;
-    }
-    for row in 0..rows {
-        let index = area::cell(rows, columns, row, from);
-        if unit(work, index) {
-            return from;
+    for column in from..columns {
+        if has_unit(work, rows, columns, column) {
+            return column;
         }
     }
-    from + 1
+    columns
 }
 
 // The lowest of them, where there is none in the columns before one: the search leaves both loops at the first that qualifies.

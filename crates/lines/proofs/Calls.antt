@@ -10,7 +10,7 @@ use lib.ListN.{length}
 use borrow.Author.Tests.{le-ltb, lt-ltb}
 use Rattle.game.specs.Grid.{size}
 use Rattle.game.specs.Area.{begun}
-use Rattle.game.specs.Calls.{Answer, Check, Refusal, board, firstGiven, gives, refuses}
+use Rattle.game.specs.Calls.{Check, Refusal, board, firstGiven, gives, refuses}
 use Rattle.lines.specs.BoardLine.{GridOutcome, boardLineCall, boardLineChecks, lineGrid, lineRefusal, roomCheck, unlessRefused}
 use Rattle.lines.specs.Answers.{KeptGrid}
 
@@ -63,8 +63,3 @@ module _ (line : List ℕ) (lent : List ℤ) where
   kept-read new rows columns e h r c q =
       subst (λ (x : GridOutcome). KeptGrid x (gives (rows ∷ columns ∷ [])) new) (outcome none (by none false e (le-ltb (length lent) (size (lineGrid line)) h)))
       (record { answers = λ i. gives (r i ∷ c i ∷ []); leaves = q })
-
--- ---- there is only one such answer
-
-pub grid-once : (x : GridOutcome) (a a′ : Answer) (v v′ : List ℤ) → KeptGrid x a v → KeptGrid x a′ v′ → (a ≡ a′) × (v ≡ v′)
-grid-once x a a′ v v′ k k′ = (k .answers ∙ sym (k′ .answers), k .leaves ∙ sym (k′ .leaves))

@@ -8,3 +8,4 @@ pub mod Calls
 pub mod Words
 pub mod MoveCalls
 pub mod Stores
+pub mod Once

@@ -212,8 +212,3 @@ module _ (rows columns : ℕ) (list : List ℕ) (n : ℕ) (lent : List ℕ) wher
       → KeptRun (writeMovesCall rows columns list n lent) (gives (digits ∷ [])) run
   unfolding writeMovesCall
   write-kept digits run e d w = run-else (firstGiven (writeChecks rows columns list n lent)) lent _ (gives (digits ∷ [])) run e (λ i. gives (d i ∷ [])) w
-
--- ---- there is only one such answer
-
-pub run-once : (x : RunOutcome) (a a′ : Answer) (r r′ : List ℕ) → KeptRun x a r → KeptRun x a′ r′ → (a ≡ a′) × (r ≡ r′)
-run-once x a a′ r r′ k k′ = (k .answers ∙ sym (k′ .answers), k .leaves ∙ sym (k′ .leaves))

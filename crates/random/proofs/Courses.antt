@@ -13,7 +13,6 @@ use Rattle.random.specs.declared.Stepped.{Stepped}
 use Rattle.random.specs.declared.Stepped.the-variants as Steps
 use Rattle.random.specs.declared.Rolled.the-variants as Rolls
 use Rattle.area.specs.Stages.{Shape, Stands}
-use Rattle.choices.specs.Tests.{NoUnitBelow}
 use Rattle.game.specs.Draws as Game
 use Rattle.game.specs.Draws.{draw}
 use Rattle.game.specs.Grid.{Grid}
@@ -32,7 +31,6 @@ use Rattle.game.proofs.Units.{after-append, units-at-most-cells, units-untouche
 use Rattle.rounds.proofs.Ending.{closed-alike}
 use Rattle.rounds.proofs.Falls.{step-falls, step-pays}
 use Rattle.rounds.proofs.Joins.{made-both, made-none}
-use Rattle.rounds.proofs.Lows.{low-stays}
 
 -- ---- the list past what was written
 
@@ -216,10 +214,6 @@ module _ (rows columns : ℕ) (g : Grid) (old : List ℤ) (bytes : List ℕ) (sa
 
       pub course-falls : t′ .closed < u .closed
       course-falls = omega (arith, went .0 .left-closed, step-falls g here step played fits, o .made .left-closed)
-
-      -- no closed unit comes back below a place
-      pub course-low : (k : ℕ) → k ≤ rows * columns → NoUnitBelow v k → NoUnitBelow w′ k
-      course-low k b n = low-stays rows columns g here old v w′ (step .moves) k (o .made .stands) (drew .2 .stands) b n
 
       pub course-goes-on : Course rows columns g old bytes safe at list w′ list′ t′
       course-goes-on = by (o .left-over) (o .enough) (o .rest)

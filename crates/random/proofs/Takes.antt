@@ -18,7 +18,7 @@ use lib.ListN.{List·getD-eq-default, getD, length}
 use Rattle.area.specs.Stages.{Shape}
 use Rattle.choices.specs.Picks.{candidatesOf, forClick}
 use Rattle.choices.specs.Tests.{candidateAt}
-use Rattle.choices.specs.Tops.{Kept}
+use Rattle.choices.specs.Tops.{Kept, UnitsKept}
 use Rattle.draws.specs.Answers.{drawnOf}
 use Rattle.game.specs.Draws.{draw}
 use Rattle.game.specs.Grid.{Grid, safe, zeroCell}
@@ -59,30 +59,30 @@ picked-inside rows columns f k i h e =
 -- what the moves at a cell ask for, and that they are a step's
 record Takes (g : Grid) (s : Position) (top i : ℕ) (ms : List Move) : Type 0 where
   is-safe : T (safe g i)
-  shut : top < 10 → T (closed s i)
+  shut : top < 10 → T (closed s i) × (topCells false g s ≡ [])
   no-zero : 10 ≤ top → T (zeroCell g i) → ⊥
   same : takenMoves g s top i ≡ ms
 
 takes : (g : Grid) (s : Position) (top i k : ℕ) → k < width (choice false g s) → ltb top 10 ≡ forClick (choice false g s) → i ≡ getD (candidatesOf (choice false g s)) k 0
     → Takes g s top i (stepOf g s (choice false g s) k .moves)
 unfolding choice
-takes g s top i k = go (topCells false g s) (top→ false g s)
+takes g s top i k = go (topCells false g s) refl (top→ false g s)
   where
     choose : List ℕ → Choice
     choose ts = elim ts [ [] ↦ clicks (unitCells g s) | x ∷ xs ↦ chords (x ∷ xs) ]
 
-    go : (ts : List ℕ) → ((x : ℕ) → T (has x ts) → Top false g s x) → k < width (choose ts) → ltb top 10 ≡ forClick (choose ts) → i ≡ getD (candidatesOf (choose ts)) k 0
+    go : (ts : List ℕ) → topCells false g s ≡ ts → ((x : ℕ) → T (has x ts) → Top false g s x) → k < width (choose ts) → ltb top 10 ≡ forClick (choose ts) → i ≡ getD (candidatesOf (choose ts)) k 0
         → Takes g s top i (stepOf g s (choose ts) k .moves)
-    go [] f l e q =
+    go [] z f l e q =
         let h : top < 10 = ltb→lt top 10 (rw e tt) in
         let u = unit→ g s i (rw q (getD-has (unitCells g s) k l)) in
         record {
           is-safe = u .is-safe;
-          shut = λ a. u .is-closed;
+          shut = λ a. (u .is-closed, z);
           no-zero = λ a z. absurd (omega arith);
           same = sym (click-taken g s top i h) ∙ ap (λ (j : ℕ). left j ∷ []) q;
         }
-    go (x ∷ xs) f l e q =
+    go (x ∷ xs) z f l e q =
         let n : 10 ≤ top = nltb→le top 10 (rw e tt) in
         let v = f i (rw q (getD-has (x ∷ xs) k l)) in
         let a = looked→ false g s i (v .is-looked) in
@@ -97,6 +97,10 @@ takes g s top i k = go (topCells false g s) (top→ false g s)
         }
 
 -- ---- one step
+
+-- the closed units kept are right, whatever else is marked
+pub any-marks : (w : List ℤ) (rows columns : ℕ) (marks units : List ℕ) → UnitsKept w rows columns units units → UnitsKept w rows columns marks units
+any-marks w rows columns marks units k = record { room = k .room; right = λ c h _ n. k .right c h n n }
 
 module _ (rows columns : ℕ) (g : Grid) (s : Position) (old w : List ℤ) (top n cells : ℕ) (bytes : List ℕ) (list : List ℕ) (t : State) (d : Drawn)
     (tells : (ltb top 10 ≡ forClick (choice false g s)) × (keep (candidateAt top w) (range 0 cells) ≡ candidatesOf (choice false g s)))
@@ -117,12 +121,12 @@ module _ (rows columns : ℕ) (g : Grid) (s : Position) (old w : List ℤ) (top 
       subst (λ (o : Option Game.Drawn). Stepping rows columns g s old o list t w w list Dry) (sym (ap drawnOf e) ∙ drawn-so)
       (record { answer = refl; same-work = refl; same-list = refl })
 
-  pub step-went : (p k i : ℕ) (tops : List ℕ) (w′ : List ℤ) (list′ tops′ : List ℕ) (r : State) → Played g s → 1 ≤ closedSafe g s → d ≡ Place p k → i ≡ getD (keep (candidateAt top w) (range 0 cells)) p 0
-      → Kept false w rows columns tops
-      → (T (safe g i) → (top < 10 → T (closed s i)) → (10 ≤ top → T (zeroCell g i) → ⊥)
-      → MadeKept rows columns g s old (takenMoves g s top i) list w tops (record { moves = t .moves; closed = t .closed; next = k }) w′ list′ tops′ r)
-      → Stepping rows columns g s old (draw bytes (t .next) (width (choice false g s))) list t w w′ list′ (Went r) × Kept false w′ rows columns tops′
-  step-went p k i tops w′ list′ tops′ r f h e q kept made =
+  pub step-went : (p k i : ℕ) (tops units : List ℕ) (w′ : List ℤ) (list′ tops′ : List ℕ) (r : State) → Played g s → 1 ≤ closedSafe g s → d ≡ Place p k → i ≡ getD (keep (candidateAt top w) (range 0 cells)) p 0
+      → Kept false w rows columns tops → UnitsKept w rows columns units units
+      → (T (safe g i) → (top < 10 → T (closed s i) × (topCells false g s ≡ [])) → (10 ≤ top → T (zeroCell g i) → ⊥)
+      → MadeKept false rows columns g s old (takenMoves g s top i) list w tops (record { moves = t .moves; closed = t .closed; next = k }) w′ list′ tops′ r)
+      → Stepping rows columns g s old (draw bytes (t .next) (width (choice false g s))) list t w w′ list′ (Went r) × Kept false w′ rows columns tops′ × UnitsKept w′ rows columns tops′ units
+  step-went p k i tops units w′ list′ tops′ r f h e q kept units-kept made =
       let o = sym (ap drawnOf e) ∙ drawn-so in
       let l = subst (IfSome (Rolled bytes (t .next) (width (choice false g s)))) (sym o) (rolled bytes (t .next) (width (choice false g s)) (never-stuck false g s f h)) in
       let a = takes g s top i p (l .inside) (tells .0) (q ∙ ap (λ (xs : List ℕ). getD xs p 0) (tells .1)) in
@@ -138,5 +142,6 @@ module _ (rows columns : ℕ) (g : Grid) (s : Position) (old w : List ℤ) (top 
               left-closed = m .left-closed;
               next-draw = m .next-draw;
             }),
-        b .kept false kept,
+        b .kept kept,
+        b .units-kept units units-kept,
       )

@@ -4,7 +4,7 @@ use rounds::State;
 use rounds::steps;
 ghost use mathlib.Core.Path.{_≡_};
 ghost use mathlib.Core.Bool.{cond, false};
-ghost use mathlib.Core.List.{List};
+ghost use mathlib.Core.List.{List, []};
 ghost use Prim.Native.Nat.{_*_, _^_, _<_, _≤_, min};
 ghost use lib.Dec.{T, eqb};
 ghost use lib.IntN.{ℤ};
@@ -13,10 +13,9 @@ ghost use Rattle.game.specs.Grid.{Grid, safe, zeroCell};
 ghost use Rattle.game.specs.Position.{Position, closed as isClosed, closedSafe, untouched};
 ghost use Rattle.game.specs.Moves.{Move, after};
 ghost use Rattle.game.specs.Draws.{draw};
-ghost use Rattle.game.specs.Rounds.{choice, width, randomRound, randomSearch, searchFrom};
+ghost use Rattle.game.specs.Rounds.{choice, topCells, width, randomRound, randomSearch, searchFrom};
 ghost use Rattle.area.specs.Stages.{Shape, Stands};
-ghost use Rattle.choices.specs.Tests.{NoUnitBelow};
-ghost use Rattle.choices.specs.Tops.{Kept};
+ghost use Rattle.choices.specs.Tops.{Kept, UnitsKept};
 ghost use Rattle.rounds.specs.Promises.{MadeKept, Fresh};
 ghost use Rattle.random.specs.Promises.{Counted, takenMoves, once, Stepping, Rolling, Searching};
 
@@ -46,8 +45,8 @@ fn take(
     requires { ⌜ Shape rows columns ⌝ }
     requires { ⌜ (5 * (rows * columns) ≤ length (now work)) × (index < rows * columns) × (state .moves ≤ 2 ^ 45) ⌝ }
     ensures { λ r. ⌜ ((g : Grid) (s : Position) (old : List ℤ) → Stands rows columns g s old (now (work .entry))
-        → T (safe g index) → (top < 10 → T (isClosed s index)) → (10 ≤ top → T (zeroCell g index) → ⊥) → state .closed ≡ closedSafe g s
-        → MadeKept rows columns g s old (takenMoves g s top index) (now (list .entry)) (now (work .entry)) (now (tops .entry)) state (now (work .exit)) (now (list .exit)) (now (tops .exit)) r) ⌝ }
+        → T (safe g index) → (top < 10 → T (isClosed s index) × (topCells false g s ≡ [])) → (10 ≤ top → T (zeroCell g index) → ⊥) → state .closed ≡ closedSafe g s
+        → MadeKept false rows columns g s old (takenMoves g s top index) (now (list .entry)) (now (work .entry)) (now (tops .entry)) state (now (work .exit)) (now (list .exit)) (now (tops .exit)) r) ⌝ }
 {
     if top < 10 {
         return steps::click_at(work, rows, columns, list, tops, state, index);
@@ -55,7 +54,7 @@ fn take(
     steps::act_at(work, rows, columns, list, tops, state, index)
 }
 
-// A step at a cell drawn among those of highest premium, or, if none reaches 0, among the closed units; there is none of these in the columns before one.
+// A step at a cell drawn among those of highest premium, or, if none reaches 0, among the closed units.
 pub fn step(
     work: &mut [i32],
     rows: usize,
@@ -63,24 +62,25 @@ pub fn step(
     list: &mut [u32],
     draws: &[u8],
     tops: &mut [u8],
+    units: &mut [u8],
     state: State,
-    from: usize,
 ) -> Stepped
     requires { ⌜ Shape rows columns ⌝ }
-    requires { ⌜ (5 * (rows * columns) ≤ length (now work)) × (state .moves ≤ 2 ^ 45) × NoUnitBelow (now work) (from * rows) ⌝ }
-    requires { ⌜ Kept false (now work) rows columns (now tops) ⌝ }
+    requires { ⌜ (5 * (rows * columns) ≤ length (now work)) × (state .moves ≤ 2 ^ 45) ⌝ }
+    requires { ⌜ Kept false (now work) rows columns (now tops) × UnitsKept (now work) rows columns (now tops) (now units) ⌝ }
     ensures { λ r. ⌜ ((g : Grid) (s : Position) (old : List ℤ) → Stands rows columns g s old (now (work .entry))
         → 1 ≤ closedSafe g s → state .closed ≡ closedSafe g s
         → Stepping rows columns g s old (draw (now (draws .entry)) (state .next) (width (choice false g s))) (now (list .entry)) state (now (work .entry)) (now (work .exit)) (now (list .exit)) r
-        × Kept false (now (work .exit)) rows columns (now (tops .exit))) ⌝ }
+        × Kept false (now (work .exit)) rows columns (now (tops .exit))
+        × UnitsKept (now (work .exit)) rows columns (now (tops .exit)) (now (units .exit))) ⌝ }
 {
-    let top = choices::ties::top(work, rows, columns, tops);
-    let candidates = choices::ties::count(work, rows, columns, tops, top, from);
+    let top = choices::ties::top(work, rows, columns, tops, units);
+    let candidates = choices::ties::count(work, rows, columns, tops, units, top);
     let drawn = draws::draw(draws, state.next, candidates);
     let Drawn::Place(place, next) = drawn else {
         return Stepped::Dry;
     };
-    let index = choices::ties::pick(work, rows, columns, tops, top, from, place);
+    let index = choices::ties::pick(work, rows, columns, tops, units, top, place);
     let onward = State {
         moves: state.moves,
         closed: state.closed,
@@ -97,13 +97,14 @@ fn roll_on(
     list: &mut [u32],
     draws: &[u8],
     tops: &mut [u8],
+    units: &mut [u8],
     safe: usize,
     next: usize,
 ) -> Rolled
     requires { ⌜ Shape rows columns ⌝ }
     requires { ⌜ 5 * (rows * columns) ≤ length (now work) ⌝ }
     requires { ⌜ Fresh rows columns (now work) safe ⌝ }
-    requires { ⌜ Kept false (now work) rows columns (now tops) ⌝ }
+    requires { ⌜ Kept false (now work) rows columns (now tops) × UnitsKept (now work) rows columns (now tops) (now units) ⌝ }
     ensures { λ r. ⌜ ((g : Grid) (old : List ℤ) → Stands rows columns g (untouched g) old (now (work .entry))
         → Rolling rows columns g old (randomRound g (now (draws .entry)) next) (now (list .entry)) (now (work .exit)) (now (list .exit)) r) ⌝ }
 {
@@ -112,10 +113,8 @@ fn roll_on(
         closed: safe,
         next,
     };
-    let mut from = 0;
     while 0 < state.closed {
-        from = choices::units::passed(work, rows, columns, from);
-        let stepped = step(work, rows, columns, list, draws, tops, state, from);
+        let stepped = step(work, rows, columns, list, draws, tops, units, state);
         let Stepped::Went(after) = stepped else {
             return Rolled::Dry;
         };
@@ -141,7 +140,18 @@ pub fn round(
         → Rolling rows columns g old (randomRound g (now (draws .entry)) next) (now (list .entry)) (now (work .exit)) (now (list .exit)) r) ⌝ }
 {
     let mut tops = [0u8; 255];
-    roll_on(work, rows, columns, list, draws, &mut tops, safe, next)
+    let mut units = [0u8; 255];
+    roll_on(
+        work,
+        rows,
+        columns,
+        list,
+        draws,
+        &mut tops,
+        &mut units,
+        safe,
+        next,
+    )
 }
 
 // A round that notes no move.

@@ -10,10 +10,8 @@ use lib.ListN.{getD, length, length-take, take}
 use Rattle.game.specs.Lists.{concat-map}
 use Rattle.game.specs.Calls.{Answer, Refusal, gives}
 use Rattle.zini.proofs.Verdict.{none≢some}
-use Rattle.lines.specs.PriceLine.{heldPrice}
-use Rattle.lines.specs.declared.price.Price as Struct
-use Rattle.reader.specs.Prices.{answerLine, priceOf}
-use Rattle.reader.specs.Blocks.{Desk, DeskOutcome, Fits, Keeps, Told, blockCall, blockRead, cutFrom, deskOf, endCall, endRead, joined, lastLine, printed, saidAt, unlessDesk}
+use Rattle.reader.specs.Prices.{answerLine}
+use Rattle.reader.specs.Blocks.{Desk, Fits, Keeps, Told, blockCall, blockRead, cutFrom, deskOf, endCall, endRead, joined, lastLine, printed, saidAt, unlessDesk}
 use Rattle.reader.specs.Answers.{KeptDesk, Room}
 use Rattle.reader.specs.Runs.{Runs, ends, goes}
 use Rattle.reader.proofs.Desks.{block-answers}
@@ -86,13 +84,3 @@ runs-from begun k (goes block blocks held out held′ out′ later count kept wr
 pub calls-print : (blocks : List (List ℕ)) (held said : List ℕ) → Runs blocks held 0 said → said ≡ printed (joined blocks)
 unfolding printed
 calls-print blocks held said r = runs-from [] (record { kept = refl; counted = refl }) r
-
--- ---- there is only one such answer
-
-pub desk-once : (x : DeskOutcome) (a a′ : Answer) (held held′ out out′ : List ℕ) → KeptDesk x a held out → KeptDesk x a′ held′ out′ → (a ≡ a′) × (held ≡ held′) × (out ≡ out′)
-desk-once x a a′ held held′ out out′ k k′ = (k .answers ∙ sym (k′ .answers), k .keeps ∙ sym (k′ .keeps), k .prints ∙ sym (k′ .prints))
-
-pub price-once : (line : List ℕ) (p p′ : Struct.Price) → heldPrice p ≡ priceOf line → heldPrice p′ ≡ priceOf line → p ≡ p′
-price-once line p p′ e e′ =
-    let q : heldPrice p ≡ heldPrice p′ = e ∙ sym e′ in
-    λ i. record { number = q i .number; units = q i .units; greedy = q i .greedy; «openings_first» = q i .openings-first }

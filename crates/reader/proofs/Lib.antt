@@ -9,3 +9,4 @@ pub mod Figures
 pub mod Boards
 pub mod Lines
 pub mod Calls
+pub mod Once

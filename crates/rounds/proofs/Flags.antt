@@ -1,16 +1,14 @@
 -- F on cells in turn: what is read of a cell says whether it is flagged, and no cell stands in a square twice. Assumes nothing.
-use Prim.Native.Nat.{ℕ, _*_, _<_, _≤_}
+use Prim.Native.Nat.{ℕ, _*_, _<_}
 use native.Mathlib.Omega.{arith}
 use mathlib.Core.Path.{_∙_, _≡_, ap, refl, subst, sym}
 use mathlib.Core.Bool.{Bool, _&&_, false, not, true}
 use mathlib.Core.List.{List, [], _++_, _∷_, map}
-use borrow.Author.Tests.{le-ltb, lt-ltb}
 use lib.Dec.{T, T-not, eqb}
 use lib.IntN.{ℤ}
 use lib.ListN.{getD, set}
 use lib.Seq.{getD-set-other}
 use Rattle.rounds.specs.declared.State.{State}
-use Rattle.area.specs.Squares.{onGrid}
 use Rattle.area.specs.Stages.{Stands}
 use Rattle.game.specs.Grid.{Grid, mine, square}
 use Rattle.game.specs.Lists.{has, keep}
@@ -26,7 +24,7 @@ use Rattle.game.proofs.Truth.{T→true, and-left, and-right, eqb-no, eqb-yes, n
 use Rattle.play.proofs.Changes.{flag-count}
 use Rattle.play.proofs.Chords.{square-of}
 use Rattle.play.proofs.Reveals.{inside, is-mine, is-safe, played, state-read}
-use Rattle.rounds.proofs.Joins.{made-none, made-one, over-none}
+use Rattle.rounds.proofs.Joins.{made-none, made-one}
 
 -- ---- cells in turn
 
@@ -102,14 +100,6 @@ module _ (rows columns : ℕ) (w : List ℤ) (list : List ℕ) (t : State) (i : 
           shut : (x : Bool) → false ≡ not x → T x
           shut true z = tt
           shut false z = subst T (sym z) tt
-
-  -- the cell is on the grid
-  pub on-it : {w′ : List ℤ} {list′ : List ℕ} {t′ : State} → Over flagsFrom (i ∷ []) rows columns w list t w′ list′ t′ → Over flagsFrom (onGrid (rows * columns) i) rows columns w list t w′ list′ t′
-  on-it o = rw (lt-ltb i (rows * columns) h) o
-
--- past the grid there is nothing to flag
-pub flag-past : (rows columns : ℕ) (w : List ℤ) (list : List ℕ) (t : State) (i : ℕ) → rows * columns ≤ i → Over flagsFrom (onGrid (rows * columns) i) rows columns w list t w list t
-flag-past rows columns w list t i h = rw (le-ltb i (rows * columns) h) (over-none flagsFrom rows columns w list t (λ g s. refl))
 
 -- ---- the square
 pub flags-square : (rows columns : ℕ) (w : List ℤ) (list : List ℕ) (t : State) (i : ℕ) (w′ : List ℤ) (list′ : List ℕ) (t′ : State)

@@ -1,5 +1,5 @@
--- A step at a cell changes cells of its square, and those of the openings that the closed 0-cells of its square are of: no premium in a column more than two away that has no cell of these. Assumes nothing.
-use Prim.Native.Nat.{ℕ, _*_, _+_, _-_, _<_}
+-- A step at a cell changes cells of its square, and those of the openings that the closed 0-cells of its square are of: no premium and no unit in a column more than two away that has no cell of these. Assumes nothing.
+use Prim.Native.Nat.{ℕ, _*_, _+_, _-_, _<_, _≤_}
 use native.Mathlib.Omega.{arith}
 use mathlib.Core.Path.{_∙_, _≡_, ap, ap₂, refl, subst, sym}
 use mathlib.Core.Logic.{_⊎_, ⊎-elim}
@@ -13,14 +13,15 @@ use Rattle.area.specs.Numbers.{numberAt}
 use Rattle.area.specs.Stages.{Stands, raised}
 use Rattle.choices.specs.declared.Best.{Best}
 use Rattle.choices.specs.Picks.{betterAt, columnBest}
-use Rattle.choices.specs.Tops.{Far, Still}
-use Rattle.game.specs.Grid.{Grid, columnOf, index, mine, size, square, zeroCell}
-use Rattle.game.specs.Lists.{Each, bit, fold, has, keep, range}
+use Rattle.choices.specs.Tests.{unitAt}
+use Rattle.choices.specs.Tops.{Far, Still, columnUnits}
+use Rattle.game.specs.Grid.{Grid, columnOf, index, mine, safe, size, square, zeroCell}
+use Rattle.game.specs.Lists.{Each, bit, count, fold, has, keep, range}
 use Rattle.game.specs.Moves.{Move, after, chord, flag, left, play, reveal, sweep}
 use Rattle.game.specs.Openings.{holds, joinedTo, openings, unlabelled}
 use Rattle.game.specs.Position.{Position, cellUnit, closed, cost, flagged, gain, openingClosed, unflagged}
 use Rattle.game.specs.Rounds.{movesAt}
-use Rattle.choices.proofs.Held.{held-numbers}
+use Rattle.choices.proofs.Held.{held-numbers, unit-there}
 use Rattle.game.proofs.Chains.{joined-trans}
 use Rattle.game.proofs.Counts.{count-each, count-ext, each-map}
 use Rattle.game.proofs.Members.{all-ext, first-of, fold-inv, has-range, keep-has, rest-of, some-yes, yes-some}
@@ -126,27 +127,58 @@ module _ (g : Grid) (s : Position) (i : ℕ) (inside : i < size g) where
 
 -- ---- a premium is told by the unlabelled cells and the mines of its square, the cell itself and the 0-cells of its openings
 
-module _ (g : Grid) (s s′ : Position) (j : ℕ) (own : getD s′ j 0 ≡ getD s j 0)
-    (bare : (k : ℕ) → T (has k (square g j)) → T (unlabelled g k) → getD s′ k 0 ≡ getD s k 0)
-    (mines : (k : ℕ) → T (has k (square g j)) → T (mine g k) → getD s′ k 0 ≡ getD s k 0)
-    (zeros : (o : List ℕ) → Full g o → T (holds g j o) → (k : ℕ) → T (has k o) → getD s′ k 0 ≡ getD s k 0) where
-  same-gain : gain g s′ j ≡ gain g s j
-  unfolding gain
-  same-gain =
-      ap₂ _+_
-      (count-each (λ o. holds g j o && openingClosed s′ o) (λ o. holds g j o && openingClosed s o) (openings g)
+module _ (g : Grid) (s s′ : Position) (j : ℕ) where
+  -- openings whose 0-cells keep their states
+  pub same-openings : ((o : List ℕ) → Full g o → T (holds g j o) → (k : ℕ) → T (has k o) → getD s′ k 0 ≡ getD s k 0)
+      → count (λ o. holds g j o && openingClosed s′ o) (openings g) ≡ count (λ o. holds g j o && openingClosed s o) (openings g)
+  same-openings zeros =
+      count-each (λ o. holds g j o && openingClosed s′ o) (λ o. holds g j o && openingClosed s o) (openings g)
       (each-map (openings g) (λ o f. and-under (holds g j o) (openingClosed s′ o) (openingClosed s o)
-      (λ t. all-ext (closed s′) (closed s) o (λ k u. ap (λ (x : ℕ). eqb x 0) (zeros o f t k u)))) (good g .full)))
+      (λ t. all-ext (closed s′) (closed s) o (λ k u. ap (λ (x : ℕ). eqb x 0) (zeros o f t k u)))) (good g .full))
+
+  same-gain : ((o : List ℕ) → Full g o → T (holds g j o) → (k : ℕ) → T (has k o) → getD s′ k 0 ≡ getD s k 0)
+      → ((k : ℕ) → T (has k (square g j)) → T (unlabelled g k) → getD s′ k 0 ≡ getD s k 0) → gain g s′ j ≡ gain g s j
+  unfolding gain
+  same-gain zeros bare =
+      ap₂ _+_ (same-openings zeros)
       (count-ext (cellUnit g s′) (cellUnit g s) (square g j) (λ k t. and-under (unlabelled g k) (closed s′ k) (closed s k)
       (λ u. ap (λ (x : ℕ). eqb x 0) (bare k t u))))
 
-  same-cost : cost g s′ j ≡ cost g s j
+  pub same-cost : getD s′ j 0 ≡ getD s j 0 → ((k : ℕ) → T (has k (square g j)) → T (mine g k) → getD s′ k 0 ≡ getD s k 0) → cost g s′ j ≡ cost g s j
   unfolding cost
-  same-cost =
+  same-cost own mines =
       ap₂ (λ (m n : ℕ). m + 1 + n)
       (count-ext (unflagged g s′) (unflagged g s) (square g j) (λ k t. and-under (mine g k) (not (flagged s′ k)) (not (flagged s k))
       (λ u. ap (λ (x : ℕ). not (eqb x 2)) (mines k t u))))
       (ap (λ (x : ℕ). bit (eqb x 0)) own)
+
+-- ---- a column whose cells keep their states keeps its closed units
+
+-- the cell in a row of a column
+pub in-column : (rows columns : ℕ) (g : Grid) → g .rows ≡ rows → g .columns ≡ columns → (row c : ℕ) → row < rows → c < columns
+    → (c * rows + row < size g) × (columnOf g (c * rows + row) ≡ c)
+in-column rows columns g r q row c h k =
+    let l : row < g .rows = omega arith in
+    let e : index g row c ≡ c * rows + row = ap (λ (n : ℕ). c * n + row) r in
+    (subst (λ (n : ℕ). n < size g) e (index-lt g row c l (omega arith)), sym (ap (columnOf g) e) ∙ index-column g row c l)
+
+pub same-units : (rows columns : ℕ) (g : Grid) (s s′ : Position) (old w w′ : List ℤ) → Stands rows columns g s old w → Stands rows columns g s′ old w′ → (c : ℕ) → c < columns
+    → ((j : ℕ) → j < size g → columnOf g j ≡ c → getD s′ j 0 ≡ getD s j 0) → columnUnits w′ rows c ≡ columnUnits w rows c
+same-units rows columns g s s′ old w w′ st st′ c h f =
+    count-ext (unitAt w′) (unitAt w) (range (c * rows) (c * rows + rows)) (λ j t.
+    let b = has-range (c * rows) (c * rows + rows) j t in
+    let e = there j (b .0) in
+    let k = in-column rows columns g (st .rows-are) (st .columns-are) (j - c * rows) c (omega (arith, b .0, b .1)) h in
+    one j (subst (λ (n : ℕ). n < size g) (sym e) (k .0)) (ap (columnOf g) e ∙ k .1))
+  where
+    there : (j : ℕ) → c * rows ≤ j → j ≡ c * rows + (j - c * rows)
+    there j l = omega arith
+
+    one : (j : ℕ) → j < size g → columnOf g j ≡ c → unitAt w′ j ≡ unitAt w j
+    one j l e =
+        sym (unit-there g s′ w′ (held-numbers rows columns g s′ old w′ st′) j l)
+        ∙ ap (λ (n : ℕ). safe g j && eqb n 0 && (zeroCell g j || unlabelled g j)) (f j l e)
+        ∙ unit-there g s w (held-numbers rows columns g s old w st) j l
 
 -- ---- more than two columns away, and in none of those openings
 
@@ -172,7 +204,7 @@ module _ (g : Grid) (s : Position) (i : ℕ) (inside : i < size g) (ms : List Mo
   -- a cell there keeps its gain, its cost and its state
   pub quiet : (j : ℕ) → j < size g → Still g s i (columnOf g j)
       → (gain g (after g s ms) j ≡ gain g s j) × (cost g (after g s ms) j ≡ cost g s j) × (getD (after g s ms) j 0 ≡ getD s j 0)
-  quiet j h still = (same-gain g s (after g s ms) j own bare mines zeros, same-cost g s (after g s ms) j own bare mines zeros, own)
+  quiet j h still = (same-gain g s (after g s ms) j zeros bare, same-cost g s (after g s ms) j own mines, own)
     where
       k : Kept g i s (after g s ms)
       k = kept g s i inside ms at
@@ -220,11 +252,8 @@ module _ (g : Grid) (s : Position) (i : ℕ) (inside : i < size g) (ms : List Mo
         one : (d : Best) (row : ℕ) → row < rows → betterAt openedOnly w′ d (c * rows + row) ≡ betterAt openedOnly w d (c * rows + row)
         one d row k =
             let j = c * rows + row in
-            let r = st .rows-are in
-            let l : row < g .rows = omega arith in
-            let e : index g row c ≡ j = ap (λ (n : ℕ). c * n + row) r in
-            let q = quiet-numbers j (subst (λ (n : ℕ). n < size g) e (index-lt g row c l (omega (arith, st .columns-are))))
-            (subst (Still g s i) (sym (index-column g row c l) ∙ ap (columnOf g) e) still) in
+            let e = in-column rows columns g (st .rows-are) (st .columns-are) row c k h in
+            let q = quiet-numbers j (e .0) (subst (Still g s i) (sym (e .1)) still) in
             ap₂ (λ (m n : ℕ). cond (ltb (d .top) m && (not openedOnly || eqb n 1)) (record { top = m; at = j }) d) (q .0) (q .1)
 
         go : (xs : List ℕ) (d : Best) → ((x : ℕ) → T (has x xs) → x < rows)
@@ -233,3 +262,7 @@ module _ (g : Grid) (s : Position) (i : ℕ) (inside : i < size g) (ms : List Mo
         go (x ∷ xs) d f =
             ap (λ (e : Best). fold (λ e row. betterAt openedOnly w′ e (c * rows + row)) e xs) (one d x (first-of x xs f))
             ∙ go xs (betterAt openedOnly w d (c * rows + x)) (rest-of x xs f)
+
+    -- and has the closed units that it had
+    pub quiet-units : (c : ℕ) → c < columns → Still g s i c → columnUnits w′ rows c ≡ columnUnits w rows c
+    quiet-units c h still = same-units rows columns g s (after g s ms) old w w′ st st′ c h (λ j l e. quiet j l (subst (Still g s i) (sym e) still) .2)

@@ -86,9 +86,10 @@ module _ (rows columns : ℕ) (w : List ℤ) (r : Found) where
           go (x ∷ xs) h m = rw (h .1) m
 
       pub click-taken : Played g s → 1 ≤ closedSafe g s → r ≡ Nothing
-          → (1 ≤ length (unitCells g s) → P (left (getD (unitCells g s) 0 0) ∷ []))
+          → (1 ≤ length (unitCells g s) → topCells openedOnly g s ≡ [] → P (left (getD (unitCells g s) 0 0) ∷ []))
           → P (stepOf g s (choice openedOnly g s) 0 .moves)
       click-taken p h e q =
-          let n = no-top g s openedOnly (found-none (topCells openedOnly g s) r e f) in
+          let z = found-none (topCells openedOnly g s) r e f in
+          let n = no-top g s openedOnly z in
           let l : 1 ≤ length (unitCells g s) = subst (λ (c : Choice). 1 ≤ width c) n (never-stuck openedOnly g s p h) in
-          rw n (q l)
+          rw n (q l z)

@@ -12,7 +12,7 @@ use Rattle.game.specs.Moves.{Move, after, word}
 use Rattle.game.specs.Area.{listOf}
 use Rattle.game.specs.Rounds.{Step, choice, firstClicks, greedySteps, openingsFirstSteps, stepOf}
 use Rattle.area.specs.Stages.{Stands}
-use Rattle.choices.specs.Tops.{Kept}
+use Rattle.choices.specs.Tops.{Kept, UnitsKept}
 use Rattle.rounds.specs.declared.State.{State}
 
 -- a move of a kind was noted, and the state carried on: one move more, so many cells fewer closed
@@ -30,10 +30,11 @@ pub record Made (rows columns : ℕ) (g : Grid) (s : Position) (old : List ℤ) 
   pub left-closed : t′ .closed ≡ closedSafe g (after g s ms)
   pub next-draw : t′ .next ≡ t .next
 
--- the same, and what is kept of the columns is right again
-pub record MadeKept (rows columns : ℕ) (g : Grid) (s : Position) (old : List ℤ) (ms : List Move) (list : List ℕ) (w : List ℤ) (tops : List ℕ) (t : State) (w′ : List ℤ) (list′ tops′ : List ℕ) (t′ : State) : Type 0 where
+-- the same, and what is kept of the columns is right again; so is what was kept of their closed units, but for those now marked
+pub record MadeKept (openedOnly : Bool) (rows columns : ℕ) (g : Grid) (s : Position) (old : List ℤ) (ms : List Move) (list : List ℕ) (w : List ℤ) (tops : List ℕ) (t : State) (w′ : List ℤ) (list′ tops′ : List ℕ) (t′ : State) : Type 0 where
   pub made : Made rows columns g s old ms list t w′ list′ t′
-  pub kept : (openedOnly : Bool) → Kept openedOnly w rows columns tops → Kept openedOnly w′ rows columns tops′
+  pub kept : Kept openedOnly w rows columns tops → Kept openedOnly w′ rows columns tops′
+  pub units-kept : (units : List ℕ) → UnitsKept w rows columns units units → UnitsKept w′ rows columns tops′ units
 
 -- a step by the lowest index was made, and what is kept of the columns is right again
 pub record StepKept (openedOnly : Bool) (rows columns : ℕ) (g : Grid) (s : Position) (old : List ℤ) (list : List ℕ) (t : State) (w′ : List ℤ) (list′ tops′ : List ℕ) (t′ : State) : Type 0 where

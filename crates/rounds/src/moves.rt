@@ -3,7 +3,7 @@ use crate::State;
 ghost use mathlib.Core.Path.{_≡_};
 ghost use mathlib.Core.Bool.{cond};
 ghost use mathlib.Core.List.{List, [], _∷_, map};
-ghost use Prim.Native.Nat.{ℕ, _+_, _*_, _^_, _<_, _≤_};
+ghost use Prim.Native.Nat.{ℕ, _+_, _-_, _*_, _^_, _<_, _≤_};
 ghost use lib.Dec.{T};
 ghost use lib.IntN.{ℤ};
 ghost use lib.ListN.{length, set};
@@ -12,8 +12,8 @@ ghost use Rattle.game.specs.Grid.{Grid, safe, square, zeroCell};
 ghost use Rattle.game.specs.Position.{Position, closed as isClosed, closedSafe, unflagged};
 ghost use Rattle.game.specs.Moves.{left, flag, chord};
 ghost use Rattle.game.specs.Rounds.{movesAt};
-ghost use Rattle.area.specs.Squares.{onGrid};
 ghost use Rattle.area.specs.Stages.{Shape, Stands};
+ghost use Rattle.play.specs.Walks.{rowCells};
 ghost use Rattle.rounds.specs.Promises.{Carried, Made};
 ghost use Rattle.rounds.specs.Walks.{Over, flagsFrom};
 
@@ -83,7 +83,7 @@ pub fn click_closed(
     click(work, rows, columns, list, state, index)
 }
 
-// F, if there is a mine without flag; past the grid there is none.
+// F, if there is a mine without flag.
 pub fn flag_mine(
     work: &mut [i32],
     rows: usize,
@@ -93,13 +93,10 @@ pub fn flag_mine(
     index: usize,
 ) -> State
     requires { ⌜ Shape rows columns ⌝ }
-    requires { ⌜ (5 * (rows * columns) ≤ length (now work)) × (state .moves ≤ 2 ^ 48) ⌝ }
+    requires { ⌜ (5 * (rows * columns) ≤ length (now work)) × (index < rows * columns) × (state .moves ≤ 2 ^ 48) ⌝ }
     ensures { λ r. ⌜ r .moves ≤ state .moves + 1 ⌝ }
-    ensures { λ r. ⌜ Over flagsFrom (onGrid (rows * columns) index) rows columns (now (work .entry)) (now (list .entry)) state (now (work .exit)) (now (list .exit)) r ⌝ }
+    ensures { λ r. ⌜ Over flagsFrom (index ∷ []) rows columns (now (work .entry)) (now (list .entry)) state (now (work .exit)) (now (list .exit)) r ⌝ }
 {
-    if index >= rows * columns {
-        return state;
-    }
     if area::get(work, 5 * index + 4) != 0 {
         return state;
     }
@@ -108,6 +105,29 @@ pub fn flag_mine(
     }
     play::flag(work, rows, columns, index);
     carry_on(list, state, 2, index, 0)
+}
+
+// F on each mine without flag of one row, in the columns given.
+fn flag_row(
+    work: &mut [i32],
+    rows: usize,
+    columns: usize,
+    list: &mut [u32],
+    state: State,
+    row: usize,
+    from: usize,
+    to: usize,
+) -> State
+    requires { ⌜ Shape rows columns ⌝ }
+    requires { ⌜ (5 * (rows * columns) ≤ length (now work)) × (row < rows) × (from ≤ to) × (to ≤ columns) × (state .moves ≤ 2 ^ 47) ⌝ }
+    ensures { λ r. ⌜ r .moves ≤ state .moves + (to - from) ⌝ }
+    ensures { λ r. ⌜ Over flagsFrom (rowCells rows row from to) rows columns (now (work .entry)) (now (list .entry)) state (now (work .exit)) (now (list .exit)) r ⌝ }
+{
+    let mut flagged = state;
+    for column in from..to {
+        flagged = flag_mine(work, rows, columns, list, flagged, column * rows + row);
+    }
+    flagged
 }
 
 // F on each mine without flag of a square, by row, then column.
@@ -127,10 +147,12 @@ pub fn flag_around(
 {
     let row = index % rows;
     let column = index / rows;
+    let from = area::lower(column);
+    let to = area::upper(column, columns);
+    let last = area::upper(row, rows);
     let mut flagged = state;
-    for place in 0..9 {
-        let near = area::near_at(rows, columns, row, column, place / 3, place % 3);
-        flagged = flag_mine(work, rows, columns, list, flagged, near);
+    for r in area::lower(row)..last {
+        flagged = flag_row(work, rows, columns, list, flagged, r, from, to);
     }
     flagged
 }

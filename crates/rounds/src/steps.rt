@@ -3,6 +3,7 @@ use crate::State;
 use crate::moves;
 use choices::Found;
 ghost use mathlib.Core.Path.{_≡_};
+ghost use mathlib.Core.Bool.{Bool};
 ghost use mathlib.Core.List.{List, [], _∷_};
 ghost use Prim.Native.Nat.{ℕ, _+_, _*_, _^_, _<_, _≤_};
 ghost use lib.IntN.{ℤ};
@@ -11,14 +12,14 @@ ghost use lib.Dec.{T};
 ghost use Rattle.game.specs.Grid.{Grid, cells, safe, zeroCell};
 ghost use Rattle.game.specs.Position.{Position, closed as isClosed, closedSafe};
 ghost use Rattle.game.specs.Moves.{left};
-ghost use Rattle.game.specs.Rounds.{movesAt, unitCells, movesOf, openingClicks};
+ghost use Rattle.game.specs.Rounds.{movesAt, topCells, unitCells, movesOf, openingClicks};
 ghost use Rattle.area.specs.Stages.{Shape, Stands, Standing};
 ghost use Rattle.choices.specs.Tests.{NoUnitBelow};
 ghost use Rattle.choices.specs.Tops.{Kept};
 ghost use Rattle.rounds.specs.Promises.{Made, MadeKept, StepKept};
 ghost use Rattle.rounds.specs.Walks.{Over, hitsFrom};
 
-// L on a closed safe cell; the columns that it may change are marked.
+// L on a closed safe cell, where no premium reaches 0; the columns that it may change are marked.
 pub fn click_at(
     work: &mut [i32],
     rows: usize,
@@ -30,11 +31,11 @@ pub fn click_at(
 ) -> State
     requires { ⌜ Shape rows columns ⌝ }
     requires { ⌜ (5 * (rows * columns) ≤ length (now work)) × (index < rows * columns) × (state .moves ≤ 2 ^ 45) ⌝ }
-    ensures { λ r. ⌜ ((g : Grid) (s : Position) (old : List ℤ) → Stands rows columns g s old (now (work .entry))
-        → T (safe g index) → T (isClosed s index) → state .closed ≡ closedSafe g s
-        → MadeKept rows columns g s old (left index ∷ []) (now (list .entry)) (now (work .entry)) (now (tops .entry)) state (now (work .exit)) (now (list .exit)) (now (tops .exit)) r) ⌝ }
+    ensures { λ r. ⌜ ((openedOnly : Bool) (g : Grid) (s : Position) (old : List ℤ) → Stands rows columns g s old (now (work .entry))
+        → T (safe g index) → T (isClosed s index) → topCells openedOnly g s ≡ [] → state .closed ≡ closedSafe g s
+        → MadeKept openedOnly rows columns g s old (left index ∷ []) (now (list .entry)) (now (work .entry)) (now (tops .entry)) state (now (work .exit)) (now (list .exit)) (now (tops .exit)) r) ⌝ }
 {
-    choices::kept::forget(work, rows, columns, tops, index);
+    choices::kept::forget_click(work, rows, columns, tops, index);
     moves::click(work, rows, columns, list, state, index)
 }
 
@@ -50,15 +51,15 @@ pub fn act_at(
 ) -> State
     requires { ⌜ Shape rows columns ⌝ }
     requires { ⌜ (5 * (rows * columns) ≤ length (now work)) × (index < rows * columns) × (state .moves ≤ 2 ^ 45) ⌝ }
-    ensures { λ r. ⌜ ((g : Grid) (s : Position) (old : List ℤ) → Stands rows columns g s old (now (work .entry))
+    ensures { λ r. ⌜ ((openedOnly : Bool) (g : Grid) (s : Position) (old : List ℤ) → Stands rows columns g s old (now (work .entry))
         → T (safe g index) → (T (zeroCell g index) → ⊥) → state .closed ≡ closedSafe g s
-        → MadeKept rows columns g s old (movesAt g s index) (now (list .entry)) (now (work .entry)) (now (tops .entry)) state (now (work .exit)) (now (list .exit)) (now (tops .exit)) r) ⌝ }
+        → MadeKept openedOnly rows columns g s old (movesAt g s index) (now (list .entry)) (now (work .entry)) (now (tops .entry)) state (now (work .exit)) (now (list .exit)) (now (tops .exit)) r) ⌝ }
 {
     choices::kept::forget(work, rows, columns, tops, index);
     moves::act(work, rows, columns, list, state, index)
 }
 
-// L on the lowest closed 0-cell or unlabelled safe cell, if there is one; there is none in the columns before one.
+// L on the lowest closed 0-cell or unlabelled safe cell, if there is one, where no premium reaches 0; there is none in the columns before one.
 pub fn click_lowest(
     work: &mut [i32],
     rows: usize,
@@ -71,9 +72,9 @@ pub fn click_lowest(
     requires { ⌜ Shape rows columns ⌝ }
     requires { ⌜ (5 * (rows * columns) ≤ length (now work)) × (state .moves ≤ 2 ^ 45) × (from ≤ columns) × NoUnitBelow (now work) (from * rows) ⌝ }
     requires { ⌜ Standing rows columns (now work) ⌝ }
-    ensures { λ r. ⌜ ((g : Grid) (s : Position) (old : List ℤ) → Stands rows columns g s old (now (work .entry))
-        → 1 ≤ length (unitCells g s) → state .closed ≡ closedSafe g s
-        → MadeKept rows columns g s old (left (getD (unitCells g s) 0 0) ∷ []) (now (list .entry)) (now (work .entry)) (now (tops .entry)) state (now (work .exit)) (now (list .exit)) (now (tops .exit)) r) ⌝ }
+    ensures { λ r. ⌜ ((openedOnly : Bool) (g : Grid) (s : Position) (old : List ℤ) → Stands rows columns g s old (now (work .entry))
+        → 1 ≤ length (unitCells g s) → topCells openedOnly g s ≡ [] → state .closed ≡ closedSafe g s
+        → MadeKept openedOnly rows columns g s old (left (getD (unitCells g s) 0 0) ∷ []) (now (list .entry)) (now (work .entry)) (now (tops .entry)) state (now (work .exit)) (now (list .exit)) (now (tops .exit)) r) ⌝ }
 {
     let found = choices::units::lowest(work, rows, columns, from);
     match found {

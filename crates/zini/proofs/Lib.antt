@@ -6,3 +6,4 @@ pub mod More
 pub mod Clearing
 pub mod Rolling
 pub mod Written
+pub mod Once

@@ -1,52 +1,42 @@
 -- `random::roll_on`: the steps so far are those of the definition; fewer safe cells are closed after each; what is kept of the columns stays right. Assumes nothing.
-use Prim.Native.Nat.{ℕ, _*_, _≤_}
 use native.Mathlib.Omega.{arith}
-use native.Mathlib.Nat.{mul-le-mul-right}
 use mathlib.Core.Path.{_≡_, refl}
 use mathlib.Core.Bool.{false}
 use lib.ListN.{length}
 use borrow.Author.Needs.{needs}
-use Rattle.choices.specs.Tests.{NoUnitBelow}
-use Rattle.choices.specs.Tops.{Kept}
+use Rattle.choices.specs.Tops.{Kept, UnitsKept}
 use Rattle.game.specs.Moves.{after}
 use Rattle.game.specs.Position.{untouched}
 use Rattle.game.specs.Rounds.{movesOf}
-use Rattle.random.proofs.Courses.{Midway, course-breaks, course-ends, course-falls, course-goes-on, course-low, midway-begins, moves-few}
+use Rattle.random.proofs.Courses.{Midway, course-breaks, course-ends, course-falls, course-goes-on, midway-begins, moves-few}
 use Rattle.random.proofs.roll_on.Statement.{statement}
 use Rattle.random.proofs.roll_on.Tie as tie
 
 abbrev Inv-loop : tie.InvT-loop
-Inv-loop work₀ rows columns list₀ draws tops₀ safe next state₀ from₀ work list tops state from =
-    (length work ≡ length work₀) × (length list ≡ length list₀) × (length tops ≡ length tops₀) × Midway rows columns work₀ draws safe next list₀ work list state
-    × Kept false work rows columns tops × (from ≤ columns) × NoUnitBelow work (from * rows)
+Inv-loop work₀ rows columns list₀ draws tops₀ units₀ safe next state₀ work list tops units state =
+    (length work ≡ length work₀) × (length list ≡ length list₀) × (length tops ≡ length tops₀) × (length units ≡ length units₀)
+    × Midway rows columns work₀ draws safe next list₀ work list state × Kept false work rows columns tops × UnitsKept work rows columns tops units
 
 abbrev μ-loop : tie.MeasureT-loop
-μ-loop work₀ rows columns list₀ draws tops₀ safe next state₀ from₀ work list tops state from = state .closed
+μ-loop work₀ rows columns list₀ draws tops₀ units₀ safe next state₀ work list tops units state = state .closed
 
 loop-holds : tie.Need-loop-holds Inv-loop μ-loop
 loop-holds c =
-    let b = c .before .before .before in
+    let b = c .before .before .before .before in
     let a = b .args in (
       refl,
       refl,
       refl,
+      refl,
       midway-begins (a .rows) (a .columns) (a .work .now) (a .draws .now) (a .safe) (a .next) (a .list .now) (b .pre .1 .1 .0),
-      b .pre .1 .1 .1,
-      omega arith,
-      record { none = λ j h t. omega arith },
+      b .pre .1 .1 .1 .0,
+      b .pre .1 .1 .1 .1,
     )
-
-passed-requires : tie.Need-passed-requires Inv-loop μ-loop
-passed-requires c κs =
-    let l = c .before .before .before in
-    let b = l .before .before .before .before in
-    (b .pre .0, (omega arith, l .loop .inv .5, l .loop .inv .6))
 
 step-requires : tie.Need-step-requires Inv-loop μ-loop
 step-requires c κs =
-    let p = c .before .before .before in
-    let l = p .before .before .before .before in
-    let b = l .before .before .before .before in
+    let l = c .before .before .before .before .before .before in
+    let b = l .before .before .before .before .before in
     let a = b .args in
     let f = b .pre .1 .1 .0 in (
       b .pre .0,
@@ -56,11 +46,10 @@ step-requires c κs =
           omega (
             arith,
             moves-few (a .rows) (a .columns) (f .grid) (f .old) (a .draws .now) (a .safe) (a .next) (a .list .now) (l .loop .work) (l .loop .list) (l .loop .state)
-                (l .loop .inv .3 .course (f .grid) (f .old) (f .stands)) (b .pre .0),
+                (l .loop .inv .4 .course (f .grid) (f .old) (f .stands)) (b .pre .0),
           ),
-          p .passed .ensures .1,
         ),
-        l .loop .inv .4,
+        (l .loop .inv .5, l .loop .inv .6),
       ),
     )
 
@@ -79,60 +68,56 @@ same-length-2 c = search needs
 same-length-3 : tie.Need-same-length-3 Inv-loop μ-loop
 same-length-3 c = search needs
 
+same-length-4 : tie.Need-same-length-4 Inv-loop μ-loop
+same-length-4 c = search needs
+
 returns : tie.Need-returns Inv-loop μ-loop
 returns c =
-    let x = c .before .before .before .before .before .before .before in
-    let k = x .before .before .before .before .before .before in
+    let x = c .before .before .before .before .before .before .before .before .before in
+    let k = x .before .before .before .before .before in
     let l = k .before .before in
-    let a = l .before .before .before .before .args in
-    λ g old st. course-breaks (a .rows) (a .columns) g old (a .draws .now) (a .safe) (a .next) (a .list .now) (l .loop .work) (l .loop .list) (l .loop .state) (l .loop .inv .3 .course g old st)
+    let a = l .before .before .before .before .before .args in
+    λ g old st. course-breaks (a .rows) (a .columns) g old (a .draws .now) (a .safe) (a .next) (a .list .now) (l .loop .work) (l .loop .list) (l .loop .state) (l .loop .inv .4 .course g old st)
     (x .step .last .0) (x .step .last .1 .1 .1 .0) (x .step .result) (k .if1 .taken) (λ s v h e. x .step .ensures g s old v h e .0) (c .enum-told .given .1)
 
 loop-less : tie.Need-loop-less Inv-loop μ-loop
 loop-less c =
-    let x = c .before .before .before .before .before .before .before .before in
-    let k = x .before .before .before .before .before .before in
+    let x = c .before .before .before .before .before .before .before .before .before .before in
+    let k = x .before .before .before .before .before in
     let l = k .before .before in
-    let b = l .before .before .before .before in
+    let b = l .before .before .before .before .before in
     let a = b .args in
     let f = b .pre .1 .1 .0 in
     course-falls (a .rows) (a .columns) (f .grid) (f .old) (a .draws .now) (a .safe) (a .next) (a .list .now) (l .loop .work) (l .loop .list) (l .loop .state)
-    (l .loop .inv .3 .course (f .grid) (f .old) (f .stands)) (x .step .last .0) (x .step .last .1 .1 .1 .0) (x .step .result) (k .if1 .taken) (λ s v h e. x .step .ensures (f .grid) s (f .old) v h e .0) _ (c .before .stepped .given .1)
+    (l .loop .inv .4 .course (f .grid) (f .old) (f .stands)) (x .step .last .0) (x .step .last .1 .1 .1 .0) (x .step .result) (k .if1 .taken) (λ s v h e. x .step .ensures (f .grid) s (f .old) v h e .0) _ (c .before .stepped .given .1)
 
 loop-again : tie.Need-loop-again Inv-loop μ-loop
 loop-again c = (
   search needs,
   search needs,
   search needs,
-  let x = c .before .before .before .before .before .before .before .before in
-      let k = x .before .before .before .before .before .before in
+  search needs,
+  let x = c .before .before .before .before .before .before .before .before .before .before in
+      let k = x .before .before .before .before .before in
       let l = k .before .before in
-      let a = l .before .before .before .before .args in
+      let a = l .before .before .before .before .before .args in
       record {
         course = λ g old st. course-goes-on (a .rows) (a .columns) g old (a .draws .now) (a .safe) (a .next) (a .list .now) (l .loop .work) (l .loop .list) (l .loop .state)
-            (l .loop .inv .3 .course g old st) (x .step .last .0) (x .step .last .1 .1 .1 .0) (x .step .result) (k .if1 .taken) (λ s v h e. x .step .ensures g s old v h e .0) _ (c .before .stepped .given .1);
+            (l .loop .inv .4 .course g old st) (x .step .last .0) (x .step .last .1 .1 .1 .0) (x .step .result) (k .if1 .taken) (λ s v h e. x .step .ensures g s old v h e .0) _ (c .before .stepped .given .1);
       },
-  let x = c .before .before .before .before .before .before .before .before in
-      let k = x .before .before .before .before .before .before in
+  let x = c .before .before .before .before .before .before .before .before .before .before in
+      let k = x .before .before .before .before .before in
       let l = k .before .before in
-      let f = l .before .before .before .before .pre .1 .1 .0 in
-      let o = l .loop .inv .3 .course (f .grid) (f .old) (f .stands) in
+      let f = l .before .before .before .before .before .pre .1 .1 .0 in
+      let o = l .loop .inv .4 .course (f .grid) (f .old) (f .stands) in
       x .step .ensures (f .grid) (after (f .grid) (untouched (f .grid)) (movesOf (o .done))) (f .old) (o .made .stands) (omega (arith, o .made .left-closed, k .if1 .taken)) (o .made .left-closed) .1,
-  c .before .before .before .before .before .before .before .before .before .before .before .before .passed .ensures .0,
-  let x = c .before .before .before .before .before .before .before .before in
-      let p = x .before .before .before .before .passed in
-      let k = x .before .before .before .before .before .before in
+  let x = c .before .before .before .before .before .before .before .before .before .before in
+      let k = x .before .before .before .before .before in
       let l = k .before .before in
-      let b = l .before .before .before .before in
-      let a = b .args in
-      let f = b .pre .1 .1 .0 in
-      course-low (a .rows) (a .columns) (f .grid) (f .old) (a .draws .now) (a .safe) (a .next) (a .list .now) (l .loop .work) (l .loop .list) (l .loop .state)
-      (l .loop .inv .3 .course (f .grid) (f .old) (f .stands)) (x .step .last .0) (x .step .last .1 .1 .1 .0) (x .step .result) (k .if1 .taken) (λ s v h e. x .step .ensures (f .grid) s (f .old) v h e .0) _ (c .before .stepped .given .1)
-      (p .result * a .rows) (omega (arith, mul-le-mul-right (a .rows) (p .ensures .0))) (p .ensures .1),
+      let f = l .before .before .before .before .before .pre .1 .1 .0 in
+      let o = l .loop .inv .4 .course (f .grid) (f .old) (f .stands) in
+      x .step .ensures (f .grid) (after (f .grid) (untouched (f .grid)) (movesOf (o .done))) (f .old) (o .made .stands) (omega (arith, o .made .left-closed, k .if1 .taken)) (o .made .left-closed) .2,
 )
-
-same-length-4 : tie.Need-same-length-4 Inv-loop μ-loop
-same-length-4 c = search needs
 
 same-length-5 : tie.Need-same-length-5 Inv-loop μ-loop
 same-length-5 c = search needs
@@ -140,11 +125,17 @@ same-length-5 c = search needs
 same-length-6 : tie.Need-same-length-6 Inv-loop μ-loop
 same-length-6 c = search needs
 
+same-length-7 : tie.Need-same-length-7 Inv-loop μ-loop
+same-length-7 c = search needs
+
+same-length-8 : tie.Need-same-length-8 Inv-loop μ-loop
+same-length-8 c = search needs
+
 returns-2 : tie.Need-returns-2 Inv-loop μ-loop
 returns-2 c =
     let l = c .before .before in
-    let a = l .before .before .before .before .args in
-    λ g old st. course-ends (a .rows) (a .columns) g old (a .draws .now) (a .safe) (a .next) (a .list .now) (l .loop .work) (l .loop .list) (l .loop .state) (l .loop .inv .3 .course g old st) (omega arith)
+    let a = l .before .before .before .before .before .args in
+    λ g old st. course-ends (a .rows) (a .columns) g old (a .draws .now) (a .safe) (a .next) (a .list .now) (l .loop .work) (l .loop .list) (l .loop .state) (l .loop .inv .4 .course g old st) (omega arith)
 
 pub roll-on-spec : {M : Type 1} → statement M
 roll-on-spec =
@@ -153,17 +144,18 @@ roll-on-spec =
     Inv-loop
     μ-loop
     loop-holds
-    passed-requires
     step-requires
     enum-known-stepped
     enum-told
     same-length
     same-length-2
     same-length-3
+    same-length-4
     returns
     loop-less
     loop-again
-    same-length-4
     same-length-5
     same-length-6
+    same-length-7
+    same-length-8
     returns-2)

@@ -1,7 +1,8 @@
 -- `random::step`: the cells counted are those of the choice, and the one at the drawn place is taken. Assumes nothing.
 use Prim.Native.Nat.{_*_}
+use mathlib.Core.Path.{_∙_}
 use Rattle.game.proofs.Played.{reached-played}
-use Rattle.random.proofs.Takes.{picked-inside, step-dry, step-went}
+use Rattle.random.proofs.Takes.{any-marks, picked-inside, step-dry, step-went}
 use borrow.Author.Needs.{needs}
 use Rattle.random.proofs.step.Statement.{statement}
 use Rattle.random.proofs.step.Tie as tie
@@ -10,7 +11,7 @@ top-requires : tie.Need-top-requires
 top-requires c κs = search needs
 
 count-requires : tie.Need-count-requires
-count-requires c κs = let b = c .before .before .before .before .before .before .before .before .before .before in (b .pre .0, (b .pre .1 .0 .0, c .before .before .before .before .top .ensures .0 .1, b .pre .1 .0 .2))
+count-requires c κs = search needs
 
 draw-requires : tie.Need-draw-requires
 draw-requires c κs = search needs
@@ -27,29 +28,32 @@ same-length c = search needs
 same-length-2 : tie.Need-same-length-2
 same-length-2 c = search needs
 
+same-length-3 : tie.Need-same-length-3
+same-length-3 c = search needs
+
 returns : tie.Need-returns
 returns c =
     let d = c .before .before in
-    let n = d .before in
-    let t = n .before .before .before .before .before in
-    let a = t .before .before .before .before .before .before .args in
+    let n = d .before .before .before in
+    let t = n .before .before .before .before .before .before .before .before in
+    let a = t .before .before .before .before .before .before .before .before .args in
     λ g s old st h e. (
       step-dry (a .rows) (a .columns) g s old (a .work .now) (t .top .result) (n .count .result) (a .rows * a .columns) (a .draws .now) (a .list .now) (a .state) (d .draw .result)
-          (t .top .ensures .1 g s old st) (n .count .ensures .0) (d .draw .ensures) (c .enum-told .given .1),
+          (t .top .ensures .1 .1 g s old st) (n .count .ensures .0 .0) (d .draw .ensures) (c .enum-told .given .1),
       t .top .ensures .0 .1,
+      any-marks (a .work .now) (a .rows) (a .columns) _ _ (n .count .ensures .1 .1),
     )
 
 pick-requires : tie.Need-pick-requires
-pick-requires c κs = let b = c .before .before .before .before .before .before .before .before .before .before .before .before .before .before .before .before .before in (b .pre .0, (b .pre .1 .0 .0, c .before .before .before .before .before .before .before .before .before .before .before .top .ensures .0 .1, b .pre .1 .0 .2))
+pick-requires c κs =
+    let b = c .before .before .before .before .before .before .before .before .before .before .before .before .before .before .before .before .before .before .before .before .before .before .before .before .before in
+    (b .pre .0, (b .pre .1 .0 .0, c .before .before .before .before .before .before .before .before .before .before .before .before .before .before .before .before .before .top .ensures .0 .1, c .before .before .before .before .before .before .before .before .before .count .ensures .1 .1))
 
 take-requires : tie.Need-take-requires
 take-requires c κs =
-    let p = c .before .before .before in
-    let b = p .before .before .before .before .before .before .before .before .before .before .before .before .before .before .before .before .before .before in
-    (b .pre .0, (search needs, picked-inside _ _ _ _ _ (b .pre .0) (p .pick .ensures), search needs))
-
-same-length-3 : tie.Need-same-length-3
-same-length-3 c = search needs
+    let p = c .before .before .before .before .before in
+    let b = p .before .before .before .before .before .before .before .before .before .before .before .before .before .before .before .before .before .before .before .before .before .before .before .before .before .before in
+    (b .pre .0, (search needs, picked-inside _ _ _ _ _ (b .pre .0) (p .pick .ensures .0), search needs))
 
 same-length-4 : tie.Need-same-length-4
 same-length-4 c = search needs
@@ -57,19 +61,25 @@ same-length-4 c = search needs
 same-length-5 : tie.Need-same-length-5
 same-length-5 c = search needs
 
+same-length-6 : tie.Need-same-length-6
+same-length-6 c = let t = c .before .before .before .before .before .before .before .before .before .before .before .before .before .before .before .before .before .before .before .before .before .before .before .before .before .before .before .before .before in search (needs, t .top .ensures .0 .0)
+
+same-length-7 : tie.Need-same-length-7
+same-length-7 c = let p = c .before .before .before .before .before .before .before .before .before .before .before in p .pick .ensures .1 .0 ∙ p .before .before .before .before .before .before .before .before .before .before .count .ensures .1 .0 ∙ p .before .before .before .before .before .before .before .before .before .before .before .before .before .before .before .before .before .before .top .ensures .1 .0 .0
+
 returns-2 : tie.Need-returns-2
 returns-2 c =
     let m = c .before .before .before .before .before in
-    let p = m .before .before .before .before in
-    let o = p .before .before .before .before in
+    let p = m .before .before .before .before .before .before in
+    let o = p .before .before .before .before .before in
     let d = o .before .before in
-    let n = d .before in
-    let t = n .before .before .before .before .before in
-    let a = t .before .before .before .before .before .before .args in
+    let n = d .before .before .before in
+    let t = n .before .before .before .before .before .before .before .before in
+    let a = t .before .before .before .before .before .before .before .before .args in
     let y = m .take in
     λ g s old st h e. step-went (a .rows) (a .columns) g s old (a .work .now) (t .top .result) (n .count .result) (a .rows * a .columns) (a .draws .now) (a .list .now) (a .state) (d .draw .result)
-    (t .top .ensures .1 g s old st) (n .count .ensures .0) (d .draw .ensures) _ _ (p .pick .result) (t .top .last .1 .1 .1 .0) (y .last .0) (y .last .1 .1 .1 .0) (y .last .1 .1 .1 .1 .0) (y .result)
-    (reached-played g s (st .reached)) h (o .drawn .given .1) (p .pick .ensures) (t .top .ensures .0 .1) (λ k u z. y .ensures g s old st k u z e)
+    (t .top .ensures .1 .1 g s old st) (n .count .ensures .0 .0) (d .draw .ensures) _ _ (p .pick .result) (t .top .last .1 .1 .1 .0) _ (y .last .0) (y .last .1 .1 .1 .0) (y .last .1 .1 .1 .1 .0) (y .result)
+    (reached-played g s (st .reached)) h (o .drawn .given .1) (p .pick .ensures .0) (t .top .ensures .0 .1) (p .pick .ensures .1 .1) (λ k u z. y .ensures g s old st k u z e)
 
 pub step-spec : {M : Type 1} → statement M
 step-spec =
@@ -82,10 +92,12 @@ step-spec =
     enum-told
     same-length
     same-length-2
+    same-length-3
     returns
     pick-requires
     take-requires
-    same-length-3
     same-length-4
     same-length-5
+    same-length-6
+    same-length-7
     returns-2)

@@ -1,4 +1,4 @@
--- `choices::kept::forget`: the columns near the cell's own, and both walks from there on. Assumes nothing.
+-- `choices::kept::forget`: the columns near the cell's own, and both walks from there on if a closed 0-cell is near, which no cell without label has. Assumes nothing.
 use native.Mathlib.Omega.{arith}
 use mathlib.Core.Path.{_∙_, sym}
 use mathlib.Core.List.{[]}
@@ -6,7 +6,7 @@ use borrow.Author.Needs.{needs}
 use borrow.Author.Tests.{not-true}
 use Rattle.area.specs.Numbers.{gridOf}
 use Rattle.game.proofs.Squares.{column-lt}
-use Rattle.choices.proofs.Spanned.{forgotten-near, forgotten-spanned}
+use Rattle.choices.proofs.Spanned.{forgotten-near, forgotten-spanned, none-borders}
 use Rattle.choices.proofs.kept.forget.Statement.{statement}
 use Rattle.choices.proofs.kept.forget.Tie as tie
 
@@ -16,30 +16,42 @@ div-forget-near c = search needs
 forget-near-requires : tie.Need-forget-near-requires
 forget-near-requires c κs = search needs
 
-borders-closed-requires : tie.Need-borders-closed-requires
-borders-closed-requires c κs = search needs
+mul-get : tie.Need-mul-get
+mul-get c = search needs
+
+get-requires : tie.Need-get-requires
+get-requires c κs = search needs
 
 same-length : tie.Need-same-length
 same-length c = search needs
 
 returns : tie.Need-returns
 returns c =
-    let b = c .before in
-    let n = b .before .before .before in
+    let n = c .before .before .before .before in
     let s = n .before .before .before in
     let a = s .args in
     let f = n .forget-near in
     λ g p old t. forgotten-near (a .rows) (a .columns) g p old (a .work .now) (a .index) (s .pre .1 .1) t (a .tops .now) (f .last .0)
-    (sym (not-true (b .borders-closed .result) (c .if1 .taken)) ∙ b .borders-closed .ensures g p old t) (f .ensures .0) (f .ensures .1)
+    (none-borders (a .rows) (a .columns) g p old (a .work .now) (a .index) (s .pre .1 .1) t (sym (c .if1 .taken) ∙ c .before .get .ensures .0)) (f .ensures .0) (f .ensures .1)
+
+borders-closed-requires : tie.Need-borders-closed-requires
+borders-closed-requires c κs = search needs
+
+same-length-2 : tie.Need-same-length-2
+same-length-2 c = search needs
+
+returns-2 : tie.Need-returns-2
+returns-2 c =
+    let b = c .before in
+    let n = b .before .before .before .before .before in
+    let s = n .before .before .before in
+    let a = s .args in
+    let f = n .forget-near in
+    λ g p old t. forgotten-near (a .rows) (a .columns) g p old (a .work .now) (a .index) (s .pre .1 .1) t (a .tops .now) (f .last .0)
+    (sym (not-true (b .borders-closed .result) (c .if2 .taken)) ∙ b .borders-closed .ensures g p old t) (f .ensures .0) (f .ensures .1)
 
 div-column : tie.Need-div-column
 div-column c = search needs
-
-mul-get : tie.Need-mul-get
-mul-get c = search needs
-
-get-requires : tie.Need-get-requires
-get-requires c κs = search needs
 
 mul-get-2 : tie.Need-mul-get-2
 mul-get-2 c = search needs
@@ -55,28 +67,28 @@ less-requires c κs = search needs
 
 forget-left-requires : tie.Need-forget-left-requires
 forget-left-requires c κs =
-    let s = c .before .before .before .before .before .before .before .before .before .before .before in
+    let s = c .before .before .before .before .before .before .before .before .before .before .before .before in
     (s .pre .0, (s .pre .1 .0, omega (arith, column-lt (gridOf (s .args .rows) (s .args .columns) []) (s .args .index) (s .pre .1 .1), c .less .ensures)))
 
 add-forget-right : tie.Need-add-forget-right
 add-forget-right c =
-    let s = c .before .before .before .before .before .before .before .before .before .before .before .before .before .before .before in
+    let s = c .before .before .before .before .before .before .before .before .before .before .before .before .before .before .before .before in
     omega (arith, column-lt (gridOf (s .args .rows) (s .args .columns) []) (s .args .index) (s .pre .1 .1), s .pre .0 .few-columns)
 
 forget-right-requires : tie.Need-forget-right-requires
 forget-right-requires c κs = search needs
 
-same-length-2 : tie.Need-same-length-2
-same-length-2 c = search needs
+same-length-3 : tie.Need-same-length-3
+same-length-3 c = search needs
 
-returns-2 : tie.Need-returns-2
-returns-2 c =
+returns-3 : tie.Need-returns-3
+returns-3 c =
     let r = c .before .before in
     let l = r .before .before .before .before in
     let m = l .before in
     let k = m .before .before in
-    let d = k .before in
-    let n = d .before .before .before .before .before in
+    let d = k .before .before .before .before in
+    let n = d .before .before .before in
     let s = n .before .before .before in
     let a = s .args in
     λ g p old t. forgotten-spanned (a .rows) (a .columns) g p old (a .work .now) (a .index) (s .pre .1 .1) t (d .get .result) (k .get2 .result) (m .less .result) _
@@ -89,12 +101,14 @@ forget-spec =
     (tie.spec
     div-forget-near
     forget-near-requires
-    borders-closed-requires
-    same-length
-    returns
-    div-column
     mul-get
     get-requires
+    same-length
+    returns
+    borders-closed-requires
+    same-length-2
+    returns-2
+    div-column
     mul-get-2
     add-get
     get-requires-2
@@ -102,5 +116,5 @@ forget-spec =
     forget-left-requires
     add-forget-right
     forget-right-requires
-    same-length-2
-    returns-2)
+    same-length-3
+    returns-3)

@@ -30,7 +30,7 @@ returns c =
     let n = t .before in
     let l = n .before .before in
     let a = l .before .args in
-    column-has (a .work .now) (a .rows) (a .first) (a .second) (a .column) (l .loop .row) (n .cell .result) (omega arith) (n .cell .ensures .0) (sym (c .if1 .taken) ∙ t .shares .ensures)
+    column-has (sharesAt (a .work .now) (a .first) (a .second)) (a .rows) (a .column) (l .loop .row) (n .cell .result) (omega arith) (n .cell .ensures .0) (sym (c .if1 .taken) ∙ t .shares .ensures)
 
 add-row : tie.Need-add-row Inv-loop μ-loop
 add-row c = omega arith
@@ -45,14 +45,14 @@ loop-again c =
     let l = n .before .before in
     let a = l .before .args in (
       omega arith,
-      none-more (a .work .now) (a .rows) (a .first) (a .second) (a .column) (l .loop .row) (n .cell .result) (l .loop .inv .1) (n .cell .ensures .0) (sym (t .shares .ensures) ∙ c .if1 .left),
+      none-more (sharesAt (a .work .now) (a .first) (a .second)) (a .rows) (a .column) (l .loop .row) (n .cell .result) (l .loop .inv .1) (n .cell .ensures .0) (sym (t .shares .ensures) ∙ c .if1 .left),
     )
 
 returns-2 : tie.Need-returns-2 Inv-loop μ-loop
 returns-2 c =
     let l = c .before .loop in
     let a = c .before .before .args in
-    column-none (a .work .now) (a .rows) (a .first) (a .second) (a .column) (l .row) (omega arith) (l .inv .1)
+    column-none (sharesAt (a .work .now) (a .first) (a .second)) (a .rows) (a .column) (l .row) (omega arith) (l .inv .1)
 
 pub has-label-spec : {M : Type 1} → statement M
 has-label-spec =

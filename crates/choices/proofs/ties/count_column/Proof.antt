@@ -1,99 +1,71 @@
--- `choices::ties::count_column`: a column passed over has none; else the candidates counted so far are those passed. Assumes nothing.
-use Prim.Native.Nat.{ℕ, _*_, _+_, _-_, _≤_}
+-- `choices::ties::count_column`: for one L the closed units; else a column passed over has none, and any other is looked at. Assumes nothing.
+use Prim.Native.Nat.{ℕ, _*_, _+_, _<_}
 use native.Mathlib.Omega.{arith}
-use native.Mathlib.Nat.{add-zero}
-use mathlib.Core.Path.{_∙_, _≡_, ap, subst, sym}
-use mathlib.Core.Logic.{⊎-elim}
-use lib.Dec.{T}
-use Rattle.game.specs.Lists.{bit, count, range}
-use Rattle.game.proofs.Counts.{count-more}
-use Rattle.area.proofs.Tests.{count-none-yet}
-use Rattle.choices.specs.Tests.{candidateAt}
+use mathlib.Core.Path.{_∙_, _≡_, ap, refl, subst, sym}
+use mathlib.Core.Bool.{Bool, cond}
+use mathlib.Core.List.{List}
+use borrow.Author.Tests.{lt-ltb}
+use lib.Dec.{T, eqb}
+use lib.IntN.{ℤ}
+use Rattle.area.specs.Numbers.{numberAt}
+use Rattle.game.specs.Lists.{count, range}
+use Rattle.game.proofs.Counts.{count-ext}
+use Rattle.choices.specs.Tests.{candidateAt, unitAt}
 use Rattle.choices.proofs.Skips.{skipped-none}
+use borrow.Author.Needs.{needs}
 use Rattle.choices.proofs.ties.count_column.Statement.{statement}
 use Rattle.choices.proofs.ties.count_column.Tie as tie
 
-abbrev Inv-loop : tie.InvT-loop
-Inv-loop work rows columns tops top from column candidates₀ row₀ candidates row =
-    (row ≤ rows) × (candidates ≡ count (candidateAt top work) (range (column * rows) (column * rows + row))) × (candidates ≤ row)
+units-of-requires : tie.Need-units-of-requires
+units-of-requires c κs = search needs
 
-abbrev μ-loop : tie.MeasureT-loop
-μ-loop work rows columns tops top from column candidates₀ row₀ candidates row = rows - row
+same-length : tie.Need-same-length
+same-length c = search needs
 
-skipped-requires : tie.Need-skipped-requires Inv-loop μ-loop
-skipped-requires c κs = let b = c .before in omega (arith, b .pre .1 .1, b .pre .1 .2 .room)
+-- for one L the candidates are the closed units
+for-click : (w : List ℤ) (top : ℕ) (xs : List ℕ) → top < 10 → count (unitAt w) xs ≡ count (candidateAt top w) xs
+for-click w top xs h =
+    count-ext (unitAt w) (candidateAt top w) xs (λ i _. sym (ap (λ (b : Bool). cond b (unitAt w i) (eqb (numberAt w (5 * i + 2)) top)) (lt-ltb top 10 h)))
 
-returns : tie.Need-returns Inv-loop μ-loop
+returns : tie.Need-returns
 returns c =
+    let u = c .before .before in
+    let i = u .before .before in
+    let a = i .before .before .before .args in
+    let n = a .column * a .rows in
+    ((u .units-of .ensures .0 .0 ∙ for-click (a .work .now) (a .top) (range n (n + a .rows)) (i .if1 .taken), u .units-of .ensures .0 .1), u .units-of .ensures .1)
+
+skipped-requires : tie.Need-skipped-requires
+skipped-requires c κs = search needs
+
+returns-2 : tie.Need-returns-2
+returns-2 c =
     let k = c .before in
-    let b = k .before .before in
+    let i = k .before in
+    let b = i .before .before .before in
     let a = b .args in (
-      skipped-none (a .work .now) (a .rows) (a .columns) (a .tops .now) (a .top) (a .from) (a .column) (b .pre .1 .2) (b .pre .1 .3) (b .pre .1 .1)
-          (subst T (sym (c .if1 .taken) ∙ k .skipped .ensures) tt),
-      omega arith,
+      (
+        skipped-none (a .work .now) (a .rows) (a .columns) (a .tops .now) (a .top) (a .column) (b .pre .1 .2) (i .if1 .left) (b .pre .1 .1)
+            (subst T (sym (c .if2 .taken) ∙ k .skipped .ensures) tt),
+        omega arith,
+      ),
+      (refl, b .pre .1 .3),
     )
 
-loop-holds : tie.Need-loop-holds Inv-loop μ-loop
-loop-holds c =
-    let a = c .before .before .before .args in
-    let f = candidateAt (a .top) (a .work .now) in
-    (omega arith, count-none-yet f (a .column * a .rows) ∙ ap (λ (k : ℕ). count f (range (a .column * a .rows) k)) (sym (add-zero (a .column * a .rows))), omega arith)
+count-cells-requires : tie.Need-count-cells-requires
+count-cells-requires c κs = search needs
 
-cell-requires : tie.Need-cell-requires Inv-loop μ-loop
-cell-requires c κs =
-    let b = c .before .before .before .before .before in
-    let s = b .pre .0 in
-    (omega arith, b .pre .1 .1, omega (arith, s .few-rows), omega (arith, s .few-columns))
-
-candidate-requires : tie.Need-candidate-requires Inv-loop μ-loop
-candidate-requires c κs = omega (arith, c .cell .ensures .1, c .before .before .before .before .before .before .pre .1 .0)
-
-add-candidates : tie.Need-add-candidates Inv-loop μ-loop
-add-candidates c = let s = c .before .before .before .before .before .before .before .before .pre .0 in omega (arith, s .few-rows)
-
-add-row : tie.Need-add-row Inv-loop μ-loop
-add-row c = let s = c .before .before .before .before .before .before .before .before .pre .0 in omega (arith, s .few-rows)
-
-loop-less : tie.Need-loop-less Inv-loop μ-loop
-loop-less c = omega arith
-
-loop-again : tie.Need-loop-again Inv-loop μ-loop
-loop-again c =
-    let k = c .before in
-    let x = k .before in
-    let l = x .before .before .loop in
-    let a = x .before .before .before .before .before .before .args in
-    let f = candidateAt (a .top) (a .work .now) in
-    let j = a .column * a .rows + l .row in
-    let m = count-more f (a .column * a .rows) j (omega arith) in
-    let up : j + 1 ≡ a .column * a .rows + (l .row + 1) = omega arith in
-    let n = ap (λ (i : ℕ). count f (range (a .column * a .rows) i)) up in
-    let e = k .candidate .ensures ∙ ap f (x .cell .ensures .0) in
-    ⊎-elim
-    (λ u. let b = ap bit (sym e ∙ u .0 .taken) in omega arith)
-    (λ u. let b = ap bit (sym e ∙ u .0 .left) in omega arith)
-    (c .if2 .came)
-
-returns-2 : tie.Need-returns-2 Inv-loop μ-loop
-returns-2 c =
-    let l = c .before .loop in
-    let a = c .before .before .before .before .before .args in
-    let e : l .row ≡ a .rows = omega arith in
-    (l .inv .1 ∙ ap (λ (k : ℕ). count (candidateAt (a .top) (a .work .now)) (range (a .column * a .rows) (a .column * a .rows + k))) e, omega arith)
+returns-3 : tie.Need-returns-3
+returns-3 c = search needs
 
 pub count-column-spec : {M : Type 1} → statement M
 count-column-spec =
     tie.close
     (tie.spec
-    Inv-loop
-    μ-loop
-    skipped-requires
+    units-of-requires
+    same-length
     returns
-    loop-holds
-    cell-requires
-    candidate-requires
-    add-candidates
-    add-row
-    loop-less
-    loop-again
-    returns-2)
+    skipped-requires
+    returns-2
+    count-cells-requires
+    returns-3)

@@ -11,9 +11,13 @@ use Rattle.choices.specs.Tests.{candidateAt}
 use Rattle.choices.specs.Picks.{candidatesOf, forClick}
 use Rattle.choices.proofs.Columns.{led-all}
 use Rattle.choices.proofs.Held.{held-numbers}
+use Rattle.choices.proofs.Marks.{units-marked}
 use Rattle.choices.proofs.Tops.{top-tells}
 use Rattle.choices.proofs.ties.top.Statement.{statement}
 use Rattle.choices.proofs.ties.top.Tie as tie
+
+forget-units-requires : tie.Need-forget-units-requires
+forget-units-requires c κs = let b = c .before .before .before .before in (b .pre .1 .1 .room, b .pre .1 .2 .room)
 
 first-column-requires : tie.Need-first-column-requires
 first-column-requires c κs = search needs
@@ -21,16 +25,24 @@ first-column-requires c κs = search needs
 same-length : tie.Need-same-length
 same-length c = search needs
 
+same-length-2 : tie.Need-same-length-2
+same-length-2 c = search needs
+
 returns : tie.Need-returns
 returns c =
     let f = c .before .before in
-    let a = f .before .before .before .args in (
+    let u = f .before .before .before .before .forget-units .ensures in
+    let b = f .before .before .before .before .before .before .before .before .before in
+    let a = b .args in (
       f .first-column .ensures .1,
-      λ g s old t.
-          subst (λ (m : ℕ). (ltb m 10 ≡ forClick (choice false g s)) × (keep (candidateAt m (a .work .now)) (range 0 (a .rows * a .columns)) ≡ candidatesOf (choice false g s)))
-          (led-all false (a .work .now) (a .rows) (a .columns) .same ∙ ap (λ (b : Best). b .top) (sym (f .first-column .ensures .0)))
-          (top-tells g s (a .work .now) (a .rows * a .columns) (held-numbers (a .rows) (a .columns) g s old (a .work .now) t) (ap₂ _*_ (t .rows-are) (t .columns-are))),
+      (
+        (u .0, units-marked (a .work .now) (a .rows) (a .columns) (a .tops .now) (a .units .now) _ (b .pre .1 .2) (u .0) (u .1)),
+        λ g s old t.
+            subst (λ (m : ℕ). (ltb m 10 ≡ forClick (choice false g s)) × (keep (candidateAt m (a .work .now)) (range 0 (a .rows * a .columns)) ≡ candidatesOf (choice false g s)))
+            (led-all false (a .work .now) (a .rows) (a .columns) .same ∙ ap (λ (b : Best). b .top) (sym (f .first-column .ensures .0)))
+            (top-tells g s (a .work .now) (a .rows * a .columns) (held-numbers (a .rows) (a .columns) g s old (a .work .now) t) (ap₂ _*_ (t .rows-are) (t .columns-are))),
+      ),
     )
 
 pub top-spec : {M : Type 1} → statement M
-top-spec = tie.close (tie.spec first-column-requires same-length returns)
+top-spec = tie.close (tie.spec forget-units-requires first-column-requires same-length same-length-2 returns)

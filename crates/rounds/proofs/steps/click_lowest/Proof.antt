@@ -40,9 +40,9 @@ returns c =
     let k = x .before .before .before .before .before in
     let m = k .before .before in
     let a = m .before .before .before .before .args in
-    λ g s old st n e. unit-taken (a .rows) (a .columns) (a .work .now) (m .lowest .result) g s
-    (λ (ms : List Move). MadeKept (a .rows) (a .columns) g s old ms (a .list .now) (a .work .now) (a .tops .now) (a .state) (x .click-at .last .0) (x .click-at .last .1 .1 .1 .0) (x .click-at .last .1 .1 .1 .1 .0) (x .click-at .result))
-    (k .found .given .0 .0) (k .found .given .1) (m .lowest .ensures g s old st) (λ t u. x .click-at .ensures g s old st t u e)
+    λ o g s old st n q e. unit-taken (a .rows) (a .columns) (a .work .now) (m .lowest .result) g s
+    (λ (ms : List Move). MadeKept o (a .rows) (a .columns) g s old ms (a .list .now) (a .work .now) (a .tops .now) (a .state) (x .click-at .last .0) (x .click-at .last .1 .1 .1 .0) (x .click-at .last .1 .1 .1 .1 .0) (x .click-at .result))
+    (k .found .given .0 .0) (k .found .given .1) (m .lowest .ensures g s old st) (λ t u. x .click-at .ensures o g s old st t u q e)
 
 same-length-4 : tie.Need-same-length-4
 same-length-4 c = search needs
@@ -51,8 +51,8 @@ returns-2 : tie.Need-returns-2
 returns-2 c =
     let m = c .before .before in
     let a = m .before .before .before .before .args in
-    λ g s old st n e. unit-missing (a .rows) (a .columns) (a .work .now) (m .lowest .result) g s
-    (λ (ms : List Move). MadeKept (a .rows) (a .columns) g s old ms (a .list .now) (a .work .now) (a .tops .now) (a .state) (a .work .now) (a .list .now) (a .tops .now) (a .state))
+    λ o g s old st n q e. unit-missing (a .rows) (a .columns) (a .work .now) (m .lowest .result) g s
+    (λ (ms : List Move). MadeKept o (a .rows) (a .columns) g s old ms (a .list .now) (a .work .now) (a .tops .now) (a .state) (a .work .now) (a .list .now) (a .tops .now) (a .state))
     (c .enum-told .given .1) (m .lowest .ensures g s old st) n
 
 pub click-lowest-spec : {M : Type 1} → statement M

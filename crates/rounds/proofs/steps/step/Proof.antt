@@ -49,8 +49,8 @@ returns c =
     let y = x .act-at in
     λ g s old st n e. step-kept (a .opened-only) (a .rows) (a .columns) g s old (a .list .now) (a .work .now) tops (a .state) (y .last .0) (y .last .1 .1 .1 .0) (y .last .1 .1 .1 .1 .0) (y .result)
     (top-taken (a .rows) (a .columns) (a .work .now) (m .best .result) g s
-    (λ (ms : List Move). MadeKept (a .rows) (a .columns) g s old ms (a .list .now) (a .work .now) tops (a .state) (y .last .0) (y .last .1 .1 .1 .0) (y .last .1 .1 .1 .1 .0) (y .result))
-    (a .opened-only) (m .best .ensures .1 g s old st) (k .found .given .0 .0) (k .found .given .1) (λ t z. y .ensures g s old st t z e))
+    (λ (ms : List Move). MadeKept (a .opened-only) (a .rows) (a .columns) g s old ms (a .list .now) (a .work .now) tops (a .state) (y .last .0) (y .last .1 .1 .1 .0) (y .last .1 .1 .1 .1 .0) (y .result))
+    (a .opened-only) (m .best .ensures .1 g s old st) (k .found .given .0 .0) (k .found .given .1) (λ t z. y .ensures (a .opened-only) g s old st t z e))
     (m .best .ensures .0 .1)
 
 same-length-4 : tie.Need-same-length-4
@@ -72,8 +72,8 @@ returns-2 c =
     let y = x .click-lowest in
     λ g s old st n e. step-kept (a .opened-only) (a .rows) (a .columns) g s old (a .list .now) (a .work .now) tops (a .state) (y .last .0) (y .last .1 .1 .1 .0) (y .last .1 .1 .1 .1 .0) (y .result)
     (click-taken (a .rows) (a .columns) (a .work .now) (m .best .result) g s
-    (λ (ms : List Move). MadeKept (a .rows) (a .columns) g s old ms (a .list .now) (a .work .now) tops (a .state) (y .last .0) (y .last .1 .1 .1 .0) (y .last .1 .1 .1 .1 .0) (y .result))
-    (a .opened-only) (m .best .ensures .1 g s old st) (reached-played g s (st .reached)) n (k .enum-told .given .1) (λ l. y .ensures g s old st l e))
+    (λ (ms : List Move). MadeKept (a .opened-only) (a .rows) (a .columns) g s old ms (a .list .now) (a .work .now) tops (a .state) (y .last .0) (y .last .1 .1 .1 .0) (y .last .1 .1 .1 .1 .0) (y .result))
+    (a .opened-only) (m .best .ensures .1 g s old st) (reached-played g s (st .reached)) n (k .enum-told .given .1) (λ l q. y .ensures (a .opened-only) g s old st l q e))
     (m .best .ensures .0 .1)
 
 pub step-spec : {M : Type 1} → statement M

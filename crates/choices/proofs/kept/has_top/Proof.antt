@@ -1,0 +1,50 @@
+-- `choices::kept::has_top`: another premium is none; else whether it is looked at decides. Assumes nothing.
+use Prim.Native.Nat.{ℕ, _*_, _+_}
+use borrow.Author.Needs.{needs}
+use borrow.Author.Tests.{eq-eqb, ne-eqb}
+use mathlib.Core.Path.{_∙_, _≡_, ap, sym}
+use mathlib.Core.Bool.{Bool, _&&_, false}
+use mathlib.Core.List.{List}
+use lib.IntN.{ℤ}
+use Rattle.game.proofs.Truth.{and-false, and-true}
+use Rattle.area.specs.Numbers.{numberAt}
+use Rattle.choices.specs.Tests.{lookedAt, topAt}
+use Rattle.choices.proofs.kept.has_top.Statement.{statement}
+use Rattle.choices.proofs.kept.has_top.Tie as tie
+
+module _ (openedOnly : Bool) (top : ℕ) (w : List ℤ) (i p : ℕ) (e : p ≡ numberAt w (5 * i + 2)) where
+  other : (p ≡ top → ⊥) → false ≡ topAt openedOnly top w i
+  other h =
+      and-false (lookedAt openedOnly w i) ∙ sym (ap (λ (b : Bool). lookedAt openedOnly w i && b) (ne-eqb (numberAt w (5 * i + 2)) top (λ q. h (e ∙ q))))
+
+  same : p ≡ top → lookedAt openedOnly w i ≡ topAt openedOnly top w i
+  same q =
+      and-true (lookedAt openedOnly w i) ∙ sym (ap (λ (b : Bool). lookedAt openedOnly w i && b) (eq-eqb (numberAt w (5 * i + 2)) top (sym e ∙ q)))
+
+mul-get : tie.Need-mul-get
+mul-get c = search needs
+
+add-get : tie.Need-add-get
+add-get c = search needs
+
+get-requires : tie.Need-get-requires
+get-requires c κs = search needs
+
+returns : tie.Need-returns
+returns c =
+    let k = c .before in
+    let a = k .before .args in
+    other (a .opened-only) (a .top) (a .work .now) (a .index) (k .get .result) (k .get .ensures .0) (c .if1 .taken)
+
+looked-requires : tie.Need-looked-requires
+looked-requires c κs = search needs
+
+returns-2 : tie.Need-returns-2
+returns-2 c =
+    let x = c .before in
+    let k = x .before in
+    let a = k .before .args in
+    c .looked .ensures ∙ same (a .opened-only) (a .top) (a .work .now) (a .index) (k .get .result) (k .get .ensures .0) (x .if1 .left)
+
+pub has-top-spec : {M : Type 1} → statement M
+has-top-spec = tie.close (tie.spec mul-get add-get get-requires returns looked-requires returns-2)

@@ -1,0 +1,2 @@
+-- There is only one answer.
+pub mod Once

@@ -1,0 +1,127 @@
+-- There is only one answer and one end content of each lent run for every call: the promises are functions, and each enum is read back from its number and values. Assumes nothing.
+use Prim.Native.Nat.{ℕ}
+use mathlib.Core.Path.{_≡_, refl, sym, _∙_}
+use mathlib.Core.Bool.{cond}
+use mathlib.Core.List.{List}
+use mathlib.Core.Option.{Option, none, some}
+use mathlib.Mathlib.Logic.Function.Defs.{LeftInverse·injective}
+use lib.IntN.{ℤ}
+use lib.Dec.{eqb}
+use lib.ListN.{getD}
+use Rattle.game.specs.Calls.{Answer, ListOutcome, Outcome, move, numberOf, refuses}
+use Rattle.game.specs.Calls as Game
+use Rattle.zini.specs.Answers.{Kept, KeptList, countedAnswer, named, pricedAnswer, refusalOf, replayedAnswer, rolledAnswer}
+use Rattle.zini.specs.declared.Refusal.{Refusal}
+use Rattle.zini.specs.declared.Refusal.the-variants.{Shape, Board, Work, Trace, Rounds, Draws}
+use Rattle.zini.specs.declared.Checked.{Checked}
+use Rattle.zini.specs.declared.Checked.the-variants as Checks
+use Rattle.zini.specs.declared.Counted.{Counted}
+use Rattle.zini.specs.declared.Counted.the-variants as Counts
+use Rattle.zini.specs.declared.Replayed.{Replayed}
+use Rattle.zini.specs.declared.Replayed.the-variants as Replays
+use Rattle.zini.specs.declared.Priced.{Priced}
+use Rattle.zini.specs.declared.Priced.the-variants as Prices
+use Rattle.zini.specs.declared.Rolled.{Rolled}
+use Rattle.zini.specs.declared.Rolled.the-variants as Rolls
+use Rattle.zini.proofs.Promises.{kept-once, list-once}
+
+-- ---- each enum is read back
+
+-- the refusal of a number
+abbrev refusalBy : ℕ → Refusal
+refusalBy n = cond (eqb n 1) Shape (cond (eqb n 2) Board (cond (eqb n 3) Work (cond (eqb n 4) Trace (cond (eqb n 5) Rounds Draws))))
+
+-- an enum from an answer: success by its values, MOVE by its place, a refusal by its number
+abbrev readBack : {A : Type 0} → (List ℕ → A) → (ℕ → A) → (Refusal → A) → Answer → A
+readBack given moved refused a =
+    cond (eqb (a .number) 0) (given (a .values)) (cond (eqb (a .number) (numberOf move)) (moved (getD (a .values) 0 0)) (refused (refusalBy (a .number))))
+
+refused-back : {A : Type 0} (given : List ℕ → A) (moved : ℕ → A) (refused : Refusal → A) (f : Refusal) → readBack given moved refused (refuses (named f)) ≡ refused f
+refused-back given moved refused Shape = refl
+refused-back given moved refused Board = refl
+refused-back given moved refused Work = refl
+refused-back given moved refused Trace = refl
+refused-back given moved refused Rounds = refl
+refused-back given moved refused Draws = refl
+
+counted-same : (r r′ : Counted) → countedAnswer r ≡ countedAnswer r′ → r ≡ r′
+counted-same = LeftInverse·injective (readBack units Counts.Units Counts.Refused) countedAnswer back
+  where
+    units : List ℕ → Counted
+    units vs = Counts.Units (getD vs 0 0)
+
+    back : (r : Counted) → readBack units Counts.Units Counts.Refused (countedAnswer r) ≡ r
+    back (Counts.Units n) = refl
+    back (Counts.Refused f) = refused-back units Counts.Units Counts.Refused f
+
+priced-same : (r r′ : Priced) → pricedAnswer r ≡ pricedAnswer r′ → r ≡ r′
+priced-same = LeftInverse·injective (readBack clicks Prices.Clicks Prices.Refused) pricedAnswer back
+  where
+    clicks : List ℕ → Priced
+    clicks vs = Prices.Clicks (getD vs 0 0)
+
+    back : (r : Priced) → readBack clicks Prices.Clicks Prices.Refused (pricedAnswer r) ≡ r
+    back (Prices.Clicks n) = refl
+    back (Prices.Refused f) = refused-back clicks Prices.Clicks Prices.Refused f
+
+rolled-same : (r r′ : Rolled) → rolledAnswer r ≡ rolledAnswer r′ → r ≡ r′
+rolled-same = LeftInverse·injective (readBack clicks (Rolls.Clicks 0) Rolls.Refused) rolledAnswer back
+  where
+    clicks : List ℕ → Rolled
+    clicks vs = Rolls.Clicks (getD vs 0 0) (getD vs 1 0)
+
+    back : (r : Rolled) → readBack clicks (Rolls.Clicks 0) Rolls.Refused (rolledAnswer r) ≡ r
+    back (Rolls.Clicks n k) = refl
+    back (Rolls.Refused f) = refused-back clicks (Rolls.Clicks 0) Rolls.Refused f
+
+replayed-same : (r r′ : Replayed) → replayedAnswer r ≡ replayedAnswer r′ → r ≡ r′
+replayed-same = LeftInverse·injective (readBack played Replays.Move Replays.Refused) replayedAnswer back
+  where
+    played : List ℕ → Replayed
+    played vs = Replays.Played (getD vs 0 0) (getD vs 1 0)
+
+    back : (r : Replayed) → readBack played Replays.Move Replays.Refused (replayedAnswer r) ≡ r
+    back (Replays.Played n k) = refl
+    back (Replays.Move k) = refl
+    back (Replays.Refused f) = refused-back played Replays.Move Replays.Refused f
+
+-- ---- one answer and one end of each lent run
+
+-- the checks: check, check_more, check_list
+pub checked-once : (o : Option Game.Refusal) (r r′ : Checked) → refusalOf r ≡ o → refusalOf r′ ≡ o → r ≡ r′
+checked-once o r r′ e e′ = LeftInverse·injective checkedBy refusalOf back r r′ (e ∙ sym e′)
+  where
+    checkedBy : Option Game.Refusal → Checked
+    checkedBy none = Checks.Fine
+    checkedBy (some f) = Checks.Refused (refusalBy (numberOf f))
+
+    back : (r : Checked) → checkedBy (refusalOf r) ≡ r
+    back Checks.Fine = refl
+    back (Checks.Refused Shape) = refl
+    back (Checks.Refused Board) = refl
+    back (Checks.Refused Work) = refl
+    back (Checks.Refused Trace) = refl
+    back (Checks.Refused Rounds) = refl
+    back (Checks.Refused Draws) = refl
+
+-- the 3BV count
+pub counted-once : (p : Outcome) (r r′ : Counted) (w w′ : List ℤ) → Kept p (countedAnswer r) w → Kept p (countedAnswer r′) w′ → (r ≡ r′) × (w ≡ w′)
+counted-once p r r′ w w′ k k′ = let e = kept-once p (countedAnswer r) (countedAnswer r′) w w′ k k′ in (counted-same r r′ (e .0), e .1)
+
+-- greedy and openings-first
+pub priced-once : (p : ListOutcome) (r r′ : Priced) (w w′ : List ℤ) (l l′ : List ℕ) → KeptList p (pricedAnswer r) w l → KeptList p (pricedAnswer r′) w′ l′ → (r ≡ r′) × (w ≡ w′) × (l ≡ l′)
+priced-once p r r′ w w′ l l′ k k′ =
+    let e = list-once p (pricedAnswer r) (pricedAnswer r′) w w′ l l′ k k′ in (priced-same r r′ (e .0), e .1, e .2)
+
+-- a single random round
+pub rolled-once : (p : ListOutcome) (r r′ : Rolled) (w w′ : List ℤ) (l l′ : List ℕ) → KeptList p (rolledAnswer r) w l → KeptList p (rolledAnswer r′) w′ l′ → (r ≡ r′) × (w ≡ w′) × (l ≡ l′)
+rolled-once p r r′ w w′ l l′ k k′ =
+    let e = list-once p (rolledAnswer r) (rolledAnswer r′) w w′ l l′ k k′ in (rolled-same r r′ (e .0), e .1, e .2)
+
+-- random search
+pub searched-once : (p : Outcome) (r r′ : Rolled) (w w′ : List ℤ) → Kept p (rolledAnswer r) w → Kept p (rolledAnswer r′) w′ → (r ≡ r′) × (w ≡ w′)
+searched-once p r r′ w w′ k k′ = let e = kept-once p (rolledAnswer r) (rolledAnswer r′) w w′ k k′ in (rolled-same r r′ (e .0), e .1)
+
+-- replay
+pub replayed-once : (p : Outcome) (r r′ : Replayed) (w w′ : List ℤ) → Kept p (replayedAnswer r) w → Kept p (replayedAnswer r′) w′ → (r ≡ r′) × (w ≡ w′)
+replayed-once p r r′ w w′ k k′ = let e = kept-once p (replayedAnswer r) (replayedAnswer r′) w w′ k k′ in (replayed-same r r′ (e .0), e .1)
