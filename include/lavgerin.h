@@ -32,7 +32,7 @@ enum {
     LAVGERIN_WORK = 3,   /* the work area is below 5 x cells */
     LAVGERIN_TRACE = 4,  /* the list is below cells long; in replay: count above the list's length */
     LAVGERIN_ROUNDS = 5, /* random search with 0 rounds */
-    LAVGERIN_DRAWS = 6,  /* four bytes were needed and fewer were left: work area and list are filled with 0 */
+    LAVGERIN_DRAWS = 6,  /* four bytes were needed and fewer were left: the first 5 x cells numbers and cells moves are 0 */
     LAVGERIN_MOVE = 7    /* replay met a move that isn't legal: the position before it is left */
 };
 

@@ -182,10 +182,8 @@ def write_moves(rows, columns, moves, count, room):
     """0 and the line of the first moves, or the refusal."""
     if not 1 <= rows <= 255 or not 1 <= columns <= 255:
         return SHAPE, b""
-    if len(moves) < count:
+    if len(moves) < count or room < 4 + 8 * count:
         return TRACE, b""
-    if room < 4 + 8 * count:
-        return FRAME, b""
     return 0, b"%02X%02X" % (rows, columns) + b"".join(b"%08X" % w for w in moves[:count])
 
 

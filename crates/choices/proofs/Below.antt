@@ -11,7 +11,7 @@ use lib.Dec.{T}
 use lib.IntN.{ℤ}
 use Rattle.game.specs.Lists.{range}
 use Rattle.game.proofs.Members.{range-has, some-yes}
-use Rattle.choices.specs.Tests.{NoUnitBelow, columnUnits, unitAt}
+use Rattle.choices.specs.Tests.{NoUnitBelow, columnHasUnit, unitAt}
 
 -- no cell below a place is a closed unit
 abbrev pub NoneBelow : List ℤ → ℕ → Type 0
@@ -25,7 +25,7 @@ one-more w k m n e r j h t =
     ]
 
 -- a column more that has none
-pub column-more : (w : List ℤ) (rows column : ℕ) → NoUnitBelow w (column * rows) → columnUnits w rows column ≡ false → NoUnitBelow w ((column + 1) * rows)
+pub column-more : (w : List ℤ) (rows column : ℕ) → NoUnitBelow w (column * rows) → columnHasUnit w rows column ≡ false → NoUnitBelow w ((column + 1) * rows)
 column-more w rows column n e = record { none = go }
   where
     next : (column + 1) * rows ≡ column * rows + rows

@@ -4,7 +4,5 @@ pub mod Tops
 pub mod Below
 pub mod Columns
 pub mod Skips
-pub mod Marks
-pub mod Borders
-pub mod Shares
-pub mod Spanned
+pub mod Bytes
+pub mod Firsts

@@ -20,7 +20,8 @@ use Rattle.game.specs.Grid.{Grid, cells, safe, size}
 use Rattle.game.specs.Lists.{fold, from, has, keep, range}
 use Rattle.game.specs.Position.{Position, opened, premium}
 use Rattle.game.specs.Rounds.{Choice, choice, chords, clicks, highest, leastChosen, looked, same, topCells, unitCells}
-use Rattle.choices.proofs.Held.{Holds, looked→, premium→raised, raised→premium, raised→safe, reaches→, units-there, →looked, →reaches}
+use Rattle.marks.proofs.Held.{Holds}
+use Rattle.choices.proofs.Held.{looked→, premium→raised, raised→premium, raised→safe, reaches→, units-there, →looked, →reaches}
 use Rattle.choices.proofs.Passing.{found-at, keep-ext, none-there, ordered-same}
 use Rattle.game.proofs.Choices.{top→, →top}
 use Rattle.game.proofs.Members.{has-keep, keep-has, range-has}

@@ -21,8 +21,8 @@ unitAt w i =
     eqb (numberAt w (5 * i + 3)) 0 && not (eqb (numberAt w (5 * i + 4)) 0) && (eqb (numberAt w (5 * i + 4)) 1 || eqb (numberAt w (5 * i)) 0)
 
 -- such a cell stands in the column
-abbrev pub columnUnits : List ℤ → ℕ → ℕ → Bool
-columnUnits w rows column = some-of (λ row. unitAt w (column * rows + row)) (range 0 rows)
+abbrev pub columnHasUnit : List ℤ → ℕ → ℕ → Bool
+columnHasUnit w rows column = some-of (λ row. unitAt w (column * rows + row)) (range 0 rows)
 
 -- a cell that a random step may take: of the highest raised premium if that is 10 or more, else a closed unit
 abbrev pub candidateAt : ℕ → List ℤ → ℕ → Bool

@@ -15,7 +15,8 @@ ghost use Rattle.game.specs.Rounds.{choice};
 ghost use Rattle.area.specs.Stages.{Shape, Stands};
 ghost use Rattle.choices.specs.Tests.{candidateAt};
 ghost use Rattle.choices.specs.Picks.{candidatesOf, forClick};
-ghost use Rattle.choices.specs.Tops.{Kept, MarkedOr, UnitsKept, columnUnits, skippedAt};
+ghost use Rattle.choices.specs.Tops.{Kept, UnitsKept, columnUnits, skippedAt};
+ghost use Rattle.marks.specs.Marks.{MarkedOr};
 
 // What is kept of a column's closed units, or a mark where its premium is marked.
 fn unless_marked(top: u8, kept: u8) -> u8

@@ -9,7 +9,7 @@ ghost use Rattle.game.specs.Grid.{Grid, size};
 ghost use Rattle.game.specs.Position.{Position};
 ghost use Rattle.game.specs.Rounds.{unitCells};
 ghost use Rattle.area.specs.Stages.{Shape, Stands};
-ghost use Rattle.choices.specs.Tests.{NoUnitBelow, columnUnits, unitAt};
+ghost use Rattle.choices.specs.Tests.{NoUnitBelow, columnHasUnit, unitAt};
 ghost use Rattle.choices.specs.Picks.{foundFirst};
 
 // Whether there is a closed safe cell of number 0 or without label.
@@ -34,7 +34,7 @@ pub fn unit(work: &[i32], index: usize) -> bool
 fn has_unit(work: &[i32], rows: usize, columns: usize, column: usize) -> bool
     requires { ⌜ Shape rows columns ⌝ }
     requires { ⌜ (5 * (rows * columns) ≤ length (now work)) × (column < columns) ⌝ }
-    ensures { λ r. ⌜ r ≡ columnUnits (now (work .entry)) rows column ⌝ }
+    ensures { λ r. ⌜ r ≡ columnHasUnit (now (work .entry)) rows column ⌝ }
 {
     for row in 0..rows {
         let index = area::cell(rows, columns, row, column);

@@ -1,6 +1,7 @@
 -- Hex digits by their tests: what a byte is, its value, and back. Assumes nothing.
 use Prim.Native.Nat.{ℕ, _+_, _-_, _<_, _≤_}
 use native.Mathlib.Omega.{arith}
+use native.Mathlib.Decide.{ℕ-discrete}
 use mathlib.Core.Path.{_≡_, ap, refl, sym, _∙_}
 use mathlib.Core.Bool.{Bool, true, false, _&&_, _||_, cond, not}
 use lib.Dec.{eqb, leb}
@@ -62,7 +63,7 @@ end-sort b e = sorted b false false true (under 48 57 b (omega arith)) (under 65
 pub wrong-sort : (b : ℕ) → isDecimal b ≡ false → isLetter b ≡ false → (b ≡ 10 → ⊥) → Wrong ≡ sortOf b
 wrong-sort b e f h = sorted b false false false e f (ne-eqb b 10 h)
 
--- ---- its value, and whether it is wrong
+-- ---- its value, whether it is wrong, whether it ends a line
 
 abbrev pub valueSort : Sort → ℕ
 valueSort (Digit v) = v
@@ -92,6 +93,27 @@ sort-wrong b = go (isDecimal b || isLetter b) (eqb b 10) (hexValue b)
     go true r v = refl
     go false true v = refl
     go false false v = refl
+
+-- a line feed alone ends a line
+abbrev pub endSort : Sort → Bool
+endSort (Digit v) = false
+endSort End = true
+endSort Wrong = false
+
+pub sort-end : (b : ℕ) → endSort (sortOf b) ≡ eqb b 10
+unfolding sortOf
+sort-end b = go (ℕ-discrete b 10)
+  where
+    other : (t : Bool) (v : ℕ) → endSort (cond t (Digit v) Wrong) ≡ false
+    other true v = refl
+    other false v = refl
+
+    go : Dec (b ≡ 10) → endSort (cond (isDecimal b || isLetter b) (Digit (hexValue b)) (cond (eqb b 10) End Wrong)) ≡ eqb b 10
+    go (yes e) = ap endSort (sym (end-sort b e)) ∙ sym (eq-eqb b 10 e)
+    go (no n) =
+        ap (λ (t : Bool). endSort (cond (isDecimal b || isLetter b) (Digit (hexValue b)) (cond t End Wrong))) (ne-eqb b 10 n)
+        ∙ other (isDecimal b || isLetter b) (hexValue b)
+        ∙ sym (ne-eqb b 10 n)
 
 pub value-small : (b : ℕ) → hexValue b < 16
 unfolding hexValue

@@ -120,7 +120,7 @@ writeVerdict s t f =
     firstGiven (
     record { given = s; refusal = shape }
     ∷ record { given = t; refusal = trace }
-    ∷ record { given = f; refusal = frame }
+    ∷ record { given = f; refusal = trace }
     ∷ []
     )
 
@@ -142,7 +142,7 @@ module _ (rows columns : ℕ) (list : List ℕ) (n : ℕ) (lent : List ℕ) wher
     pub many-moves : length list < n → some trace ≡ firstGiven (writeChecks rows columns list n lent)
     many-moves h = written-by false true _ (sides) (lt-ltb (length list) n h) refl
 
-    pub short-line : n ≤ length list → length lent < 4 + 8 * n → some frame ≡ firstGiven (writeChecks rows columns list n lent)
+    pub short-line : n ≤ length list → length lent < 4 + 8 * n → some trace ≡ firstGiven (writeChecks rows columns list n lent)
     short-line h k = written-by false false true (sides) (le-ltb (length list) n h) (lt-ltb (length lent) (4 + 8 * n) k)
 
     pub line-fits : n ≤ length list → 4 + 8 * n ≤ length lent → none ≡ firstGiven (writeChecks rows columns list n lent)

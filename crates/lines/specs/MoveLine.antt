@@ -73,12 +73,12 @@ readMovesCall line lent =
       run = begun (storedOf line .words) lent;
     })
 
--- the checks before a line is written, in their order: SHAPE; more moves than the list has; no room in the line
+-- the checks before a line is written, in their order: SHAPE; TRACE for more moves than the list has, or too little room for their digits
 abbrev pub writeChecks : ℕ → ℕ → List ℕ → ℕ → List ℕ → List Check
 writeChecks rows columns list n lent =
     record { given = sideOut rows || sideOut columns; refusal = shape }
     ∷ record { given = ltb (length list) n; refusal = trace }
-    ∷ record { given = ltb (length lent) (4 + 8 * n); refusal = frame }
+    ∷ record { given = ltb (length lent) (4 + 8 * n); refusal = trace }
     ∷ []
 
 -- the first n moves of a list written as a line: its digits' count, and the digits at the start of the lent run

@@ -2,6 +2,7 @@
 use crate::Sort;
 ghost use mathlib.Core.Path.{_≡_};
 ghost use Prim.Native.Nat.{_+_, _*_, _<_, _≤_};
+ghost use lib.Dec.{eqb};
 ghost use lib.ListN.{length, getD};
 ghost use lib.Seq.{sets};
 ghost use Rattle.game.specs.Lists.{concat-map};
@@ -30,6 +31,18 @@ pub fn is_wrong(byte: u8) -> bool
         Sort::Digit(_) => false,
         Sort::End => true,
         Sort::Wrong => true,
+    }
+}
+
+// Whether a byte ends a line.
+pub fn is_end(byte: u8) -> bool
+    ensures { λ r. ⌜ r ≡ eqb byte 10 ⌝ }
+{
+    let sort = sort_of(byte);
+    match sort {
+        Sort::Digit(_) => false,
+        Sort::End => true,
+        Sort::Wrong => false,
     }
 }
 

@@ -119,10 +119,10 @@ fn check_written(rows: usize, columns: usize, list: &[u32], count: usize, line: 
         return Checked::Refused(Refusal::Trace);
     }
     if line.len() < 4 {
-        return Checked::Refused(Refusal::Frame);
+        return Checked::Refused(Refusal::Trace);
     }
     if (line.len() - 4) / 8 < count {
-        return Checked::Refused(Refusal::Frame);
+        return Checked::Refused(Refusal::Trace);
     }
     Checked::Fine
 }

@@ -5,7 +5,5 @@ pub mod Held
 pub mod Changes
 pub mod Reveals
 pub mod Chords
-pub mod Makes
-pub mod Runs
 pub mod Sweeps
 pub mod Spans

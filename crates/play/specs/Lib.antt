@@ -1,4 +1,3 @@
 -- What the moves promise of the work area.
 pub mod Walks
 pub mod Promises
-pub mod Replays

@@ -14,7 +14,7 @@ use Rattle.area.specs.Stages.{Stands, raised}
 use Rattle.choices.specs.Tests.{lookedAt}
 use Rattle.choices.specs.Tops.{columnTop, columnUnits}
 use Rattle.choices.proofs.Columns.{column-low}
-use Rattle.choices.proofs.Held.{held-numbers}
+use Rattle.marks.proofs.Held.{held-numbers}
 use Rattle.choices.proofs.Tops.{none-reaches}
 use Rattle.game.specs.Grid.{Grid, columnOf, mine, safe, size, square, zeroCell}
 use Rattle.game.specs.Lists.{count, has}

@@ -10,7 +10,8 @@ use lib.IntN.{ℤ}
 use lib.ListN.{getD, getD-replicate, length, length-replicate, replicate}
 use Rattle.area.specs.Stages.{Stands}
 use Rattle.choices.specs.declared.Best.{Best}
-use Rattle.choices.specs.Tops.{Beside, Clicked, Forgotten, Kept, MarkedOr, Still, UnitsKept, columnTop, columnUnits}
+use Rattle.choices.specs.Tops.{Kept, UnitsKept, columnTop, columnUnits}
+use Rattle.marks.specs.Marks.{Beside, Clicked, Forgotten, MarkedOr, Still}
 use Rattle.game.specs.Grid.{Grid, safe, size, zeroCell}
 use Rattle.game.specs.Moves.{left}
 use Rattle.game.specs.Position.{Position, closed}

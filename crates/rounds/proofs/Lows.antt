@@ -17,7 +17,8 @@ use Rattle.game.specs.Moves.{Move, after, chord, flag, left, play, reveal}
 use Rattle.game.specs.Openings.{holds, joinedTo, unlabelled}
 use Rattle.game.specs.Position.{Position, closed}
 use Rattle.game.specs.Rounds.{closedUnitCell}
-use Rattle.choices.proofs.Held.{held-numbers, unit-there}
+use Rattle.choices.proofs.Held.{unit-there}
+use Rattle.marks.proofs.Held.{held-numbers}
 use Rattle.game.proofs.Reveal.{Revealed, getD-sweep, opens, revealed, stays, sweeps}
 use Rattle.game.proofs.Truth.{and-both, and-left, and-right}
 

@@ -14,14 +14,16 @@ use Rattle.area.specs.Stages.{Stands, raised}
 use Rattle.choices.specs.declared.Best.{Best}
 use Rattle.choices.specs.Picks.{betterAt, columnBest}
 use Rattle.choices.specs.Tests.{unitAt}
-use Rattle.choices.specs.Tops.{Far, Still, columnUnits}
+use Rattle.choices.specs.Tops.{columnUnits}
+use Rattle.marks.specs.Marks.{Far, Still}
 use Rattle.game.specs.Grid.{Grid, columnOf, index, mine, safe, size, square, zeroCell}
 use Rattle.game.specs.Lists.{Each, bit, count, fold, has, keep, range}
 use Rattle.game.specs.Moves.{Move, after, chord, flag, left, play, reveal, sweep}
 use Rattle.game.specs.Openings.{holds, joinedTo, openings, unlabelled}
 use Rattle.game.specs.Position.{Position, cellUnit, closed, cost, flagged, gain, openingClosed, unflagged}
 use Rattle.game.specs.Rounds.{movesAt}
-use Rattle.choices.proofs.Held.{held-numbers, unit-there}
+use Rattle.choices.proofs.Held.{unit-there}
+use Rattle.marks.proofs.Held.{held-numbers}
 use Rattle.game.proofs.Chains.{joined-trans}
 use Rattle.game.proofs.Counts.{count-each, count-ext, each-map}
 use Rattle.game.proofs.Members.{all-ext, first-of, fold-inv, has-range, keep-has, rest-of, some-yes, yes-some}

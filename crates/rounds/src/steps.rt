@@ -35,7 +35,7 @@ pub fn click_at(
         → T (safe g index) → T (isClosed s index) → topCells openedOnly g s ≡ [] → state .closed ≡ closedSafe g s
         → MadeKept openedOnly rows columns g s old (left index ∷ []) (now (list .entry)) (now (work .entry)) (now (tops .entry)) state (now (work .exit)) (now (list .exit)) (now (tops .exit)) r) ⌝ }
 {
-    choices::kept::forget_click(work, rows, columns, tops, index);
+    marks::forget_click(work, rows, columns, tops, index);
     moves::click(work, rows, columns, list, state, index)
 }
 
@@ -55,7 +55,7 @@ pub fn act_at(
         → T (safe g index) → (T (zeroCell g index) → ⊥) → state .closed ≡ closedSafe g s
         → MadeKept openedOnly rows columns g s old (movesAt g s index) (now (list .entry)) (now (work .entry)) (now (tops .entry)) state (now (work .exit)) (now (list .exit)) (now (tops .exit)) r) ⌝ }
 {
-    choices::kept::forget(work, rows, columns, tops, index);
+    marks::forget(work, rows, columns, tops, index);
     moves::act(work, rows, columns, list, state, index)
 }
 

@@ -11,8 +11,8 @@ use Rattle.game.specs.Area.{areaOf}
 use Rattle.game.specs.Calls.{replayed}
 use Rattle.game.proofs.Legal.{reached-untouched}
 use Rattle.area.specs.Stages.{Shape, Stands, held}
-use Rattle.play.specs.Replays.{Replaying}
-use Rattle.play.specs.declared.Replay.{Replay}
+use Rattle.replay.specs.Replays.{Replaying}
+use Rattle.replay.specs.declared.Replay.{Replay}
 use Rattle.zini.specs.Answers.{Kept, answered, replayedAnswer}
 
 -- the work area that stands for the untouched grid

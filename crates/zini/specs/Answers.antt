@@ -8,8 +8,8 @@ use lib.Dec.{ltb}
 use Rattle.game.specs.Grid.{Grid}
 use Rattle.game.specs.Calls.{Answer, Check, listCheck, ListOutcome, Outcome, gives, move, numberOf, refuses, shape, board, work, trace, rounds, draws}
 use Rattle.game.specs.Calls as Game
-use Rattle.play.specs.declared.Replay.{Replay}
-use Rattle.play.specs.declared.Replay.the-variants as Runs
+use Rattle.replay.specs.declared.Replay.{Replay}
+use Rattle.replay.specs.declared.Replay.the-variants as Runs
 use Rattle.zini.specs.declared.Refusal.{Refusal}
 use Rattle.zini.specs.declared.Refusal.the-variants.{Shape, Board, Work, Trace, Rounds, Draws}
 use Rattle.zini.specs.declared.Checked.{Checked}

@@ -13,12 +13,12 @@ ghost use Rattle.area.specs.Stages.{Shape};
 ghost use Rattle.zini.specs.Answers.{Kept, answered, replayedAnswer};
 
 // What a replay came to.
-fn replay_answer(count: usize, played: play::Replay) -> Replayed
+fn replay_answer(count: usize, played: replay::Replay) -> Replayed
     ensures { λ r. ⌜ r ≡ answered count played ⌝ }
 {
     match played {
-        play::Replay::Whole(closed) => Replayed::Played(count, closed),
-        play::Replay::Stopped(place) => Replayed::Move(place),
+        replay::Replay::Whole(closed) => Replayed::Played(count, closed),
+        replay::Replay::Stopped(place) => Replayed::Move(place),
     }
 }
 
@@ -37,7 +37,7 @@ fn replay_checked(
 {
     let counts = start::begin::set_up(grid, rows, columns, work);
     let safe = counts.safe;
-    let played = play::run(work, rows, columns, list, count, safe);
+    let played = replay::run(work, rows, columns, list, count, safe);
     start::begin::settle(work, rows * columns);
     replay_answer(count, played)
 }

@@ -18,7 +18,7 @@ use Rattle.choices.specs.Tops.{firstOf}
 use Rattle.choices.specs.declared.Best.{Best}
 use Rattle.choices.specs.declared.Found.the-variants.{At, Nothing}
 use Rattle.choices.proofs.Columns.{Led, column-at, led-all}
-use Rattle.choices.proofs.Held.{Holds, held-numbers}
+use Rattle.marks.proofs.Held.{Holds, held-numbers}
 use Rattle.choices.proofs.Passing.{first-at}
 use Rattle.choices.proofs.Tops.{best-first, best-found, best-inside, best-none}
 use Rattle.choices.proofs.kept.best.Statement.{statement}

@@ -4,7 +4,7 @@ use mathlib.Core.Path.{ap, refl}
 use lib.ListN.{length-set}
 use borrow.Author.Needs.{needs}
 use Rattle.choices.specs.declared.Best.{Best}
-use Rattle.choices.proofs.Marks.{kept-again}
+use Rattle.choices.proofs.Bytes.{kept-again}
 use Rattle.choices.proofs.kept.top_of.Statement.{statement}
 use Rattle.choices.proofs.kept.top_of.Tie as tie
 

@@ -11,8 +11,8 @@ use borrow.Author.Tests.{eq-eqb, ne-eqb}
 use lib.Dec.{eqb}
 use lib.ListN.{getD, length, length-set, set}
 use lib.Seq.{getD-set-other, getD-set-same}
-use Rattle.choices.specs.Tops.{MarkedOr}
-use Rattle.choices.proofs.Marks.{marked-also, marked-both, one-marked}
+use Rattle.marks.specs.Marks.{MarkedOr}
+use Rattle.marks.proofs.Marks.{marked-also, marked-both, one-marked}
 use Rattle.choices.proofs.ties.forget_units.Statement.{statement}
 use Rattle.choices.proofs.ties.forget_units.Tie as tie
 

@@ -10,8 +10,8 @@ use Rattle.choices.specs.declared.Best.{Best}
 use Rattle.choices.specs.Tests.{candidateAt}
 use Rattle.choices.specs.Picks.{candidatesOf, forClick}
 use Rattle.choices.proofs.Columns.{led-all}
-use Rattle.choices.proofs.Held.{held-numbers}
-use Rattle.choices.proofs.Marks.{units-marked}
+use Rattle.marks.proofs.Held.{held-numbers}
+use Rattle.choices.proofs.Bytes.{units-marked}
 use Rattle.choices.proofs.Tops.{top-tells}
 use Rattle.choices.proofs.ties.top.Statement.{statement}
 use Rattle.choices.proofs.ties.top.Tie as tie

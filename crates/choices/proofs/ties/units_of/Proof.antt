@@ -10,7 +10,7 @@ use Rattle.game.proofs.Counts.{count-le}
 use Rattle.game.proofs.Members.{length-from}
 use Rattle.choices.specs.Tests.{unitAt}
 use Rattle.choices.specs.Tops.{columnUnits}
-use Rattle.choices.proofs.Marks.{units-again}
+use Rattle.choices.proofs.Bytes.{units-again}
 use borrow.Author.Needs.{needs}
 use Rattle.choices.proofs.ties.units_of.Statement.{statement}
 use Rattle.choices.proofs.ties.units_of.Tie as tie

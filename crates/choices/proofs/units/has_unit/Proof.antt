@@ -4,7 +4,7 @@ use native.Mathlib.Omega.{arith}
 use mathlib.Core.Path.{_∙_, _≡_, sym}
 use mathlib.Core.Bool.{false}
 use Rattle.choices.specs.Tests.{unitAt}
-use Rattle.choices.proofs.Shares.{column-has, column-none, none-more}
+use Rattle.marks.proofs.Sharing.{column-has, column-none, none-more}
 use Rattle.choices.proofs.units.has_unit.Statement.{statement}
 use Rattle.choices.proofs.units.has_unit.Tie as tie
 

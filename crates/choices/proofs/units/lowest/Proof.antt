@@ -20,7 +20,8 @@ use Rattle.choices.specs.Tests.{unitAt}
 use Rattle.choices.specs.Picks.{foundFirst}
 use Rattle.choices.proofs.Passing.{found-at, found-none}
 use Rattle.choices.proofs.Below.{NoneBelow, one-more}
-use Rattle.choices.proofs.Held.{held-numbers, units-there}
+use Rattle.marks.proofs.Held.{held-numbers}
+use Rattle.choices.proofs.Held.{units-there}
 use Rattle.choices.proofs.units.lowest.Statement.{statement}
 use Rattle.choices.proofs.units.lowest.Tie as tie
 

@@ -1,0 +1,5 @@
+pub mod Held
+pub mod Marks
+pub mod Borders
+pub mod Sharing
+pub mod Spanned

@@ -1,0 +1,2 @@
+-- What the marking of columns promises.
+pub mod Marks

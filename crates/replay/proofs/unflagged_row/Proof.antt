@@ -1,0 +1,82 @@
+-- `replay::unflagged_row`: the mines of the cells passed are counted. Assumes nothing.
+use Prim.Native.Nat.{_≤_, _<_, _+_, _*_, _-_}
+use native.Mathlib.Omega.{arith}
+use mathlib.Core.Path.{_≡_}
+use Rattle.game.specs.Lists.{count}
+use Rattle.play.specs.Walks.{bareAt, rowCells}
+use Rattle.play.proofs.Rows.{count-row, inside, row-none}
+use Rattle.play.proofs.Steps.{bit-small}
+use Rattle.replay.proofs.unflagged_row.Statement.{statement}
+use Rattle.replay.proofs.unflagged_row.Tie as tie
+
+abbrev Inv-loop : tie.InvT-loop
+Inv-loop work rows columns row from to mines₀ column₀ mines column = (from ≤ column) × (column ≤ to) × (mines ≤ column - from) × (mines ≡ count (bareAt work) (rowCells rows row from column))
+
+abbrev μ-loop : tie.MeasureT-loop
+μ-loop work rows columns row from to mines₀ column₀ mines column = to - column
+
+loop-holds : tie.Need-loop-holds Inv-loop μ-loop
+loop-holds c = let a = c .args in
+    (omega arith, omega arith, omega arith, rw (row-none (a .rows) (a .row) (a .from)))
+
+-- the cell of this turn lies on the grid
+cell : (c : tie.In-loop Inv-loop μ-loop)
+    → c .before .loop .column * c .before .before .args .rows + c .before .before .args .row < c .before .before .args .rows * c .before .before .args .columns
+cell c =
+    let a = c .before .before .args in
+    inside (a .rows) (a .columns) (a .row) (c .before .loop .column) (omega arith) (omega arith)
+
+-- it counts at most 1
+one : (c : tie.After-unflagged Inv-loop μ-loop) → c .unflagged .result ≤ 1
+one c =
+    let l = c .before .before in
+    let a = l .before .args in
+    rw (c .unflagged .ensures) (bit-small (bareAt (a .work .now) (l .loop .column * a .rows + a .row)))
+
+mul-unflagged : tie.Need-mul-unflagged Inv-loop μ-loop
+mul-unflagged c = omega (arith, cell c)
+
+add-unflagged : tie.Need-add-unflagged Inv-loop μ-loop
+add-unflagged c = omega (arith, cell c)
+
+unflagged-requires : tie.Need-unflagged-requires Inv-loop μ-loop
+unflagged-requires c κs = omega (arith, cell c)
+
+add-mines : tie.Need-add-mines Inv-loop μ-loop
+add-mines c = omega (arith, one c)
+
+add-column : tie.Need-add-column Inv-loop μ-loop
+add-column c = omega arith
+
+loop-less : tie.Need-loop-less Inv-loop μ-loop
+loop-less c = omega arith
+
+loop-again : tie.Need-loop-again Inv-loop μ-loop
+loop-again c = let l = c .before .before in
+    let a = l .before .args in (
+      omega arith,
+      omega arith,
+      omega (arith, one c),
+      count-row (bareAt (a .work .now)) (a .rows) (a .row) (a .from) (l .loop .column) (l .loop .mines) (c .unflagged .result) (l .loop .inv .0) (l .loop .inv .3) (c .unflagged .ensures),
+    )
+
+returns : tie.Need-returns Inv-loop μ-loop
+returns c = let a = c .before .before .args in
+    let e : c .before .loop .column ≡ a .to = omega arith in
+    (omega arith, rw e at (c .before .loop .inv .3))
+
+pub unflagged-row-spec : {M : Type 1} → statement M
+unflagged-row-spec =
+    tie.close
+    (tie.spec
+    Inv-loop
+    μ-loop
+    loop-holds
+    mul-unflagged
+    add-unflagged
+    unflagged-requires
+    add-mines
+    add-column
+    loop-less
+    loop-again
+    returns)

@@ -1,0 +1,2 @@
+-- What a replay promises of the work area.
+pub mod Replays
