@@ -61,7 +61,7 @@ pub fn upper(x: usize, n: usize) -> usize
     if x + 1 < n { x + 2 } else { n }
 }
 
-// The cell so many rows down and columns right in the square of the cell in a row and a column, or the number of cells where that is off the grid.
+// The cell so many rows down and columns right in the square of the cell in a row and a column, or a number past the cells where that is off the grid.
 pub fn near_at(
     rows: usize,
     columns: usize,

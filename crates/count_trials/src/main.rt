@@ -69,6 +69,19 @@ fn last_four() {
     small(b"P12", 3, 3, &[0i32, 0, -1, 0, 0, 0, -1, 0, 0], &mut w12, 2);
 }
 
+// Safe cells of other values, the smallest and the largest too; only -1 is a mine.
+fn other_values() {
+    let mut work = [7i32; 26];
+    small(
+        b"values",
+        1,
+        5,
+        &[-2i32, -2147483648, -1, 2147483647, 1],
+        &mut work,
+        2,
+    );
+}
+
 // The last board that is labelled by functions that call each other, and the first that is not.
 fn about_512() {
     let mut grid = [0i32; 512];
@@ -173,6 +186,7 @@ fn refusals() {
 fn main() {
     first_eight();
     last_four();
+    other_values();
     about_512();
     largest();
     refusals();

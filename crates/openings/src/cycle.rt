@@ -1,5 +1,5 @@
 // Up to 512 cells: a cell function and a neighbour function that call each other.
-ghost use Prim.Native.Nat.{_+_, _*_, _<_};
+ghost use Prim.Native.Nat.{_+_, _*_, _<_, _≤_};
 ghost use mathlib.Core.Path.{_≡_};
 ghost use Rattle.openings.specs.Marks.{Ready, kindOf, shaped};
 ghost use Rattle.openings.specs.Spread.{Opened, Visited};
@@ -10,6 +10,7 @@ use super::marks::mark;
 // Labels the opening of a 0-cell without label; any other cell stays as it is.
 pub fn label_cell(work: &mut [i32], rows: usize, columns: usize, op: usize, index: usize)
     requires { ⌜ Ready rows columns op (now work) ⌝ }
+    requires { ⌜ rows * columns ≤ 512 ⌝ }
     ensures { λ _. ⌜ Opened (shaped rows columns) (kindOf (now (work .entry))) op index
         (now (work .entry)) (now (work .exit)) ⌝ }
 {
@@ -25,6 +26,7 @@ pub fn visit(work: &mut [i32], rows: usize, columns: usize, op: usize, index: us
     requires { ⌜ Ready rows columns op (now work) ⌝ }
     requires { ⌜ index < rows * columns ⌝ }
     requires { ⌜ kindOf (now work) index ≡ 1 ⌝ }
+    requires { ⌜ rows * columns ≤ 512 ⌝ }
     ensures { λ _. ⌜ Visited (shaped rows columns) (kindOf (now (work .entry))) op index k
         (now (work .entry)) (now (work .exit)) ⌝ }
 {

@@ -79,6 +79,7 @@ pub fn visit_square(
 // Labels the opening of a 0-cell without label; any other cell stays as it is.
 pub fn spread(work: &mut [i32], rows: usize, columns: usize, op: usize, index: usize)
     requires { ⌜ Ready rows columns op (now work) ⌝ }
+    requires { ⌜ 512 < rows * columns ⌝ }
     ensures { λ _. ⌜ Opened (shaped rows columns) (kindOf (now (work .entry))) op index
         (now (work .entry)) (now (work .exit)) ⌝ }
 {

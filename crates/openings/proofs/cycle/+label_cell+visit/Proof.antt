@@ -53,7 +53,7 @@ label-cell-mul-fresh : (t : ℕ) → label-cell-lts.Need-mul-fresh (
   visit-below t,
   visit.Post,
 ) (label-cell-at t) label-cell.Post
-label-cell-mul-fresh t c = omega (arith, cells-few (c .before .args .rows) (c .before .args .columns) (c .before .pre .1 .shape))
+label-cell-mul-fresh t c = omega (arith, cells-few (c .before .args .rows) (c .before .args .columns) (c .before .pre .1 .0 .shape))
 
 label-cell-fresh-requires : (t : ℕ) → label-cell-lts.Need-fresh-requires (
   fresh-reads.Asked,
@@ -63,7 +63,7 @@ label-cell-fresh-requires : (t : ℕ) → label-cell-lts.Need-fresh-requires (
   visit-below t,
   visit.Post,
 ) (label-cell-at t) label-cell.Post
-label-cell-fresh-requires t c κs = c .before .pre .1 .room
+label-cell-fresh-requires t c κs = c .before .pre .1 .0 .room
 
 label-cell-same-length : (t : ℕ) → label-cell-lts.Need-same-length (
   fresh-reads.Asked,
@@ -86,7 +86,7 @@ label-cell-returns : (t : ℕ) → label-cell-lts.Need-returns (
 label-cell-returns t c =
     let s = c .before .before .before in
     let a = s .args in
-    opened-not (shaped (a .rows) (a .columns)) (a .op) (s .pre .1 .some-label) (a .work .now) (a .index)
+    opened-not (shaped (a .rows) (a .columns)) (a .op) (s .pre .1 .0 .some-label) (a .work .now) (a .index)
     (fresh-no (a .rows * a .columns) (a .work .now) (a .index) (c .before .fresh .result) (c .before .fresh .ensures) (c .if1 .taken))
 
 label-cell-mark-requires : (t : ℕ) → label-cell-lts.Need-mark-requires (
@@ -101,7 +101,7 @@ label-cell-mark-requires t c κs =
     let s = c .before .before .before .before in
     let a = s .args in
     let f = fresh-yes (a .rows * a .columns) (a .work .now) (a .index) (c .before .before .fresh .result) (c .before .before .fresh .ensures) (c .before .if1 .left) in
-    (omega (arith, f .inside, s .pre .1 .room), s .pre .1 .fits)
+    (omega (arith, f .inside, s .pre .1 .0 .room), s .pre .1 .0 .fits)
 
 label-cell-visit-requires : (t : ℕ) → label-cell-lts.Need-visit-requires (
   fresh-reads.Asked,
@@ -120,8 +120,8 @@ label-cell-visit-requires t c κs =
     let n = a .rows * a .columns in
     let f = fresh-yes n w (a .index) (c .before .before .before .before .before .fresh .result) (c .before .before .before .before .before .fresh .ensures) (c .before .before .before .before .if1 .left) in
     let e : w1 ≡ marked w (a .index) (a .op) = m .ensures in
-    let less : freeOf n w1 + 1 ≡ freeOf n w = rw e (free-marked n (a .op) (s .pre .1 .some-label) w (a .index) (s .pre .1 .room) f) in
-    (omega (arith, less, s .pre .0), (ready-again w w1 (s .pre .1) (m .kept .0), (f .inside, rw e (marked-kind w (a .index) (a .op) ∙ f .zero-cell))))
+    let less : freeOf n w1 + 1 ≡ freeOf n w = rw e (free-marked n (a .op) (s .pre .1 .0 .some-label) w (a .index) (s .pre .1 .0 .room) f) in
+    (omega (arith, less, s .pre .0), (ready-again w w1 (s .pre .1 .0) (m .kept .0), (f .inside, (rw e (marked-kind w (a .index) (a .op) ∙ f .zero-cell), s .pre .1 .1))))
 
 label-cell-same-length-2 : (t : ℕ) → label-cell-lts.Need-same-length-2 (
   fresh-reads.Asked,
@@ -146,7 +146,7 @@ label-cell-returns-2 t c =
     let a = s .args in
     let w = a .work .now in
     let f = fresh-yes (a .rows * a .columns) w (a .index) (c .before .before .before .before .before .before .before .fresh .result) (c .before .before .before .before .before .before .before .fresh .ensures) (c .before .before .before .before .before .before .if1 .left) in
-    opened-all (shaped (a .rows) (a .columns)) (a .op) (s .pre .1 .some-label) w (c .before .before .before .before .mark .last .0) (c .before .visit .last .0) (a .index) (s .pre .1 .room) f
+    opened-all (shaped (a .rows) (a .columns)) (a .op) (s .pre .1 .0 .some-label) w (c .before .before .before .before .mark .last .0) (c .before .visit .last .0) (a .index) (s .pre .1 .0 .room) f
     (c .before .before .before .before .mark .ensures) (c .before .visit .ensures)
 
 -- what one neighbour has come to once `label_cell` is back
@@ -166,7 +166,7 @@ met t c =
     let s = c .before .before .before .before .before .before .before in
     let a = s .args in
     stepped (shaped (a .rows) (a .columns)) (a .op) (s .pre .1 .0 .some-label) (a .work .now) (c .before .before .before .border .last .0) (c .label-cell .last .0) (a .index) (a .k) (c .before .before .before .before .before .near .result)
-    (s .pre .1 .1 .0) (s .pre .1 .1 .1) (c .before .before .before .before .before .before .if1 .left) (s .pre .1 .0 .room) (c .before .before .before .before .before .near .ensures) (c .before .before .before .border .ensures) (c .label-cell .ensures)
+    (s .pre .1 .1 .0) (s .pre .1 .1 .1 .0) (c .before .before .before .before .before .before .if1 .left) (s .pre .1 .0 .room) (c .before .before .before .before .before .near .ensures) (c .before .before .before .border .ensures) (c .label-cell .ensures)
 
 visit-returns : (t : ℕ) → visit-lts.Need-returns (
   near-reads.Asked,
@@ -236,9 +236,9 @@ visit-label-cell-requires t c κs =
     let a = s .args in
     let w = a .work .now in
     let b = c .before .before .border in
-    let less = border-free (shaped (a .rows) (a .columns)) (a .op) (s .pre .1 .0 .some-label) w (b .last .0) (a .index) (a .k) (c .before .before .before .before .near .result) (s .pre .1 .1 .0) (s .pre .1 .1 .1)
+    let less = border-free (shaped (a .rows) (a .columns)) (a .op) (s .pre .1 .0 .some-label) w (b .last .0) (a .index) (a .k) (c .before .before .before .before .near .result) (s .pre .1 .1 .0) (s .pre .1 .1 .1 .0)
     (c .before .before .before .before .before .if1 .left) (s .pre .1 .0 .room) (c .before .before .before .before .near .ensures) (b .ensures) in
-    (omega (arith, less, s .pre .0, c .before .before .before .before .before .if1 .left), ready-again w (b .last .0) (s .pre .1 .0) (b .kept .0))
+    (omega (arith, less, s .pre .0, c .before .before .before .before .before .if1 .left), (ready-again w (b .last .0) (s .pre .1 .0) (b .kept .0), s .pre .1 .1 .1 .1))
 
 visit-add-visit : (t : ℕ) → visit-lts.Need-add-visit (
   near-reads.Asked,
@@ -274,7 +274,7 @@ visit-visit-requires t c κs =
       omega (arith, less, s .pre .0, c .before .before .before .before .before .before .before .before .if1 .left),
       (
         ready-again w w2 (s .pre .1 .0) (m .change .long),
-        (s .pre .1 .1 .0, kind-stays g (kindOf w) (a .op) o (a .index) w w2 (m .change) (a .index) ∙ s .pre .1 .1 .1),
+        (s .pre .1 .1 .0, (kind-stays g (kindOf w) (a .op) o (a .index) w w2 (m .change) (a .index) ∙ s .pre .1 .1 .1 .0, s .pre .1 .1 .1 .1)),
       ),
     )
 

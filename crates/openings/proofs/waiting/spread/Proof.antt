@@ -32,29 +32,29 @@ again c w h q =
 
 so : (c : tie.In-loop Inv-loop μ-loop) → Spreading (shaped (c .before .before .before .before .before .args .rows) (c .before .before .before .before .before .args .columns)) (kindOf (c .before .before .before .before .before .args .work .now)) (c .before .before .before .before .before .args .op) (c .before .before .before .before .before .args .index)
     (c .before .before .before .before .before .args .work .now) (c .before .loop .work) (c .before .loop .top - 1 + 1)
-so c = again c (c .before .before .before .before .before .args .work .now) (c .before .before .before .before .before .pre .room) (c .before .before .before .wait .ensures)
+so c = again c (c .before .before .before .before .before .args .work .now) (c .before .before .before .before .before .pre .0 .room) (c .before .before .before .wait .ensures)
 
 -- the place of the cell taken
 few : (c : tie.In-loop Inv-loop μ-loop) → (c .before .loop .top - 1 < c .before .before .before .before .before .args .rows * c .before .before .before .before .before .args .columns) × (c .before .before .before .before .before .args .rows * c .before .before .before .before .before .args .columns ≤ 65025)
-few c = (omega (arith, so c .places, c .loop-test .taken), cells-few (c .before .before .before .before .before .args .rows) (c .before .before .before .before .before .args .columns) (c .before .before .before .before .before .pre .shape))
+few c = (omega (arith, so c .places, c .loop-test .taken), cells-few (c .before .before .before .before .before .args .rows) (c .before .before .before .before .before .args .columns) (c .before .before .before .before .before .pre .0 .shape))
 
 room : (c : tie.In-loop Inv-loop μ-loop) → 5 * (c .before .before .before .before .before .args .rows * c .before .before .before .before .before .args .columns) ≤ length (c .before .loop .work)
-room c = omega (arith, so c .change .long, c .before .before .before .before .before .pre .room)
+room c = omega (arith, so c .change .long, c .before .before .before .before .before .pre .0 .room)
 
 mul-wait : tie.Need-mul-wait Inv-loop μ-loop
-mul-wait c = omega (arith, cells-few (c .before .args .rows) (c .before .args .columns) (c .before .pre .shape))
+mul-wait c = omega (arith, cells-few (c .before .args .rows) (c .before .args .columns) (c .before .pre .0 .shape))
 
 wait-requires : tie.Need-wait-requires Inv-loop μ-loop
 wait-requires c κs =
     let s = c .before in
     let a = s .args in
-    (s .pre .room, (omega (arith, cells-few (a .rows) (a .columns) (s .pre .shape)), ((s .pre .some-label, s .pre .fits), omega (arith, free-few (a .rows * a .columns) (a .work .now)))))
+    (s .pre .0 .room, (omega (arith, cells-few (a .rows) (a .columns) (s .pre .0 .shape)), ((s .pre .0 .some-label, s .pre .0 .fits), omega (arith, free-few (a .rows * a .columns) (a .work .now)))))
 
 loop-holds : tie.Need-loop-holds Inv-loop μ-loop
 loop-holds c =
     let s = c .before .before .before in
     let a = s .args in
-    λ w room v. spread-first (shaped (a .rows) (a .columns)) (a .op) (s .pre .some-label) (a .index) w (c .before .wait .last .0) (c .before .wait .result) room v
+    λ w room v. spread-first (shaped (a .rows) (a .columns)) (a .op) (s .pre .0 .some-label) (a .index) w (c .before .wait .last .0) (c .before .wait .result) room v
 
 sub-top : tie.Need-sub-top Inv-loop μ-loop
 sub-top c = omega arith
@@ -84,8 +84,8 @@ visit-square-requires c κs =
     let l = c .before .before .before .before .before .before .before .loop in
     let p = so (c .before .before .before .before .before .before) in
     let w1 = c .before .before .put .last .0 in (
-      ready-again (a .work .now) w1 (s .pre) (c .before .before .put .kept .0 ∙ p .change .long),
-      rw (c .before .before .before .before .get .ensures .0) (taken-visitable (shaped (a .rows) (a .columns)) (a .op) (s .pre .some-label) (a .index) (a .work .now) (l .work) w1 (l .top - 1) p (c .before .before .put .ensures)),
+      ready-again (a .work .now) w1 (s .pre .0) (c .before .before .put .kept .0 ∙ p .change .long),
+      rw (c .before .before .before .before .get .ensures .0) (taken-visitable (shaped (a .rows) (a .columns)) (a .op) (s .pre .0 .some-label) (a .index) (a .work .now) (l .work) w1 (l .top - 1) p (c .before .before .put .ensures)),
     )
 
 loop-less : tie.Need-loop-less Inv-loop μ-loop
@@ -97,7 +97,7 @@ loop-less c =
     let v = c .before .visit-square in
     let g = shaped (a .rows) (a .columns) in
     let x = c .before .before .before .before .before .before .get .result in
-    let less = taken-less g (a .op) (s .pre .some-label) (a .index) (a .work .now) (l .work) (c .before .before .before .before .put .last .0) (l .top - 1) p (c .before .before .before .before .put .ensures) (InSquare g x) x (v .last .0) (v .result) (v .ensures) in
+    let less = taken-less g (a .op) (s .pre .0 .some-label) (a .index) (a .work .now) (l .work) (c .before .before .before .before .put .last .0) (l .top - 1) p (c .before .before .before .before .put .ensures) (InSquare g x) x (v .last .0) (v .result) (v .ensures) in
     omega (arith, less, c .before .before .before .before .before .before .before .before .loop-test .taken)
 
 loop-again : tie.Need-loop-again Inv-loop μ-loop
@@ -111,21 +111,21 @@ loop-again c =
     λ w h q.
     let p = again (c .before .before .before .before .before .before .before .before) w h q in
     let room-now : 5 * (a .rows * a .columns) ≤ length (l .work) = omega (arith, h, p .change .long) in
-    spread-more g (a .op) (s .pre .some-label) (a .index) w (l .work) w1 (v .last .0) (l .top - 1) (v .result) room-now p (c .before .before .before .before .put .ensures)
+    spread-more g (a .op) (s .pre .0 .some-label) (a .index) w (l .work) w1 (v .last .0) (l .top - 1) (v .result) room-now p (c .before .before .before .before .put .ensures)
     (subst (λ (x : ℕ). Pushed g (kindOf w1) (a .op) x (InSquare g x) w1 (l .top - 1) (v .last .0) (v .result)) (c .before .before .before .before .before .before .get .ensures .0) (v .ensures))
 
 same-length : tie.Need-same-length Inv-loop μ-loop
 same-length c =
     let s = c .before .before .before .before .before in
-    c .before .loop .inv (s .args .work .now) (s .pre .room) (c .before .before .before .wait .ensures) .change .long
+    c .before .loop .inv (s .args .work .now) (s .pre .0 .room) (c .before .before .before .wait .ensures) .change .long
 
 returns : tie.Need-returns Inv-loop μ-loop
 returns c =
     let s = c .before .before .before .before .before in
     let a = s .args in
     let l = c .before .loop in
-    spread-last (shaped (a .rows) (a .columns)) (a .op) (s .pre .some-label) (a .index) (a .work .now) (l .work) (l .top) (omega arith)
-    (l .inv (a .work .now) (s .pre .room) (c .before .before .before .wait .ensures))
+    spread-last (shaped (a .rows) (a .columns)) (a .op) (s .pre .0 .some-label) (a .index) (a .work .now) (l .work) (l .top) (omega arith)
+    (l .inv (a .work .now) (s .pre .0 .room) (c .before .before .before .wait .ensures))
 
 pub spread-spec : {M : Type 1} → statement M
 spread-spec =
