@@ -1,14 +1,14 @@
 -- The calls over runs of move records: the promises of the flat calls, with TRACE by the run's length, and what the run holds. Assumes nothing.
 use Prim.Native.Nat.{ℕ}
 use mathlib.Core.Path.{_≡_}
-use mathlib.Core.Bool.{cond}
+use mathlib.Core.Bool.{Bool, cond, false, true}
 use mathlib.Core.List.{List, [], _∷_, _++_, map}
 use mathlib.Core.Option.{Option, none, some}
 use lib.IntN.{ℤ}
 use lib.Dec.{eqb, ltb}
 use lib.ListN.{getD, length, take}
 use Rattle.game.specs.Grid.{Grid, size}
-use Rattle.game.specs.Calls.{Answer, Check, ListOutcome, Outcome, Refusal, draws, firstGiven, gridChecks, numberOf, replayCall, trace, unless, unlessListed}
+use Rattle.game.specs.Calls.{Answer, Check, ListOutcome, Outcome, Refusal, draws, firstGiven, greedyCall, gridChecks, numberOf, openingsFirstCall, replayCall, trace, unless, unlessListed}
 use Rattle.zini.specs.Answers.{Kept, KeptList}
 use Rattle.records.specs.Records.{moveWord, over, recordOf}
 use Rattle.records.specs.declared.MoveRecord.{MoveRecord}
@@ -20,6 +20,11 @@ roomCheck g room = record { given = ltb room (size g); refusal = trace }
 -- a flat call after the checks of the grid, the work area and the run
 abbrev pub within : Grid → List ℤ → List ℕ → ℕ → ListOutcome → ListOutcome
 within g ws ms room o = unlessListed (firstGiven (gridChecks g ws ++ roomCheck g room ∷ [])) ws ms o
+
+-- the greedy call, or the openings-first call
+abbrev pub priceCall : Bool → Grid → List ℤ → List ℕ → ListOutcome
+priceCall false = greedyCall
+priceCall true = openingsFirstCall
 
 -- how many records are written: one for each click; one for each cell after DRAWS; none after another refusal
 abbrev pub writtenBy : ℕ → Answer → ℕ

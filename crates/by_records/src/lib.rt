@@ -13,7 +13,7 @@ ghost use Rattle.game.specs.Calls.{firstGiven, greedyCall, gridChecks, openings
 ghost use Rattle.area.specs.Numbers.{gridOf};
 ghost use Rattle.zini.specs.Answers.{Kept, KeptList, pricedAnswer, refusalOf, replayedAnswer, rolledAnswer};
 ghost use Rattle.zini.specs.declared.Priced.the-variants as Prices;
-ghost use Rattle.by_records.specs.Promises.{KeptReplay, KeptRun, copiedIf, replayChecks, replayWithin, roomCheck, within, writtenBy};
+ghost use Rattle.by_records.specs.Promises.{KeptReplay, KeptRun, copiedIf, priceCall, replayChecks, replayWithin, roomCheck, within, writtenBy};
 
 // SHAPE, BOARD, WORK, and TRACE for a run of so many records.
 fn check_room(rows: usize, columns: usize, grid: &[i32], work: &[i32], room: usize) -> Checked
@@ -22,39 +22,28 @@ fn check_room(rows: usize, columns: usize, grid: &[i32], work: &[i32], room: usi
     zini::checks::check_more(rows, columns, grid, work, room, grid.len(), Refusal::Trace)
 }
 
-// Greedy for a run of so many records.
-pub(crate) fn greedy_within(
+// Greedy or openings-first for a run of so many records.
+pub(crate) fn price_within(
     rows: usize,
     columns: usize,
     grid: &[i32],
     work: &mut [i32],
     list: &mut [u32],
     room: usize,
+    openings_first: bool,
 ) -> Priced
-    ensures { λ r. ⌜ KeptList (within (gridOf rows columns (now (grid .entry))) (now (work .entry)) (now (list .entry)) room (greedyCall (gridOf rows columns (now (grid .entry))) (now (work .entry)) (now (list .entry)))) (pricedAnswer r) (now (work .exit)) (now (list .exit)) ⌝ }
+    ensures { λ r. ⌜ KeptList (within (gridOf rows columns (now (grid .entry))) (now (work .entry)) (now (list .entry)) room (priceCall «openings_first» (gridOf rows columns (now (grid .entry))) (now (work .entry)) (now (list .entry)))) (pricedAnswer r) (now (work .exit)) (now (list .exit)) ⌝ }
 {
     let checked = check_room(rows, columns, grid, work, room);
     match checked {
         Checked::Refused(refusal) => Priced::Refused(refusal),
-        Checked::Fine => zini::prices::greedy(rows, columns, grid, work, list),
-    }
-}
-
-// Openings-first for a run of so many records.
-pub(crate) fn openings_first_within(
-    rows: usize,
-    columns: usize,
-    grid: &[i32],
-    work: &mut [i32],
-    list: &mut [u32],
-    room: usize,
-) -> Priced
-    ensures { λ r. ⌜ KeptList (within (gridOf rows columns (now (grid .entry))) (now (work .entry)) (now (list .entry)) room (openingsFirstCall (gridOf rows columns (now (grid .entry))) (now (work .entry)) (now (list .entry)))) (pricedAnswer r) (now (work .exit)) (now (list .exit)) ⌝ }
-{
-    let checked = check_room(rows, columns, grid, work, room);
-    match checked {
-        Checked::Refused(refusal) => Priced::Refused(refusal),
-        Checked::Fine => zini::prices::openings_first(rows, columns, grid, work, list),
+        Checked::Fine => {
+            if openings_first {
+                zini::prices::openings_first(rows, columns, grid, work, list)
+            } else {
+                zini::prices::greedy(rows, columns, grid, work, list)
+            }
+        }
     }
 }
 
@@ -122,7 +111,7 @@ pub fn greedy_records(
 ) -> Priced
     ensures { λ r. ⌜ KeptRun (gridOf rows columns (now (grid .entry))) (within (gridOf rows columns (now (grid .entry))) (now (work .entry)) (now (list .entry)) (length (now (run .entry))) (greedyCall (gridOf rows columns (now (grid .entry))) (now (work .entry)) (now (list .entry)))) (now (run .entry)) (pricedAnswer r) (now (work .exit)) (now (list .exit)) (now (run .exit)) ⌝ }
 {
-    let priced = greedy_within(rows, columns, grid, work, list, run.len());
+    let priced = price_within(rows, columns, grid, work, list, run.len(), false);
     let count = written_by(priced, grid.len());
     records::records_of(run, list, count, rows);
     priced
@@ -139,7 +128,7 @@ pub fn openings_first_records(
 ) -> Priced
     ensures { λ r. ⌜ KeptRun (gridOf rows columns (now (grid .entry))) (within (gridOf rows columns (now (grid .entry))) (now (work .entry)) (now (list .entry)) (length (now (run .entry))) (openingsFirstCall (gridOf rows columns (now (grid .entry))) (now (work .entry)) (now (list .entry)))) (now (run .entry)) (pricedAnswer r) (now (work .exit)) (now (list .exit)) (now (run .exit)) ⌝ }
 {
-    let priced = openings_first_within(rows, columns, grid, work, list, run.len());
+    let priced = price_within(rows, columns, grid, work, list, run.len(), true);
     let count = written_by(priced, grid.len());
     records::records_of(run, list, count, rows);
     priced
