@@ -210,7 +210,7 @@ pub(crate) fn replay_within(
     }
 }
 
-// The first records of a run are played on a board, by their words in the list.
+// The first records of a run are played on a board, by their words, which are put at the start of the list; the run stays.
 pub fn replay_records(
     rows: usize,
     columns: usize,

@@ -149,7 +149,7 @@ fn read_checked(line: &[u8], grid: &mut [i32]) -> Board
     Board::Cells(rows, columns)
 }
 
-// A board line read: rows and columns, and its cells' values at the start of the lent run.
+// A board line without its line feed read: rows and columns, and its cells' values at the start of the lent run.
 pub fn read_board(line: &[u8], grid: &mut [i32]) -> Board
     ensures { λ r. ⌜ KeptGrid (boardLineCall (now (line .entry)) (now (grid .entry))) (boardAnswer r) (now (grid .exit)) ⌝ }
 {

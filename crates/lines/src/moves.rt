@@ -73,7 +73,7 @@ fn check_moves(line: &[u8], list: &[u32]) -> Checked
     Checked::Fine
 }
 
-// A stored line read: rows, columns and how many moves, and the moves at the start of the list.
+// A stored line without its line feed read: rows, columns and how many moves, and the moves at the start of the list.
 pub fn read_moves(line: &[u8], list: &mut [u32]) -> MovesRead
     ensures { λ r. ⌜ KeptRun (readMovesCall (now (line .entry)) (now (list .entry))) (readAnswer r) (now (list .exit)) ⌝ }
 {
