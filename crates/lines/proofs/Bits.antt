@@ -6,10 +6,10 @@ use mathlib.Core.Path.{_≡_, ap, sym, _∙_}
 use mathlib.Core.List.{List}
 use lib.Dec.{eqb}
 use lib.ListN.{getD, length}
-use Rattle.lines.specs.Hex.{bytesOf, hexValue}
+use Rattle.hex.specs.Hex.{bytesOf, hexValue}
 use Rattle.lines.specs.BoardLine.{bitAt, mineBit}
-use Rattle.lines.proofs.Digits.{value-small}
-use Rattle.lines.proofs.Bytes.{byte-here}
+use Rattle.hex.proofs.Digits.{value-small}
+use Rattle.hex.proofs.Bytes.{byte-here}
 
 -- the bit at a place of a digit's value
 pub bit-at : (v p q : ℕ) → p ≡ q → v / 2 ^ (3 - p) % 2 ≡ v / 2 ^ (3 - q) % 2

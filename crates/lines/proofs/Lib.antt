@@ -1,5 +1,3 @@
-pub mod Digits
-pub mod Bytes
 pub mod Bits
 pub mod Runs
 pub mod Priced

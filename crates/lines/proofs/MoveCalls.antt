@@ -10,7 +10,7 @@ use borrow.Author.Tests.{eq-eqb, eqb-true, le-ltb, lt-ltb, ltb-false, ne-eqb, no
 use Rattle.game.specs.Lists.{some-of}
 use Rattle.game.specs.Area.{begun}
 use Rattle.game.specs.Calls.{Answer, Refusal, firstGiven, frame, gives, refuses, shape, sideOut, trace}
-use Rattle.lines.specs.Hex.{isWrong}
+use Rattle.hex.specs.Hex.{isWrong}
 use Rattle.lines.specs.MoveLine.{RunOutcome, moveLine, moveLineChecks, readMovesCall, storedOf, unlessGiven, writeChecks, writeMovesCall}
 use Rattle.lines.specs.Answers.{KeptRun}
 use Rattle.lines.proofs.Verdict.{columnsByte, either-false, none≢some, rowsByte, side-fine, side-in, side-none}

@@ -8,9 +8,10 @@ use lib.ListN.{drop, length, take}
 use lib.Seq.{sets, sets-eq}
 use borrow.Author.Tests.{le-leb, lt-leb}
 use Rattle.game.specs.Lists.{concat-map}
-use Rattle.lines.specs.Hex.{byteDigits, putDigits}
-use Rattle.lines.specs.PriceLine.{Price, priceDigits, twoBytes}
-use Rattle.lines.proofs.Bytes.{sets-more}
+use Rattle.hex.specs.Hex.{byteDigits, putDigits}
+use Rattle.lines.specs.PriceLine.{Price, priceDigits}
+use Rattle.hex.specs.Hex.{twoBytes}
+use Rattle.hex.proofs.Bytes.{sets-more}
 
 pub put-none : (at : ℕ) (ds old : List ℕ) → length old < at + length ds → old ≡ putDigits at ds old
 unfolding putDigits

@@ -10,10 +10,10 @@ use lib.Dec.{ltb}
 use lib.ListN.{drop, getD, length, length-drop}
 use Rattle.game.specs.Lists.{Each, concat-map, some-of}
 use Rattle.game.specs.Calls.{firstGiven, trace}
-use Rattle.lines.specs.Hex.{byteDigits, bytesOf, hexDigit, hexValue, isDecimal, isLetter, isWrong}
+use Rattle.hex.specs.Hex.{byteDigits, bytesOf, hexDigit, hexValue, isDecimal, isLetter, isWrong}
 use Rattle.lines.specs.MoveLine.{moveLine, moveLineChecks, storedOf, wordBytes, wordsOf}
-use Rattle.lines.proofs.Digits.{from-low, high-digit, inside, low-digit, over, to-high, value-small}
-use Rattle.lines.proofs.Bytes.{length-bytes}
+use Rattle.hex.proofs.Digits.{from-low, high-digit, inside, low-digit, over, to-high, value-small}
+use Rattle.hex.proofs.Bytes.{length-bytes}
 use Rattle.lines.proofs.Verdict.{columnsByte, either-false, rowsByte, true≢false}
 use Rattle.lines.proofs.Words.{length-line, wordsIn}
 use Rattle.lines.proofs.MoveCalls.{but-room, passed-moves}

@@ -14,9 +14,9 @@ use borrow.Author.Tests.{eq-eqb, eqb-false, eqb-true, le-ltb, lt-ltb, ltb-false,
 use Rattle.game.specs.Lists.{some-of}
 use Rattle.game.specs.Grid.{size}
 use Rattle.game.specs.Calls.{Refusal, firstGiven, frame, shape, sideOut, size-over}
-use Rattle.lines.specs.Hex.{bytesOf, isWrong}
+use Rattle.hex.specs.Hex.{bytesOf, isWrong}
 use Rattle.lines.specs.BoardLine.{bitBetween, bitBytes, digitsRefused, gridOfBytes, lineGrid, lineRefusal, mineBit, valueOf}
-use Rattle.lines.proofs.Bytes.{length-bytes}
+use Rattle.hex.proofs.Bytes.{length-bytes}
 use Rattle.lines.proofs.Runs.{length-cells}
 
 pub none≢some : {x : Refusal} → some x ≡ none → ⊥

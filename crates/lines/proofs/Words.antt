@@ -9,9 +9,9 @@ use lib.ListN.{drop, getD, length, length-drop, set, take}
 use lib.Seq.{getD-drop, length-take-le, sets, sets-eq, take-suc}
 use Rattle.game.specs.Lists.{concat-map}
 use Rattle.game.specs.Area.{begun}
-use Rattle.lines.specs.Hex.{byteDigits, bytesOf}
+use Rattle.hex.specs.Hex.{byteDigits, bytesOf}
 use Rattle.lines.specs.MoveLine.{moveLine, wordBytes, wordDigits, wordsOf}
-use Rattle.lines.proofs.Bytes.{length-bytes, sets-more}
+use Rattle.hex.proofs.Bytes.{length-bytes, sets-more}
 use Rattle.lines.proofs.Priced.{twoDigits}
 use Rattle.lines.proofs.Runs.{begun-more}
 

@@ -10,7 +10,7 @@ use Rattle.game.specs.Lists.{range, some-of}
 use Rattle.game.specs.Grid.{Grid, size}
 use Rattle.game.specs.Area.{begun}
 use Rattle.game.specs.Calls.{Answer, Check, Refusal, board, firstGiven, frame, gives, refuses, shapeCheck, size-over}
-use Rattle.lines.specs.Hex.{bytesOf, isWrong}
+use Rattle.hex.specs.Hex.{bytesOf, isWrong}
 
 -- the bit at a place of a run of bytes, high bit first
 unfoldable pub bitAt : List ℕ → ℕ → Bool

@@ -1,7 +1,5 @@
 -- Lines of hexadecimal: document 01's words for boards, prices and stored moves.
-pub mod Hex
 pub mod BoardLine
 pub mod PriceLine
 pub mod MoveLine
-pub mod Sorts
 pub mod Answers

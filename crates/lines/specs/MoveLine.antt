@@ -8,7 +8,7 @@ use lib.ListN.{getD, length, take, drop}
 use Rattle.game.specs.Lists.{concat-map, some-of}
 use Rattle.game.specs.Area.{begun}
 use Rattle.game.specs.Calls.{Answer, Check, Refusal, firstGiven, frame, gives, refuses, shape, sideOut, trace}
-use Rattle.lines.specs.Hex.{byteDigits, bytesOf, isWrong}
+use Rattle.hex.specs.Hex.{byteDigits, bytesOf, isWrong}
 
 -- a word as four bytes, high first
 abbrev pub wordBytes : ℕ → List ℕ

@@ -1,8 +1,8 @@
 -- A price line: a byte 00 or the refusal, then 3BV, greedy and openings-first clicks, two bytes each, high first. Assumes nothing.
-use Prim.Native.Nat.{ℕ, _/_, _%_}
+use Prim.Native.Nat.{ℕ, _%_}
 use mathlib.Core.List.{List, [], _∷_, _++_}
 use Rattle.game.specs.Lists.{concat-map}
-use Rattle.lines.specs.Hex.{byteDigits}
+use Rattle.hex.specs.Hex.{byteDigits, twoBytes}
 use Rattle.lines.specs.declared.price.Price as Struct
 
 -- 00 or the refusal, then 3BV, greedy and openings-first clicks
@@ -11,10 +11,6 @@ pub record Price : Type 0 where
   pub units : ℕ
   pub greedy : ℕ
   pub openings-first : ℕ
-
--- two bytes, high first
-abbrev pub twoBytes : ℕ → List ℕ
-twoBytes n = n / 256 % 256 ∷ n % 256 ∷ []
 
 -- the fourteen digits that are printed
 unfoldable pub priceDigits : Price → List ℕ

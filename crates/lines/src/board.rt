@@ -1,14 +1,13 @@
 // Board lines.
 use crate::Checked;
 use crate::Refusal;
-use crate::hex;
 ghost use mathlib.Core.Path.{_≡_};
 ghost use mathlib.Core.Option.{none};
 ghost use Prim.Native.Nat.{_+_, _*_, _/_, _%_, _-_, _^_, _<_, _≤_};
 ghost use lib.ListN.{length};
 ghost use Rattle.game.specs.Lists.{some-of};
 ghost use Rattle.game.specs.Area.{begun};
-ghost use Rattle.lines.specs.Hex.{bytesOf, isWrong};
+ghost use Rattle.hex.specs.Hex.{bytesOf, isWrong};
 ghost use Rattle.lines.specs.BoardLine.{bitBetween, boardLineCall, cellValues, digitsRefused, lineRefusal, mineBit, valueOf};
 ghost use Rattle.lines.specs.Answers.{KeptGrid, boardAnswer, refusalOf};
 

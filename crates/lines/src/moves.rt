@@ -2,7 +2,6 @@
 use crate::Checked;
 use crate::Refusal;
 use crate::board;
-use crate::hex;
 ghost use mathlib.Core.Path.{_≡_};
 ghost use Prim.Native.Nat.{_+_, _*_, _<_, _≤_};
 ghost use lib.ListN.{drop, getD, length, take};
@@ -10,7 +9,7 @@ ghost use lib.Seq.{sets};
 ghost use Rattle.game.specs.Lists.{concat-map};
 ghost use Rattle.game.specs.Area.{begun};
 ghost use Rattle.game.specs.Calls.{firstGiven};
-ghost use Rattle.lines.specs.Hex.{byteDigits, bytesOf};
+ghost use Rattle.hex.specs.Hex.{byteDigits, bytesOf};
 ghost use Rattle.lines.specs.MoveLine.{moveLine, moveLineChecks, readMovesCall, wordBytes, wordDigits, wordsOf, writeChecks, writeMovesCall};
 ghost use Rattle.lines.specs.Answers.{KeptRun, readAnswer, refusalOf, writtenAnswer};
 

@@ -1,7 +1,6 @@
 // Price lines.
-use crate::hex;
 ghost use mathlib.Core.Path.{_≡_};
-ghost use Rattle.lines.specs.Hex.{putDigits};
+ghost use Rattle.hex.specs.Hex.{putDigits};
 ghost use Rattle.lines.specs.PriceLine.{heldPrice, priceDigits};
 
 // What a price line says: 0 or the refusal's number, 3BV, greedy and openings-first clicks.

@@ -5,7 +5,7 @@ use Rattle.game.specs.Moves.{play, reveal}
 use Rattle.game.specs.Openings.{grow, joinedTo, openings, threeBV}
 use Rattle.game.specs.Position.{closedSafe, cost, gain, premium}
 use Rattle.game.specs.Rounds.{choice, firstClicks, greedySteps, movesAt, openingsFirstSteps, topCells, unitCells}
-use Rattle.lines.specs.Hex.{hexDigit, hexValue}
+use Rattle.hex.specs.Hex.{hexDigit, hexValue}
 use Rattle.lines.specs.BoardLine.{bitAt, bitBetween, gridOfBytes, lineRefusal}
 use Rattle.lines.specs.PriceLine.{priceDigits}
 use Rattle.reader.specs.Prices.{answerLine, priceOf}

@@ -10,7 +10,7 @@ use lib.ListN.{drop, length, length-append, length-drop, length-set, length-take
 use lib.Seq.{drop-at, drop-drop, length-take-le, sets-eq, take-all, take-append-le, take-at, take-suc-set}
 use borrow.Author.Tests.{ltb-false, ltb-true}
 use Rattle.game.specs.Lists.{concat-map}
-use Rattle.lines.specs.Hex.{putDigits}
+use Rattle.hex.specs.Hex.{putDigits}
 use Rattle.lines.proofs.Priced.{put-there}
 use Rattle.reader.specs.Prices.{answerLine}
 use Rattle.reader.specs.Blocks.{Cut, Desk, Keeps, Told, blockRead, cutFrom, saidAt}

@@ -4,9 +4,9 @@ use native.Mathlib.Omega.{arith}
 use mathlib.Core.Path.{_≡_, ap, sym, _∙_}
 use mathlib.Core.List.{List, [], _∷_, _++_}
 use lib.ListN.{length, length-append, set, take}
-use Rattle.lines.specs.Hex.{putDigits}
+use Rattle.hex.specs.Hex.{putDigits}
 use Rattle.lines.specs.PriceLine.{Price, priceDigits}
-use Rattle.lines.proofs.Bytes.{sets-more}
+use Rattle.hex.proofs.Bytes.{sets-more}
 use Rattle.lines.proofs.Priced.{length-price, put-there}
 use Rattle.reader.specs.Prices.{answerLine, priceOf}
 use Rattle.reader.specs.Blocks.{Desk, byteRead}

@@ -8,7 +8,7 @@ use lib.ListN.{drop, length, set, take}
 use mathlib.Core.Option.{Option, none, some}
 use Rattle.game.specs.Lists.{concat-map}
 use Rattle.game.specs.Calls.{Answer, Check, Refusal, firstGiven, gives, refuses, trace, work}
-use Rattle.lines.specs.Hex.{putDigits}
+use Rattle.hex.specs.Hex.{putDigits}
 use Rattle.reader.specs.Prices.{answerLine}
 
 -- lines that have ended, and the line that goes on

@@ -33,7 +33,7 @@ fn read_byte(byte: u8, held: &mut [u8], out: &mut [u8], place: Place) -> Place
     requires { ⌜ Room (deskAt (now held) place (now out)) 1 ⌝ }
     ensures { λ r. ⌜ deskAt (now (held .exit)) r (now (out .exit)) ≡ byteRead (deskAt (now (held .entry)) place (now (out .entry))) byte ⌝ }
 {
-    if lines::hex::is_end(byte) {
+    if hex::is_end(byte) {
         return end_line(held, out, place);
     }
     let count = place.count;

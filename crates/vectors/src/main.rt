@@ -24,7 +24,7 @@ fn digit_at(line: &[u8], place: usize) -> usize
     if place >= line.len() {
         return 0;
     }
-    lines::hex::value_of(line[place])
+    hex::value_of(line[place])
 }
 
 // The byte at a place, two digits each.

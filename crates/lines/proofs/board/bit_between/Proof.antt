@@ -4,7 +4,7 @@ use native.Mathlib.Omega.{arith}
 use mathlib.Core.Path.{_≡_, refl, sym, _∙_}
 use borrow.Author.Needs.{needs}
 use Rattle.game.specs.Lists.{range, some-of}
-use Rattle.lines.specs.Hex.{bytesOf}
+use Rattle.hex.specs.Hex.{bytesOf}
 use Rattle.lines.specs.BoardLine.{bitBetween, mineBit}
 use Rattle.lines.proofs.Runs.{fails, passes, range-over, range-step}
 use Rattle.lines.proofs.board.bit_between.Statement.{statement}

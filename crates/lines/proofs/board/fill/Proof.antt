@@ -9,7 +9,7 @@ use mir.Syntax.{w32}
 use mir.Val.{SFits, toZ, ofZ}
 use mir.Facts.{toZ-ofZ}
 use Rattle.game.specs.Area.{begun}
-use Rattle.lines.specs.Hex.{bytesOf}
+use Rattle.hex.specs.Hex.{bytesOf}
 use Rattle.lines.specs.BoardLine.{cellValues, mineBit, valueOf}
 use Rattle.lines.proofs.Runs.{fill-more}
 use borrow.Author.Needs.{needs}

@@ -5,7 +5,7 @@ use mathlib.Core.Path.{_≡_, ap, refl, sym, _∙_}
 use lib.ListN.{drop, drop-of-length-le, length}
 use borrow.Author.Needs.{needs}
 use Rattle.game.specs.Lists.{some-of}
-use Rattle.lines.specs.Hex.{isWrong}
+use Rattle.hex.specs.Hex.{isWrong}
 use Rattle.lines.proofs.Runs.{fails, passes, some-step}
 use Rattle.lines.proofs.board.has_wrong.Statement.{statement}
 use Rattle.lines.proofs.board.has_wrong.Tie as tie

@@ -3,7 +3,7 @@ use Prim.Native.Nat.{ℕ, _*_, _≤_}
 use native.Mathlib.Omega.{arith}
 use mathlib.Core.Path.{_≡_, ap, _∙_}
 use Rattle.game.specs.Area.{begun}
-use Rattle.lines.specs.Hex.{bytesOf}
+use Rattle.hex.specs.Hex.{bytesOf}
 use Rattle.lines.specs.BoardLine.{cellValues, gridOfBytes}
 use Rattle.lines.proofs.Verdict.{Passed, cellsOf, passed, product-small}
 use Rattle.lines.proofs.Calls.{kept-read, kept-short}

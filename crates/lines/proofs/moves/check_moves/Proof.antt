@@ -3,7 +3,7 @@ use native.Mathlib.Omega.{arith}
 use mathlib.Core.Path.{_≡_, sym, _∙_}
 use mathlib.Core.Bool.{false}
 use Rattle.game.specs.Lists.{some-of}
-use Rattle.lines.specs.Hex.{isWrong}
+use Rattle.hex.specs.Hex.{isWrong}
 use Rattle.lines.proofs.Words.{length-stored}
 use Rattle.lines.proofs.MoveCalls.{all-fine, few-digits, no-columns, no-room, no-rows, part-move, wrong-byte}
 use borrow.Author.Needs.{needs}

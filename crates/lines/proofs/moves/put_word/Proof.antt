@@ -4,7 +4,7 @@ use native.Mathlib.Omega.{arith}
 use mathlib.Core.Path.{ap, _∙_}
 use mathlib.Core.List.{List}
 use lib.Seq.{sets}
-use Rattle.lines.proofs.Bytes.{sets-more}
+use Rattle.hex.proofs.Bytes.{sets-more}
 use Rattle.lines.proofs.Priced.{twoDigits}
 use Rattle.lines.proofs.Words.{word-digits}
 use borrow.Author.Needs.{needs}

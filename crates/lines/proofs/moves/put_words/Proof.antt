@@ -6,9 +6,9 @@ use mathlib.Core.List.{List}
 use lib.ListN.{getD, length, take}
 use lib.Seq.{length-sets, length-take-le, sets}
 use Rattle.game.specs.Lists.{concat-map}
-use Rattle.lines.specs.Hex.{byteDigits}
+use Rattle.hex.specs.Hex.{byteDigits}
 use Rattle.lines.specs.MoveLine.{wordBytes, wordDigits}
-use Rattle.lines.proofs.Bytes.{sets-more}
+use Rattle.hex.proofs.Bytes.{sets-more}
 use Rattle.lines.proofs.Words.{digits-more, length-digits}
 use borrow.Author.Needs.{needs}
 use Rattle.lines.proofs.moves.put_words.Statement.{statement}

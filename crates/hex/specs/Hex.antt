@@ -42,3 +42,7 @@ byteDigits b = hexDigit (b / 16) ∷ hexDigit (b % 16) ∷ []
 -- digits put into a lent run at a place; nothing changes where they have no room
 unfoldable pub putDigits : ℕ → List ℕ → List ℕ → List ℕ
 putDigits at ds old = cond (leb (at + length ds) (length old)) (take at old ++ ds ++ drop (at + length ds) old) old
+
+-- two bytes, high first
+abbrev pub twoBytes : ℕ → List ℕ
+twoBytes n = n / 256 % 256 ∷ n % 256 ∷ []

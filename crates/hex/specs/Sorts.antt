@@ -2,9 +2,9 @@
 use Prim.Native.Nat.{ℕ}
 use mathlib.Core.Bool.{_||_, cond}
 use lib.Dec.{eqb}
-use Rattle.lines.specs.Hex.{hexValue, isDecimal, isLetter}
-use Rattle.lines.specs.declared.Sort.{Sort}
-use Rattle.lines.specs.declared.Sort.the-variants.{Digit, End, Wrong}
+use Rattle.hex.specs.Hex.{hexValue, isDecimal, isLetter}
+use Rattle.hex.specs.declared.Sort.{Sort}
+use Rattle.hex.specs.declared.Sort.the-variants.{Digit, End, Wrong}
 
 -- each byte of a line is one of digit, capital letter A to F, line feed, or it is wrong
 unfoldable pub sortOf : ℕ → Sort

@@ -1,9 +1,9 @@
--- `lines::hex::sort_of`: each range and the line feed as defined. Assumes nothing.
+-- `hex::sort_of`: each range and the line feed as defined. Assumes nothing.
 use native.Mathlib.Omega.{arith}
 use borrow.Author.Needs.{needs}
-use Rattle.lines.proofs.Digits.{decimal-sort, end-sort, letter-sort, over, under, wrong-sort}
-use Rattle.lines.proofs.hex.sort_of.Statement.{statement}
-use Rattle.lines.proofs.hex.sort_of.Tie as tie
+use Rattle.hex.proofs.Digits.{decimal-sort, end-sort, letter-sort, over, under, wrong-sort}
+use Rattle.hex.proofs.sort_of.Statement.{statement}
+use Rattle.hex.proofs.sort_of.Tie as tie
 
 cast-t5 : tie.Need-cast-t5
 cast-t5 c = search needs

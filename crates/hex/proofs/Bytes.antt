@@ -6,8 +6,8 @@ use mathlib.Core.List.{List, [], _∷_, _++_}
 use lib.ListN.{getD, length}
 use lib.Seq.{sets}
 use Rattle.game.specs.Lists.{concat-map}
-use Rattle.lines.specs.Hex.{byteDigits, bytesOf, hexValue}
-use Rattle.lines.specs.PriceLine.{twoBytes}
+use Rattle.hex.specs.Hex.{byteDigits, bytesOf, hexValue}
+use Rattle.hex.specs.Hex.{twoBytes}
 
 two-more : (k : ℕ) → 2 * suc k ≡ suc (suc (2 * k))
 two-more k = omega arith

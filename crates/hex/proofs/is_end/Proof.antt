@@ -1,9 +1,9 @@
--- `lines::hex::is_end`: a line feed alone ends a line. Assumes nothing.
+-- `hex::is_end`: a line feed alone ends a line. Assumes nothing.
 use mathlib.Core.Path.{ap, sym, _∙_}
 use borrow.Author.Needs.{needs}
-use Rattle.lines.proofs.Digits.{endSort, sort-end}
-use Rattle.lines.proofs.hex.is_end.Statement.{statement}
-use Rattle.lines.proofs.hex.is_end.Tie as tie
+use Rattle.hex.proofs.Digits.{endSort, sort-end}
+use Rattle.hex.proofs.is_end.Statement.{statement}
+use Rattle.hex.proofs.is_end.Tie as tie
 
 sort-of-requires : tie.Need-sort-of-requires
 sort-of-requires c κs = search needs

@@ -1,14 +1,19 @@
 // Hexadecimal: one byte of a line, and bytes of two digits.
-use crate::Sort;
 ghost use mathlib.Core.Path.{_≡_};
 ghost use Prim.Native.Nat.{_+_, _*_, _<_, _≤_};
 ghost use lib.Dec.{eqb};
 ghost use lib.ListN.{length, getD};
 ghost use lib.Seq.{sets};
 ghost use Rattle.game.specs.Lists.{concat-map};
-ghost use Rattle.lines.specs.PriceLine.{twoBytes};
-ghost use Rattle.lines.specs.Hex.{byteDigits, bytesOf, hexDigit, hexValue, isWrong};
-ghost use Rattle.lines.specs.Sorts.{sortOf};
+ghost use Rattle.hex.specs.Hex.{byteDigits, bytesOf, hexDigit, hexValue, isWrong, twoBytes};
+ghost use Rattle.hex.specs.Sorts.{sortOf};
+
+// What one byte of a line is.
+pub enum Sort {
+    Digit(usize),
+    End,
+    Wrong,
+}
 
 // What a byte of a line is: a digit with its value, the line's end, or wrong.
 pub fn sort_of(byte: u8) -> Sort
@@ -59,7 +64,7 @@ pub fn value_of(byte: u8) -> usize
 }
 
 // The digit of a value.
-pub(crate) fn digit_of(value: usize) -> u8
+pub fn digit_of(value: usize) -> u8
     requires { ⌜ value < 16 ⌝ }
     ensures { λ r. ⌜ r ≡ hexDigit value ⌝ }
 {
@@ -70,7 +75,7 @@ pub(crate) fn digit_of(value: usize) -> u8
 }
 
 // The byte at a place of a line.
-pub(crate) fn byte_at(line: &[u8], at: usize) -> usize
+pub fn byte_at(line: &[u8], at: usize) -> usize
     requires { ⌜ 2 * at + 2 ≤ length (now line) ⌝ }
     ensures { λ r. ⌜ (r ≡ getD (bytesOf (now (line .entry))) at 0) × (r < 256) ⌝ }
 {
@@ -80,7 +85,7 @@ pub(crate) fn byte_at(line: &[u8], at: usize) -> usize
 }
 
 // A byte's two digits put at a place of a lent run.
-pub(crate) fn put_byte(out: &mut [u8], at: usize, byte: usize)
+pub fn put_byte(out: &mut [u8], at: usize, byte: usize)
     requires { ⌜ (at + 2 ≤ length (now out)) × (byte < 256) ⌝ }
     ensures { λ _. ⌜ now (out .exit) ≡ sets (now (out .entry)) at (byteDigits byte) ⌝ }
 {
@@ -91,7 +96,7 @@ pub(crate) fn put_byte(out: &mut [u8], at: usize, byte: usize)
 }
 
 // Two bytes, high first, put at a place of a lent run.
-pub(crate) fn put_two(out: &mut [u8], at: usize, number: usize)
+pub fn put_two(out: &mut [u8], at: usize, number: usize)
     requires { ⌜ at + 4 ≤ length (now out) ⌝ }
     ensures { λ _. ⌜ now (out .exit) ≡ sets (now (out .entry)) at (concat-map byteDigits (twoBytes number)) ⌝ }
 {

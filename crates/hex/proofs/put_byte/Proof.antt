@@ -1,10 +1,10 @@
--- `lines::hex::put_byte`: the two digits stand one after the other. Assumes nothing.
+-- `hex::put_byte`: the two digits stand one after the other. Assumes nothing.
 use native.Mathlib.Omega.{arith}
 use native.Mathlib.Numerals.{add-one}
 use lib.ListN.{length-set}
 use borrow.Author.Needs.{needs}
-use Rattle.lines.proofs.hex.put_byte.Statement.{statement}
-use Rattle.lines.proofs.hex.put_byte.Tie as tie
+use Rattle.hex.proofs.put_byte.Statement.{statement}
+use Rattle.hex.proofs.put_byte.Tie as tie
 
 digit-of-requires : tie.Need-digit-of-requires
 digit-of-requires c κs = search needs

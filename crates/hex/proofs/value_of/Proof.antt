@@ -1,10 +1,10 @@
--- `lines::hex::value_of`: a digit's value is its sort's. Assumes nothing.
+-- `hex::value_of`: a digit's value is its sort's. Assumes nothing.
 use native.Mathlib.Omega.{arith}
 use mathlib.Core.Path.{ap, sym, _∙_}
 use borrow.Author.Needs.{needs}
-use Rattle.lines.proofs.Digits.{sort-value, value-small, valueSort}
-use Rattle.lines.proofs.hex.value_of.Statement.{statement}
-use Rattle.lines.proofs.hex.value_of.Tie as tie
+use Rattle.hex.proofs.Digits.{sort-value, value-small, valueSort}
+use Rattle.hex.proofs.value_of.Statement.{statement}
+use Rattle.hex.proofs.value_of.Tie as tie
 
 sort-of-requires : tie.Need-sort-of-requires
 sort-of-requires c κs = search needs

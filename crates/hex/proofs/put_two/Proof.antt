@@ -1,9 +1,9 @@
--- `lines::hex::put_two`: the high byte's digits, then the low one's. Assumes nothing.
+-- `hex::put_two`: the high byte's digits, then the low one's. Assumes nothing.
 use native.Mathlib.Omega.{arith}
 use borrow.Author.Needs.{needs}
-use Rattle.lines.proofs.Bytes.{two-there}
-use Rattle.lines.proofs.hex.put_two.Statement.{statement}
-use Rattle.lines.proofs.hex.put_two.Tie as tie
+use Rattle.hex.proofs.Bytes.{two-there}
+use Rattle.hex.proofs.put_two.Statement.{statement}
+use Rattle.hex.proofs.put_two.Tie as tie
 
 put-byte-requires : tie.Need-put-byte-requires
 put-byte-requires c κs = search needs

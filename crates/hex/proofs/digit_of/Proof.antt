@@ -1,8 +1,8 @@
--- `lines::hex::digit_of`: a digit to 9, a capital letter above. Assumes nothing.
+-- `hex::digit_of`: a digit to 9, a capital letter above. Assumes nothing.
 use borrow.Author.Needs.{needs}
-use Rattle.lines.proofs.Digits.{high-digit, low-digit}
-use Rattle.lines.proofs.hex.digit_of.Statement.{statement}
-use Rattle.lines.proofs.hex.digit_of.Tie as tie
+use Rattle.hex.proofs.Digits.{high-digit, low-digit}
+use Rattle.hex.proofs.digit_of.Statement.{statement}
+use Rattle.hex.proofs.digit_of.Tie as tie
 
 add-result : tie.Need-add-result
 add-result c = search needs

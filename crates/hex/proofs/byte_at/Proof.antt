@@ -1,9 +1,9 @@
--- `lines::hex::byte_at`: sixteen times the high digit and the low one. Assumes nothing.
+-- `hex::byte_at`: sixteen times the high digit and the low one. Assumes nothing.
 use native.Mathlib.Omega.{arith}
 use borrow.Author.Needs.{needs}
-use Rattle.lines.proofs.Bytes.{byte-here}
-use Rattle.lines.proofs.hex.byte_at.Statement.{statement}
-use Rattle.lines.proofs.hex.byte_at.Tie as tie
+use Rattle.hex.proofs.Bytes.{byte-here}
+use Rattle.hex.proofs.byte_at.Statement.{statement}
+use Rattle.hex.proofs.byte_at.Tie as tie
 
 mul-value-of : tie.Need-mul-value-of
 mul-value-of c = search needs

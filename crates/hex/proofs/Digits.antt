@@ -6,10 +6,10 @@ use mathlib.Core.Path.{_≡_, ap, refl, sym, _∙_}
 use mathlib.Core.Bool.{Bool, true, false, _&&_, _||_, cond, not}
 use lib.Dec.{eqb, leb}
 use borrow.Author.Tests.{eq-eqb, ne-eqb, le-leb, lt-leb, leb-true}
-use Rattle.lines.specs.Hex.{between, hexDigit, hexValue, isDecimal, isLetter, isWrong}
-use Rattle.lines.specs.Sorts.{sortOf}
-use Rattle.lines.specs.declared.Sort.{Sort}
-use Rattle.lines.specs.declared.Sort.the-variants.{Digit, End, Wrong}
+use Rattle.hex.specs.Hex.{between, hexDigit, hexValue, isDecimal, isLetter, isWrong}
+use Rattle.hex.specs.Sorts.{sortOf}
+use Rattle.hex.specs.declared.Sort.{Sort}
+use Rattle.hex.specs.declared.Sort.the-variants.{Digit, End, Wrong}
 
 -- ---- the tests
 

@@ -1,9 +1,9 @@
--- `lines::hex::is_wrong`: all but the digits are wrong. Assumes nothing.
+-- `hex::is_wrong`: all but the digits are wrong. Assumes nothing.
 use mathlib.Core.Path.{ap, sym, _∙_}
 use borrow.Author.Needs.{needs}
-use Rattle.lines.proofs.Digits.{sort-wrong, wrongSort}
-use Rattle.lines.proofs.hex.is_wrong.Statement.{statement}
-use Rattle.lines.proofs.hex.is_wrong.Tie as tie
+use Rattle.hex.proofs.Digits.{sort-wrong, wrongSort}
+use Rattle.hex.proofs.is_wrong.Statement.{statement}
+use Rattle.hex.proofs.is_wrong.Tie as tie
 
 sort-of-requires : tie.Need-sort-of-requires
 sort-of-requires c κs = search needs
