@@ -1,8 +1,8 @@
 // The rounds over runs of move records: the flat list that is lent beside the run is written by the covered call, and its words become the run's records.
+use checks::Checked;
+use checks::Refusal;
 use records::MoveRecord;
-use zini::Checked;
 use zini::Priced;
-use zini::Refusal;
 use zini::Replayed;
 use zini::Rolled;
 ghost use mathlib.Core.Path.{_≡_};
@@ -11,7 +11,8 @@ ghost use lib.IntN.{ℤ};
 ghost use lib.ListN.{length};
 ghost use Rattle.game.specs.Calls.{firstGiven, greedyCall, gridChecks, openingsFirstCall, randomRoundCall, replayCall};
 ghost use Rattle.area.specs.Numbers.{gridOf};
-ghost use Rattle.zini.specs.Answers.{Kept, KeptList, pricedAnswer, refusalOf, replayedAnswer, rolledAnswer};
+ghost use Rattle.checks.specs.Refusals.{refusalOf};
+ghost use Rattle.zini.specs.Answers.{Kept, KeptList, pricedAnswer, replayedAnswer, rolledAnswer};
 ghost use Rattle.zini.specs.declared.Priced.the-variants as Prices;
 ghost use Rattle.by_records.specs.Promises.{KeptReplay, KeptRun, copiedIf, priceCall, replayChecks, replayWithin, roomCheck, within, writtenBy};
 
@@ -19,7 +20,7 @@ ghost use Rattle.by_records.specs.Promises.{KeptReplay, KeptRun, copiedI
 fn check_room(rows: usize, columns: usize, grid: &[i32], work: &[i32], room: usize) -> Checked
     ensures { λ r. ⌜ refusalOf r ≡ firstGiven (gridChecks (gridOf rows columns (now (grid .entry))) (now (work .entry)) ++ roomCheck (gridOf rows columns (now (grid .entry))) room ∷ []) ⌝ }
 {
-    zini::checks::check_more(rows, columns, grid, work, room, grid.len(), Refusal::Trace)
+    checks::check_more(rows, columns, grid, work, room, grid.len(), Refusal::Trace)
 }
 
 // Greedy or openings-first for a run of so many records.
@@ -203,7 +204,7 @@ pub(crate) fn replay_within(
 ) -> Replayed
     ensures { λ r. ⌜ Kept (replayWithin (gridOf rows columns (now (grid .entry))) (now (work .entry)) room count (replayCall (gridOf rows columns (now (grid .entry))) (now (work .entry)) (now (list .entry)) count)) (replayedAnswer r) (now (work .exit)) ⌝ }
 {
-    let checked = zini::checks::check_more(rows, columns, grid, work, room, count, Refusal::Trace);
+    let checked = checks::check_more(rows, columns, grid, work, room, count, Refusal::Trace);
     match checked {
         Checked::Refused(refusal) => Replayed::Refused(refusal),
         Checked::Fine => zini::replays::replay(rows, columns, grid, work, list, count),

@@ -22,3 +22,4 @@ pub mod Ranges
 pub mod Table
 pub mod Replays
 pub mod Areas
+pub mod Checks

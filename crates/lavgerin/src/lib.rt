@@ -1,9 +1,9 @@
 // The calls under C names. Each returns the refusal's number, 0 for success; answers go through pointers, and what stands there is left alone where an answer has no such value.
+use checks::number_of;
 use zini::Counted;
 use zini::Priced;
 use zini::Replayed;
 use zini::Rolled;
-use zini::checks::number_of;
 ghost use Rattle.game.specs.Calls.{greedyCall, openingsFirstCall, randomRoundCall, randomSearchCall, replayCall, threeBVCall};
 ghost use Rattle.area.specs.Numbers.{gridOf};
 ghost use Rattle.lavgerin.specs.Names.{Returned, ReturnedList, ReturnedListTwo, ReturnedTwo};

@@ -10,24 +10,10 @@ use lib.ListN.{length}
 use borrow.Author.Tests.{le-ltb, lt-ltb}
 use Rattle.game.specs.Grid.{size}
 use Rattle.game.specs.Area.{begun}
-use Rattle.game.specs.Calls.{Check, Refusal, board, firstGiven, gives, refuses}
+use Rattle.game.specs.Calls.{Refusal, board, firstGiven, gives, refuses}
+use Rattle.game.proofs.Checks.{given-append, orElse}
 use Rattle.lines.specs.BoardLine.{GridOutcome, boardLineCall, boardLineChecks, lineGrid, lineRefusal, roomCheck, unlessRefused}
 use Rattle.lines.specs.Answers.{KeptGrid}
-
--- the second where the first is none
-abbrev orElse : Option Refusal → Option Refusal → Option Refusal
-orElse none o = o
-orElse (some f) o = some f
-
-given-append : (cs ds : List Check) → firstGiven (cs ++ ds) ≡ orElse (firstGiven cs) (firstGiven ds)
-given-append [] ds = refl
-given-append (c ∷ cs) ds = go (c .given) (given-append cs ds)
-  where
-    go : (b : Bool) → firstGiven (cs ++ ds) ≡ orElse (firstGiven cs) (firstGiven ds)
-        → _≡_ {A = Option Refusal} (elim b [ true ↦ some (c .refusal) | false ↦ firstGiven (cs ++ ds) ])
-        (orElse (elim b [ true ↦ some (c .refusal) | false ↦ firstGiven cs ]) (firstGiven ds))
-    go true r = refl
-    go false r = r
 
 -- the verdict of one check by its test
 abbrev alone : Refusal → Bool → Option Refusal
@@ -48,18 +34,18 @@ module _ (line : List ℕ) (lent : List ℤ) where
   by o b e f = given-append (boardLineChecks line) (roomCheck (lineGrid line) lent ∷ []) ∙ (λ i. orElse (e i) (alone board (f i)))
 
   pub kept-refused : (f : Refusal) → some f ≡ lineRefusal line → KeptGrid (boardLineCall line lent) (refuses f) lent
-  unfolding read
+  unfolding orElse read
   kept-refused f e =
       subst (λ (x : GridOutcome). KeptGrid x (refuses f) lent) (outcome (some f) (by (some f) (ltb (length lent) (size (lineGrid line))) (sym e) refl)) (record { answers = refl; leaves = refl })
 
   pub kept-short : lineRefusal line ≡ none → length lent < size (lineGrid line) → KeptGrid (boardLineCall line lent) (refuses board) lent
-  unfolding read
+  unfolding orElse read
   kept-short e h =
       subst (λ (x : GridOutcome). KeptGrid x (refuses board) lent) (outcome (some board) (by none true e (lt-ltb (length lent) (size (lineGrid line)) h))) (record { answers = refl; leaves = refl })
 
   pub kept-read : (new : List ℤ) (rows columns : ℕ) → lineRefusal line ≡ none → size (lineGrid line) ≤ length lent → rows ≡ lineGrid line .rows → columns ≡ lineGrid line .columns
       → new ≡ begun (lineGrid line .values) lent → KeptGrid (boardLineCall line lent) (gives (rows ∷ columns ∷ [])) new
-  unfolding read
+  unfolding orElse read
   kept-read new rows columns e h r c q =
       subst (λ (x : GridOutcome). KeptGrid x (gives (rows ∷ columns ∷ [])) new) (outcome none (by none false e (le-ltb (length lent) (size (lineGrid line)) h)))
       (record { answers = λ i. gives (r i ∷ c i ∷ []); leaves = q })

@@ -9,7 +9,7 @@ use lib.Dec.{eqb}
 use lib.ListN.{getD, length, length-take, take}
 use Rattle.game.specs.Lists.{concat-map}
 use Rattle.game.specs.Calls.{Answer, Refusal, gives}
-use Rattle.zini.proofs.Verdict.{none≢some}
+use Rattle.checks.proofs.Verdict.{none≢some}
 use Rattle.reader.specs.Prices.{answerLine}
 use Rattle.reader.specs.Blocks.{Desk, Fits, Keeps, Told, blockCall, blockRead, cutFrom, deskOf, endCall, endRead, joined, lastLine, printed, saidAt, unlessDesk}
 use Rattle.reader.specs.Answers.{KeptDesk, Room}

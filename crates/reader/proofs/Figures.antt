@@ -12,8 +12,8 @@ use Rattle.game.specs.Position.{untouched}
 use Rattle.game.specs.Area.{areaOf}
 use Rattle.game.specs.Rounds.{greedySteps, movesOf, openingsFirstSteps}
 use Rattle.game.specs.Calls.{Answer, Refusal, firstGiven, gives, greedyCall, gridChecks, listCheck, numberOf, openingsFirstCall, playedRound, refuses, threeBVCall, trace, unless, unlessListed}
-use Rattle.zini.proofs.Verdict.{all-fine}
-use Rattle.zini.proofs.More.{enough}
+use Rattle.checks.proofs.Verdict.{all-fine}
+use Rattle.checks.proofs.More.{enough}
 use Rattle.lines.specs.PriceLine.{Price}
 use Rattle.reader.specs.Prices.{priceOr}
 use Rattle.reader.specs.Taken.{Taken}

@@ -149,7 +149,7 @@ fn taken_apart(answer: Rolled) -> Search {
             used,
         },
         Rolled::Refused(refusal) => Search {
-            number: zini::checks::number_of(refusal) as usize,
+            number: checks::number_of(refusal) as usize,
             clicks: 0,
             used: 0,
         },

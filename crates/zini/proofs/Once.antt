@@ -3,18 +3,16 @@ use Prim.Native.Nat.{ℕ}
 use mathlib.Core.Path.{_≡_, refl, sym, _∙_}
 use mathlib.Core.Bool.{cond}
 use mathlib.Core.List.{List}
-use mathlib.Core.Option.{Option, none, some}
 use mathlib.Mathlib.Logic.Function.Defs.{LeftInverse·injective}
 use lib.IntN.{ℤ}
 use lib.Dec.{eqb}
 use lib.ListN.{getD}
 use Rattle.game.specs.Calls.{Answer, ListOutcome, Outcome, move, numberOf, refuses}
-use Rattle.game.specs.Calls as Game
-use Rattle.zini.specs.Answers.{Kept, KeptList, countedAnswer, named, pricedAnswer, refusalOf, replayedAnswer, rolledAnswer}
-use Rattle.zini.specs.declared.Refusal.{Refusal}
-use Rattle.zini.specs.declared.Refusal.the-variants.{Shape, Board, Work, Trace, Rounds, Draws}
-use Rattle.zini.specs.declared.Checked.{Checked}
-use Rattle.zini.specs.declared.Checked.the-variants as Checks
+use Rattle.checks.specs.Refusals.{named}
+use Rattle.checks.specs.declared.Refusal.{Refusal}
+use Rattle.checks.specs.declared.Refusal.the-variants.{Shape, Board, Work, Trace, Rounds, Draws}
+use Rattle.checks.proofs.Once.{refusalBy}
+use Rattle.zini.specs.Answers.{Kept, KeptList, countedAnswer, pricedAnswer, replayedAnswer, rolledAnswer}
 use Rattle.zini.specs.declared.Counted.{Counted}
 use Rattle.zini.specs.declared.Counted.the-variants as Counts
 use Rattle.zini.specs.declared.Replayed.{Replayed}
@@ -26,10 +24,6 @@ use Rattle.zini.specs.declared.Rolled.the-variants as Rolls
 use Rattle.zini.proofs.Promises.{kept-once, list-once}
 
 -- ---- each enum is read back
-
--- the refusal of a number
-abbrev refusalBy : ℕ → Refusal
-refusalBy n = cond (eqb n 1) Shape (cond (eqb n 2) Board (cond (eqb n 3) Work (cond (eqb n 4) Trace (cond (eqb n 5) Rounds Draws))))
 
 -- an enum from an answer: success by its values, MOVE by its place, a refusal by its number
 abbrev readBack : {A : Type 0} → (List ℕ → A) → (ℕ → A) → (Refusal → A) → Answer → A
@@ -86,23 +80,6 @@ replayed-same = LeftInverse·injective (readBack played Replays.Move Replays.Ref
     back (Replays.Refused f) = refused-back played Replays.Move Replays.Refused f
 
 -- ---- one answer and one end of each lent run
-
--- the checks: check, check_more, check_list
-pub checked-once : (o : Option Game.Refusal) (r r′ : Checked) → refusalOf r ≡ o → refusalOf r′ ≡ o → r ≡ r′
-checked-once o r r′ e e′ = LeftInverse·injective checkedBy refusalOf back r r′ (e ∙ sym e′)
-  where
-    checkedBy : Option Game.Refusal → Checked
-    checkedBy none = Checks.Fine
-    checkedBy (some f) = Checks.Refused (refusalBy (numberOf f))
-
-    back : (r : Checked) → checkedBy (refusalOf r) ≡ r
-    back Checks.Fine = refl
-    back (Checks.Refused Shape) = refl
-    back (Checks.Refused Board) = refl
-    back (Checks.Refused Work) = refl
-    back (Checks.Refused Trace) = refl
-    back (Checks.Refused Rounds) = refl
-    back (Checks.Refused Draws) = refl
 
 -- the 3BV count
 pub counted-once : (p : Outcome) (r r′ : Counted) (w w′ : List ℤ) → Kept p (countedAnswer r) w → Kept p (countedAnswer r′) w′ → (r ≡ r′) × (w ≡ w′)

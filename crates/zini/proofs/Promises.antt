@@ -1,30 +1,11 @@
 -- A call keeps its promise: refused as the checks say, else by what it comes to. Assumes nothing.
 use Prim.Native.Nat.{ℕ}
-use mathlib.Core.Path.{_≡_, refl, ap, sym, _∙_}
-use mathlib.Core.Bool.{Bool, true, false}
-use mathlib.Core.List.{List, [], _∷_, _++_}
+use mathlib.Core.Path.{_≡_, ap, sym, _∙_}
+use mathlib.Core.List.{List}
 use mathlib.Core.Option.{Option, none, some}
 use lib.IntN.{ℤ}
-use Rattle.game.specs.Calls.{Answer, Outcome, ListOutcome, Refusal, Check, firstGiven, refuses, unless, unlessListed}
+use Rattle.game.specs.Calls.{Answer, Outcome, ListOutcome, Refusal, refuses, unless, unlessListed}
 use Rattle.zini.specs.Answers.{Kept, KeptList}
-
--- ---- the verdict of one check more
-
--- the verdict of the first checks, or else of the last
-unfoldable pub orElse : Option Refusal → Option Refusal → Option Refusal
-orElse none o = o
-orElse (some f) o = some f
-
-pub given-append : (cs ds : List Check) → firstGiven (cs ++ ds) ≡ orElse (firstGiven cs) (firstGiven ds)
-unfolding orElse
-given-append [] ds = refl
-given-append (c ∷ cs) ds = go (c .given) (given-append cs ds)
-  where
-    go : (b : Bool) → firstGiven (cs ++ ds) ≡ orElse (firstGiven cs) (firstGiven ds)
-        → _≡_ {A = Option Refusal} (elim b [ true ↦ some (c .refusal) | false ↦ firstGiven (cs ++ ds) ])
-        (orElse (elim b [ true ↦ some (c .refusal) | false ↦ firstGiven cs ]) (firstGiven ds))
-    go true r = refl
-    go false r = r
 
 -- ---- calls without a list
 

@@ -20,7 +20,7 @@ use Rattle.game.proofs.Searches.{search-sound}
 use Rattle.area.proofs.Cells.{cells-few}
 use Rattle.zini.specs.Answers.{Kept, KeptList}
 use Rattle.zini.specs.Written.{Told, Written}
-use Rattle.zini.proofs.More.{all-passed, none-below}
+use Rattle.checks.proofs.More.{all-passed, none-below}
 
 numbered : (f : Refusal) → 1 ≤ numberOf f
 numbered shape = omega arith

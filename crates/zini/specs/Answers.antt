@@ -2,18 +2,11 @@
 use Prim.Native.Nat.{ℕ}
 use mathlib.Core.Path.{_≡_}
 use mathlib.Core.List.{List, [], _∷_}
-use mathlib.Core.Option.{Option, none, some}
 use lib.IntN.{ℤ}
-use lib.Dec.{ltb}
-use Rattle.game.specs.Grid.{Grid}
-use Rattle.game.specs.Calls.{Answer, Check, listCheck, ListOutcome, Outcome, gives, move, numberOf, refuses, shape, board, work, trace, rounds, draws}
-use Rattle.game.specs.Calls as Game
+use Rattle.game.specs.Calls.{Answer, ListOutcome, Outcome, gives, move, numberOf, refuses}
+use Rattle.checks.specs.Refusals.{named}
 use Rattle.replay.specs.declared.Replay.{Replay}
 use Rattle.replay.specs.declared.Replay.the-variants as Runs
-use Rattle.zini.specs.declared.Refusal.{Refusal}
-use Rattle.zini.specs.declared.Refusal.the-variants.{Shape, Board, Work, Trace, Rounds, Draws}
-use Rattle.zini.specs.declared.Checked.{Checked}
-use Rattle.zini.specs.declared.Checked.the-variants as Checks
 use Rattle.zini.specs.declared.Counted.{Counted}
 use Rattle.zini.specs.declared.Counted.the-variants as Counts
 use Rattle.zini.specs.declared.Replayed.{Replayed}
@@ -22,28 +15,6 @@ use Rattle.zini.specs.declared.Priced.{Priced}
 use Rattle.zini.specs.declared.Priced.the-variants as Prices
 use Rattle.zini.specs.declared.Rolled.{Rolled}
 use Rattle.zini.specs.declared.Rolled.the-variants as Rolls
-
--- the refusal of that name
-abbrev pub named : Refusal → Game.Refusal
-named Shape = shape
-named Board = board
-named Work = work
-named Trace = trace
-named Rounds = rounds
-named Draws = draws
-
--- the refusal that is given, if any
-abbrev pub refusalOf : Checked → Option Game.Refusal
-refusalOf Checks.Fine = none
-refusalOf (Checks.Refused f) = some (named f)
-
--- one check more: a value below its least
-abbrev pub below : ℕ → ℕ → Refusal → List Check
-below value least f = record { given = ltb value least; refusal = named f } ∷ []
-
--- one check more: a list below cells long
-abbrev pub listed : Grid → List ℕ → List Check
-listed g ms = listCheck g ms ∷ []
 
 -- the 3BV count: 0 and the units, or the refusal's number alone
 abbrev pub countedAnswer : Counted → Answer

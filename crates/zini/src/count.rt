@@ -1,6 +1,6 @@
 // The 3BV count.
-use crate::Checked;
 use crate::Counted;
+use checks::Checked;
 ghost use Rattle.game.specs.Calls.{threeBVCall};
 ghost use Rattle.area.specs.Numbers.{gridOf};
 ghost use Rattle.zini.specs.Answers.{Kept, countedAnswer};
@@ -9,7 +9,7 @@ ghost use Rattle.zini.specs.Answers.{Kept, countedAnswer};
 pub fn three_bv(rows: usize, columns: usize, grid: &[i32], work: &mut [i32]) -> Counted
     ensures { λ r. ⌜ Kept (threeBVCall (gridOf rows columns (now (grid .entry))) (now (work .entry))) (countedAnswer r) (now (work .exit)) ⌝ }
 {
-    let checked = crate::checks::check(rows, columns, grid, work);
+    let checked = checks::check(rows, columns, grid, work);
     match checked {
         Checked::Refused(refusal) => Counted::Refused(refusal),
         Checked::Fine => {

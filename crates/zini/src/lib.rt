@@ -1,26 +1,11 @@
 // The public calls: each checks its input in document 01's order, and answers an enum.
-pub mod checks; // shape, board, work area
+use checks::Refusal;
+
 pub mod count; // 3BV
 pub mod replays; // a stored list played on a board
 pub mod prices; // greedy and openings-first rounds
 mod clears; // lent memory filled with 0
 pub mod rolls; // random rounds and searches
-
-// Why a call is refused.
-pub enum Refusal {
-    Shape,
-    Board,
-    Work,
-    Trace,
-    Rounds,
-    Draws,
-}
-
-// What the checks of every call say.
-pub enum Checked {
-    Fine,
-    Refused(Refusal),
-}
 
 // What the 3BV count answers.
 pub enum Counted {

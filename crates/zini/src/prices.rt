@@ -1,6 +1,6 @@
 // Greedy and openings-first rounds: clicks, and the moves listed.
-use crate::Checked;
 use crate::Priced;
+use checks::Checked;
 ghost use mathlib.Core.Path.{_≡_};
 ghost use mathlib.Core.List.{[], _∷_, _++_};
 ghost use Prim.Native.Nat.{ℕ, _*_, _≤_};
@@ -43,7 +43,7 @@ fn price(
 ) -> Priced
     ensures { λ r. ⌜ KeptList (unlessListed (firstGiven (gridChecks (gridOf rows columns (now (grid .entry))) (now (work .entry)) ++ listCheck (gridOf rows columns (now (grid .entry))) (now (list .entry)) ∷ [])) (now (work .entry)) (now (list .entry)) (playedRound (gridOf rows columns (now (grid .entry))) (movesOf (roundSteps «openings_first» (gridOf rows columns (now (grid .entry))))) (now (work .entry)) (now (list .entry)))) (pricedAnswer r) (now (work .exit)) (now (list .exit)) ⌝ }
 {
-    let checked = crate::checks::check_list(rows, columns, grid, work, list);
+    let checked = checks::check_list(rows, columns, grid, work, list);
     match checked {
         Checked::Refused(refusal) => Priced::Refused(refusal),
         Checked::Fine => {

@@ -1,7 +1,7 @@
 // Replay of a stored move list.
-use crate::Checked;
-use crate::Refusal;
 use crate::Replayed;
+use checks::Checked;
+use checks::Refusal;
 ghost use mathlib.Core.Path.{_≡_};
 ghost use Prim.Native.Nat.{ℕ, _*_, _≤_};
 ghost use lib.ListN.{length, take};
@@ -53,15 +53,7 @@ pub fn replay(
 ) -> Replayed
     ensures { λ r. ⌜ Kept (replayCall (gridOf rows columns (now (grid .entry))) (now (work .entry)) (now (list .entry)) count) (replayedAnswer r) (now (work .exit)) ⌝ }
 {
-    let checked = crate::checks::check_more(
-        rows,
-        columns,
-        grid,
-        work,
-        list.len(),
-        count,
-        Refusal::Trace,
-    );
+    let checked = checks::check_more(rows, columns, grid, work, list.len(), count, Refusal::Trace);
     match checked {
         Checked::Refused(refusal) => Replayed::Refused(refusal),
         Checked::Fine => replay_checked(rows, columns, grid, work, list, count),

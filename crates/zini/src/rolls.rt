@@ -1,8 +1,8 @@
 // Random rounds and searches: clicks, and draw bytes used.
-use crate::Checked;
-use crate::Refusal;
 use crate::Rolled;
 use crate::clears;
+use checks::Checked;
+use checks::Refusal;
 ghost use mathlib.Core.Path.{_≡_};
 ghost use mathlib.Core.List.{List};
 ghost use mathlib.Core.Option.{Option};
@@ -112,7 +112,7 @@ pub fn random_round(
 ) -> Rolled
     ensures { λ r. ⌜ KeptList (randomRoundCall (gridOf rows columns (now (grid .entry))) (now (work .entry)) (now (list .entry)) (now (draws .entry))) (rolledAnswer r) (now (work .exit)) (now (list .exit)) ⌝ }
 {
-    let checked = crate::checks::check_list(rows, columns, grid, work, list);
+    let checked = checks::check_list(rows, columns, grid, work, list);
     match checked {
         Checked::Refused(refusal) => Rolled::Refused(refusal),
         Checked::Fine => roll_checked(rows, columns, grid, work, list, draws),
@@ -130,7 +130,7 @@ pub fn random_search(
 ) -> Rolled
     ensures { λ r. ⌜ Kept (randomSearchCall (gridOf rows columns (now (grid .entry))) (now (work .entry)) (now (draws .entry)) rounds) (rolledAnswer r) (now (work .exit)) ⌝ }
 {
-    let checked = crate::checks::check_more(rows, columns, grid, work, rounds, 1, Refusal::Rounds);
+    let checked = checks::check_more(rows, columns, grid, work, rounds, 1, Refusal::Rounds);
     match checked {
         Checked::Refused(first) => Rolled::Refused(first),
         Checked::Fine => search_checked(rows, columns, grid, work, draws, rounds),

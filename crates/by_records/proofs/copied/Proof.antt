@@ -10,8 +10,8 @@ use borrow.Author.Needs.{needs}
 use Rattle.game.specs.Calls.{Refusal, board, firstGiven, gridChecks, shape, trace, work}
 use Rattle.area.specs.Numbers.{gridOf}
 use Rattle.area.proofs.Cells.{cells-few}
-use Rattle.zini.proofs.More.{enough, first-stands, reaches, too-low}
-use Rattle.zini.proofs.Verdict.{no-rows, many-rows, no-columns, many-columns, other-board, short-work, all-fine}
+use Rattle.checks.proofs.More.{enough, first-stands, reaches, too-low}
+use Rattle.checks.proofs.Verdict.{no-rows, many-rows, no-columns, many-columns, other-board, short-work, all-fine}
 use Rattle.by_records.specs.Promises.{copiedIf}
 use Rattle.by_records.proofs.copied.Statement.{statement}
 use Rattle.by_records.proofs.copied.Tie as tie

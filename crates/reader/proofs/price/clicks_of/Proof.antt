@@ -1,6 +1,7 @@
 -- `reader::price::clicks_of`: the clicks of an answer of one value. Assumes nothing.
 use mathlib.Core.Path.{ap, sym}
-use Rattle.zini.specs.Answers.{named, pricedAnswer}
+use Rattle.checks.specs.Refusals.{named}
+use Rattle.zini.specs.Answers.{pricedAnswer}
 use Rattle.reader.proofs.Figures.{no-value, one-value}
 use borrow.Author.Needs.{needs}
 use Rattle.reader.proofs.price.clicks_of.Statement.{statement}

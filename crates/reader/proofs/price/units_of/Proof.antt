@@ -1,6 +1,7 @@
 -- `reader::price::units_of`: the units of an answer of one value. Assumes nothing.
 use mathlib.Core.Path.{ap, sym}
-use Rattle.zini.specs.Answers.{countedAnswer, named}
+use Rattle.checks.specs.Refusals.{named}
+use Rattle.zini.specs.Answers.{countedAnswer}
 use Rattle.reader.proofs.Figures.{no-value, one-value}
 use borrow.Author.Needs.{needs}
 use Rattle.reader.proofs.price.units_of.Statement.{statement}

@@ -11,8 +11,8 @@ use Rattle.area.specs.Numbers.{gridOf}
 use lib.ListN.{length}
 use Rattle.area.proofs.Held.{length-held}
 use Rattle.area.proofs.Cells.{cells-few}
-use Rattle.zini.specs.Answers.{named, refusalOf}
-use Rattle.zini.proofs.Verdict.{Passed, passed}
+use Rattle.checks.specs.Refusals.{named, refusalOf}
+use Rattle.checks.proofs.Verdict.{Passed, passed}
 use Rattle.zini.proofs.Counts.{count-refused, count-answered}
 use Rattle.zini.proofs.count.three_bv.Statement.{statement}
 use Rattle.zini.proofs.count.three_bv.Tie as tie

@@ -8,8 +8,8 @@ use Rattle.game.specs.Rounds.{movesOf}
 use Rattle.game.specs.Calls.{ListOutcome, Refusal, firstGiven, gridChecks, playedRound, trace}
 use Rattle.area.specs.Numbers.{gridOf}
 use Rattle.rounds.specs.Promises.{roundSteps}
-use Rattle.zini.specs.Answers.{refusalOf}
-use Rattle.zini.proofs.More.{reaches, all-passed}
+use Rattle.checks.specs.Refusals.{refusalOf}
+use Rattle.checks.proofs.More.{reaches, all-passed}
 use Rattle.zini.proofs.Promises.{list-else, list-refused}
 use borrow.Author.Needs.{needs}
 use Rattle.zini.proofs.prices.price.Statement.{statement}

@@ -8,8 +8,8 @@ use Rattle.game.specs.Moves.{replayFrom}
 use Rattle.game.specs.Calls.{Outcome, Refusal, firstGiven, gridChecks, replayCall, replayed, trace}
 use Rattle.area.specs.Numbers.{gridOf}
 use lib.ListN.{length, take}
-use Rattle.zini.specs.Answers.{named, refusalOf}
-use Rattle.zini.proofs.More.{reaches, all-passed}
+use Rattle.checks.specs.Refusals.{named, refusalOf}
+use Rattle.checks.proofs.More.{reaches, all-passed}
 use Rattle.zini.proofs.Promises.{kept-else, kept-refused}
 use borrow.Author.Needs.{needs}
 use Rattle.zini.proofs.replays.replay.Statement.{statement}

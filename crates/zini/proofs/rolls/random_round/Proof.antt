@@ -5,10 +5,10 @@ use mathlib.Core.Option.{Option, none}
 use Prim.Native.Nat.{_*_}
 use lib.ListN.{length}
 use Rattle.area.specs.Numbers.{gridOf}
-use Rattle.zini.specs.Answers.{refusalOf}
+use Rattle.checks.specs.Refusals.{refusalOf}
 use Rattle.game.specs.Rounds.{randomRound}
 use Rattle.game.specs.Calls.{ListOutcome, Refusal, drawnRound, firstGiven, gridChecks, randomRoundCall, trace}
-use Rattle.zini.proofs.More.{reaches, all-passed}
+use Rattle.checks.proofs.More.{reaches, all-passed}
 use Rattle.zini.proofs.Promises.{list-else, list-refused}
 use borrow.Author.Needs.{needs}
 use Rattle.zini.proofs.rolls.random_round.Statement.{statement}

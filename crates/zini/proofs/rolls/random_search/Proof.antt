@@ -3,13 +3,13 @@ use mathlib.Core.Path.{_≡_, ap, sym, _∙_}
 use mathlib.Core.List.{_++_}
 use mathlib.Core.Option.{Option, none}
 use Rattle.area.specs.Numbers.{gridOf}
-use Rattle.zini.specs.Answers.{refusalOf}
+use Rattle.checks.specs.Refusals.{refusalOf}
 use mathlib.Core.Bool.{Bool}
 use mathlib.Core.List.{[], _∷_}
 use lib.Dec.{eqb, ltb}
 use Rattle.game.specs.Rounds.{randomSearch}
 use Rattle.game.specs.Calls.{Outcome, Refusal, drawnSearch, firstGiven, gridChecks, randomSearchCall, rounds}
-use Rattle.zini.proofs.More.{all-passed, none-below}
+use Rattle.checks.proofs.More.{all-passed, none-below}
 use Rattle.zini.proofs.Promises.{kept-else, kept-refused}
 use borrow.Author.Needs.{needs}
 use Rattle.zini.proofs.rolls.random_search.Statement.{statement}

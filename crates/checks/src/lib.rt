@@ -1,11 +1,25 @@
 // The checks of every call, in their order, and the refusals' numbers.
-use crate::Checked;
-use crate::Refusal;
 ghost use mathlib.Core.Path.{_≡_};
 ghost use mathlib.Core.List.{_++_};
 ghost use Rattle.game.specs.Calls.{firstGiven, gridChecks, numberOf};
 ghost use Rattle.area.specs.Numbers.{gridOf};
-ghost use Rattle.zini.specs.Answers.{refusalOf, below, listed, named};
+ghost use Rattle.checks.specs.Refusals.{refusalOf, below, listed, named};
+
+// Why a call is refused.
+pub enum Refusal {
+    Shape,
+    Board,
+    Work,
+    Trace,
+    Rounds,
+    Draws,
+}
+
+// What the checks of every call say.
+pub enum Checked {
+    Fine,
+    Refused(Refusal),
+}
 
 // A refusal's number.
 pub fn number_of(refusal: Refusal) -> u8

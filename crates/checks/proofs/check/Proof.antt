@@ -1,12 +1,12 @@
--- `zini::checks::check`: the tests in their order. Assumes nothing.
+-- `checks::check`: the tests in their order. Assumes nothing.
 use Prim.Native.Nat.{_*_}
 use native.Mathlib.Omega.{arith}
 use borrow.Author.Needs.{needs}
 use Rattle.area.specs.Numbers.{gridOf}
 use Rattle.area.proofs.Cells.{cells-few}
-use Rattle.zini.proofs.Verdict.{no-rows, many-rows, no-columns, many-columns, other-board, short-work, all-fine}
-use Rattle.zini.proofs.checks.check.Statement.{statement}
-use Rattle.zini.proofs.checks.check.Tie as tie
+use Rattle.checks.proofs.Verdict.{no-rows, many-rows, no-columns, many-columns, other-board, short-work, all-fine}
+use Rattle.checks.proofs.check.Statement.{statement}
+use Rattle.checks.proofs.check.Tie as tie
 
 returns : tie.Need-returns
 returns c =

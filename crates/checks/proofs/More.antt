@@ -11,8 +11,8 @@ use lib.IntN.{ℤ}
 use Rattle.game.specs.Grid.{Grid}
 use borrow.Author.Tests.{eq-eqb, le-ltb, lt-ltb, ne-eqb}
 use Rattle.game.specs.Calls.{Check, Refusal, firstGiven, gridChecks}
-use Rattle.zini.proofs.Promises.{given-append, orElse}
-use Rattle.zini.proofs.Verdict.{Passed, none≢some, passed}
+use Rattle.game.proofs.Checks.{given-append, orElse}
+use Rattle.checks.proofs.Verdict.{Passed, none≢some, passed}
 
 -- the check that a value reaches its least
 abbrev pub reaches : ℕ → ℕ → Refusal → List Check

@@ -1,4 +1,4 @@
--- `zini::checks::check_list`: the first checks' refusal, or the list's. Assumes nothing.
+-- `checks::check_list`: the first checks' refusal, or the list's. Assumes nothing.
 use native.Mathlib.Omega.{arith}
 use mathlib.Core.Path.{_≡_, ap, sym, _∙_}
 use mathlib.Core.List.{List}
@@ -6,15 +6,15 @@ use mathlib.Core.Option.{none, some}
 use Rattle.game.specs.Calls.{Check, firstGiven, gridChecks}
 use Rattle.area.specs.Numbers.{gridOf}
 use Rattle.area.proofs.Cells.{cells-few}
-use Rattle.zini.specs.Answers.{named, refusalOf, below, listed}
-use Rattle.zini.proofs.Verdict.{passed}
-use Rattle.zini.proofs.More.{first-stands, too-low, enough}
+use Rattle.checks.specs.Refusals.{named, refusalOf, below, listed}
+use Rattle.checks.proofs.Verdict.{passed}
+use Rattle.checks.proofs.More.{first-stands, too-low, enough}
 use lib.ListN.{length}
 use Prim.Native.Nat.{_*_}
 use Rattle.game.specs.Calls.{trace}
 use borrow.Author.Needs.{needs}
-use Rattle.zini.proofs.checks.check_list.Statement.{statement}
-use Rattle.zini.proofs.checks.check_list.Tie as tie
+use Rattle.checks.proofs.check_list.Statement.{statement}
+use Rattle.checks.proofs.check_list.Tie as tie
 
 -- the checks of every call
 abbrev firsts : tie.Start → List Check

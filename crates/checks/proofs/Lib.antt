@@ -1,0 +1,3 @@
+pub mod Verdict
+pub mod More
+pub mod Once
