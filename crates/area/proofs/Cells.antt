@@ -1,7 +1,7 @@
 -- A cell by its row and column: its index lies in the grid, and its value tells a mine. Assumes nothing.
 use Prim.Native.Nat.{ℕ, _%_, _*_, _+_, _<_, _≤_}
 use native.Mathlib.Omega.{arith}
-use native.Mathlib.Nat.{mul-le-mul-left, mul-le-mul-right, mul-comm}
+use native.Mathlib.Nat.{mul-le-mul-left, mul-le-mul-right}
 use mathlib.Core.Path.{_≡_, ap, sym, _∙_}
 use mathlib.Core.List.{List}
 use lib.IntN.{ℤ}

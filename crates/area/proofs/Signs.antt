@@ -1,7 +1,7 @@
 -- A signed number in a local is its bits: what tests on the bits say of the number. Assumes nothing.
 use Prim.Native.Nat.{ℕ, zero, suc, _-_, _%_, _<_}
 use native.Mathlib.Omega.{arith}
-use mathlib.Core.Path.{_≡_, refl, sym, ap, _∙_, subst}
+use mathlib.Core.Path.{_≡_, refl, sym, subst}
 use mathlib.Core.Bool.{Bool, true, false, cond}
 use lib.Dec.{T, eqb, ltb, ltb→lt}
 use lib.IntN.{ℤ, pos, negsuc, natAbs, _-ℤ_}

@@ -1,6 +1,6 @@
 // One number of a lent run at a time: mines of the grid, numbers of the work area.
 ghost use mathlib.Core.Path.{_≡_};
-ghost use Prim.Native.Nat.{ℕ, _+_, _*_, _-_, _<_, _≤_, min};
+ghost use Prim.Native.Nat.{_+_, _*_, _-_, _<_, _≤_, min};
 ghost use lib.ListN.{length, getD};
 ghost use lib.IntN.{pos};
 ghost use mathlib.Core.Bool.{not};

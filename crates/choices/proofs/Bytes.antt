@@ -1,20 +1,18 @@
--- What is kept of the columns: a store keeps what was found again, and marks leave the rest right. Assumes nothing.
+-- What is kept of the columns: a store keeps what was found again. Assumes nothing.
 use Prim.Native.Nat.{ℕ, _+_, _<_, _≤_}
 use native.Mathlib.Omega.{arith}
 use native.Mathlib.Decide.{decLt, ℕ-discrete}
 use mathlib.Core.Path.{_∙_, _≡_, ap}
-use mathlib.Core.Logic.{inl, inr}
 use mathlib.Core.Bool.{Bool, cond}
 use mathlib.Core.List.{List}
 use borrow.Author.Tests.{le-ltb, lt-ltb}
 use lib.IntN.{ℤ}
 use lib.ListN.{getD, length, length-set, set}
 use lib.Seq.{getD-set-other, getD-set-same}
-use Rattle.marks.specs.Marks.{MarkedOr}
-use Rattle.choices.specs.Tops.{Kept, UnitsKept, columnTop, columnUnits, keptOf}
+use Rattle.choices.specs.Tops.{Kept, columnTop, keptOf}
 
 -- what is found of it is kept, where 1 more is a byte
-byte-again : (f : ℕ → ℕ) (bytes : List ℕ) (columns column : ℕ) → columns ≤ length bytes
+pub byte-again : (f : ℕ → ℕ) (bytes : List ℕ) (columns column : ℕ) → columns ≤ length bytes
     → ((c : ℕ) → c < columns → (getD bytes c 0 ≡ 0 → ⊥) → getD bytes c 0 ≡ f c + 1)
     → (c : ℕ) → c < columns → (getD (set bytes column (keptOf (f column))) c 0 ≡ 0 → ⊥) → getD (set bytes column (keptOf (f column))) c 0 ≡ f c + 1
 byte-again f bytes columns column room right c h n =
@@ -38,21 +36,3 @@ kept-again openedOnly w rows columns tops column k =
       room = rw (length-set tops column (keptOf (columnTop openedOnly w rows column))) (k .room);
       right = byte-again (columnTop openedOnly w rows) tops columns column (k .room) (k .right);
     }
-
--- its closed units
-pub units-again : (w : List ℤ) (rows columns : ℕ) (units : List ℕ) (column : ℕ) → UnitsKept w rows columns units units
-    → UnitsKept w rows columns (set units column (keptOf (columnUnits w rows column))) (set units column (keptOf (columnUnits w rows column)))
-units-again w rows columns units column k =
-    record {
-      room = rw (length-set units column (keptOf (columnUnits w rows column))) (k .room);
-      right = λ c h _. byte-again (columnUnits w rows) units columns column (k .room) (λ d b n. k .right d b n n) c h;
-    }
-
--- the closed units of the columns that are not marked are kept
-pub units-marked : (w : List ℤ) (rows columns : ℕ) (tops units units′ : List ℕ) → UnitsKept w rows columns tops units → length units′ ≡ length units
-    → ((c : ℕ) → c < columns → MarkedOr (getD tops c 0 ≡ 0 → ⊥) units units′ c) → UnitsKept w rows columns units′ units′
-units-marked w rows columns tops units units′ k l m = record { room = omega (arith, k .room); right = λ c h n _. go c h n (m c h) }
-  where
-    go : (c : ℕ) → c < columns → (getD units′ c 0 ≡ 0 → ⊥) → MarkedOr (getD tops c 0 ≡ 0 → ⊥) units units′ c → getD units′ c 0 ≡ columnUnits w rows c + 1
-    go c h n (inl z) = absurd (n z)
-    go c h n (inr (e, t)) = e ∙ k .right c h t (λ z. n (e ∙ z))

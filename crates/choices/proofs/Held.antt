@@ -3,10 +3,10 @@ use borrow.Author.Tests.{lt-ltb, le-ltb}
 use Prim.Native.Nat.{ℕ, _*_, _+_, _-_, _<_, _≤_, suc, zero}
 use native.Mathlib.Omega.{arith}
 use native.Mathlib.Decide.{decLt}
-use mathlib.Core.Path.{_∙_, _≡_, ap, ap₂, refl, subst, sym}
+use mathlib.Core.Path.{_∙_, _≡_, ap, refl, subst, sym}
 use mathlib.Core.Bool.{Bool, _&&_, _||_, cond, false, not, true}
 use mathlib.Core.List.{List}
-use lib.Dec.{T, eqb, eqb→eq, leb, leb→le, le→leb}
+use lib.Dec.{T, eqb, leb, leb→le, le→leb}
 use lib.IntN.{_-ℤ_, negsuc, pos, ℤ}
 use lib.Signed.{leZ}
 use Rattle.area.specs.Numbers.{numberAt}
@@ -18,12 +18,11 @@ use Rattle.game.specs.Openings.{firstLabel}
 use Rattle.game.specs.Position.{Position, closed, cost, gain, opened, premium}
 use Rattle.game.specs.Rounds.{closedUnitCell, leastChosen, looked, unitCells}
 use Rattle.marks.proofs.Held.{Holds, one-more}
-use Rattle.choices.proofs.Passing.{keep-ext}
 use Rattle.game.proofs.Labels.{first-label}
-use Rattle.game.proofs.Members.{has-keep, has-range, keep-has}
+use Rattle.game.proofs.Members.{has-keep, has-range, keep-ext, keep-has}
 use Rattle.game.proofs.Ranges.{cost-range}
 use Rattle.game.proofs.Squares.{cells→, →cells}
-use Rattle.game.proofs.Truth.{T→true, and-both, and-left, and-right, eqb-no, eqb-yes, iff, no→false}
+use Rattle.game.proofs.Truth.{T→true, and-both, and-left, and-right, eqb-no, iff, no→false}
 
 -- ---- premiums by what is kept of them
 

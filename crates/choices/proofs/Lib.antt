@@ -3,6 +3,5 @@ pub mod Held
 pub mod Tops
 pub mod Below
 pub mod Columns
-pub mod Skips
 pub mod Bytes
 pub mod Firsts

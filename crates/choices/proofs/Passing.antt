@@ -36,12 +36,6 @@ ordered-same (x ∷ xs) (y ∷ ys) o p f h =
     other : {a b : ℕ} → a < b → b ≡ a → ⊥
     other h e = omega arith
 
-pub keep-ext : (f h : ℕ → Bool) (xs : List ℕ) → ((x : ℕ) → T (has x xs) → f x ≡ h x) → keep f xs ≡ keep h xs
-keep-ext f h [] e = refl
-keep-ext f h (x ∷ xs) e =
-    ap (λ (b : Bool). elim b [ true ↦ x ∷ keep f xs | false ↦ keep f xs ]) (first-of x xs e)
-    ∙ ap (λ (l : List ℕ). elim (h x) [ true ↦ x ∷ l | false ↦ l ]) (keep-ext f h xs (rest-of x xs e))
-
 -- ---- the first that passes
 
 pub found-none : (f : ℕ → Bool) (n : ℕ) → ((j : ℕ) → j < n → T (f j) → ⊥) → Nothing ≡ foundFirst (keep f (range 0 n))

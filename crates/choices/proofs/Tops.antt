@@ -1,7 +1,6 @@
--- The cells of highest premium, by what the work area holds: one scan finds the lowest of them, and tells all of them. Assumes nothing.
+-- The cells of highest premium, by what the work area holds: one scan finds the lowest of them. Assumes nothing.
 use Rattle.choices.specs.declared.Found.the-variants.{At, Nothing}
 use Rattle.choices.specs.declared.Best.{Best}
-use borrow.Author.Tests.{lt-ltb, le-ltb}
 use Prim.Native.Nat.{ℕ, _*_, _+_, _-_, _<_, _≤_, suc, zero}
 use native.Mathlib.Omega.{arith}
 use native.Mathlib.Decide.{ℕ-discrete, decLt}
@@ -9,20 +8,20 @@ use native.Mathlib.Nat.{add-zero}
 use mathlib.Core.Path.{_∙_, _≡_, ap, refl, subst, sym}
 use mathlib.Core.Logic.{_⊎_, inl, inr, ⊎-elim}
 use mathlib.Core.Bool.{Bool, _&&_, _||_, cond, false, not, true}
-use mathlib.Core.List.{List, [], _∷_, map}
+use mathlib.Core.List.{List, [], map}
 use lib.Dec.{T, eqb, eqb→eq, ltb, ltb→lt, lt→ltb}
 use lib.IntN.{ℤ}
 use lib.Signed.{leZ}
 use Rattle.area.specs.Numbers.{numberAt}
-use Rattle.choices.specs.Picks.{bestOf, betterAt, candidatesOf, forClick, foundFirst}
-use Rattle.choices.specs.Tests.{candidateAt, lookedAt, topAt, unitAt}
+use Rattle.choices.specs.Picks.{bestOf, betterAt, foundFirst}
+use Rattle.choices.specs.Tests.{lookedAt, topAt}
 use Rattle.game.specs.Grid.{Grid, cells, safe, size}
 use Rattle.game.specs.Lists.{fold, from, has, keep, range}
 use Rattle.game.specs.Position.{Position, opened, premium}
-use Rattle.game.specs.Rounds.{Choice, choice, chords, clicks, highest, leastChosen, looked, same, topCells, unitCells}
+use Rattle.game.specs.Rounds.{highest, leastChosen, looked, same, topCells}
 use Rattle.marks.proofs.Held.{Holds}
-use Rattle.choices.proofs.Held.{looked→, premium→raised, raised→premium, raised→safe, reaches→, units-there, →looked, →reaches}
-use Rattle.choices.proofs.Passing.{found-at, keep-ext, none-there, ordered-same}
+use Rattle.choices.proofs.Held.{looked→, premium→raised, raised→premium, raised→safe, reaches→, →looked, →reaches}
+use Rattle.choices.proofs.Passing.{found-at, none-there, ordered-same}
 use Rattle.game.proofs.Choices.{top→, →top}
 use Rattle.game.proofs.Members.{has-keep, keep-has, range-has}
 use Rattle.game.proofs.Orders.{ordered-keep, ordered-range}
@@ -94,14 +93,14 @@ module _ (openedOnly : Bool) (g : Grid) (s : Position) (w : List ℤ) (r : Holds
 -- ---- the scan
 
 -- the lowest of the cells passed that has the highest raised premium, which is 10 or more
-record Lowest (openedOnly : Bool) (w : List ℤ) (i : ℕ) (b : Best) : Type 0 where
+pub record Lowest (openedOnly : Bool) (w : List ℤ) (i : ℕ) (b : Best) : Type 0 where
   pub reaches : 10 ≤ b .top
   pub inside : b .at < i
   pub has-it : T (topAt openedOnly (b .top) w (b .at))
   pub first : (j : ℕ) → j < b .at → T (topAt openedOnly (b .top) w j) → ⊥
 
 -- what the scan of n cells has once i are passed
-record Passed (openedOnly : Bool) (w : List ℤ) (n i : ℕ) (b : Best) : Type 0 where
+pub record Passed (openedOnly : Bool) (w : List ℤ) (n i : ℕ) (b : Best) : Type 0 where
   pub bound : (j : ℕ) → j < i → T (lookedAt openedOnly w j) → numberAt w (5 * j + 2) ≤ b .top
   pub which : ((b .top ≡ 9) × (b .at ≡ n)) ⊎ Lowest openedOnly w i b
 
@@ -155,7 +154,7 @@ module _ (openedOnly : Bool) (w : List ℤ) (n : ℕ) where
       up : (i k : ℕ) → suc i + k ≡ i + suc k
       up i k = omega arith
 
-  passed-all : Passed openedOnly w n n (bestOf openedOnly w n)
+  pub passed-all : Passed openedOnly w n n (bestOf openedOnly w n)
   passed-all =
       subst (λ (m : ℕ). Passed openedOnly w n m (bestOf openedOnly w n)) (all n)
       (passed-from (n - 0) 0 (record { top = 9; at = n }) (record { bound = λ j h u. absurd (omega arith); which = inl (refl, refl) }))
@@ -165,31 +164,18 @@ module _ (openedOnly : Bool) (w : List ℤ) (n : ℕ) where
 
 -- ---- what the scan tells of a position
 
--- without a premium of 0 or more the choice is for one L
-choice-none : (openedOnly : Bool) (g : Grid) (s : Position) → topCells openedOnly g s ≡ [] → choice openedOnly g s ≡ clicks (unitCells g s)
-unfolding choice
-choice-none openedOnly g s e = ap (λ (ts : List ℕ). elim ts [ [] ↦ clicks (unitCells g s) | x ∷ xs ↦ chords (x ∷ xs) ]) e
-
-choice-some : (openedOnly : Bool) (g : Grid) (s : Position) (x : ℕ) → T (has x (topCells openedOnly g s)) → choice openedOnly g s ≡ chords (topCells openedOnly g s)
-unfolding choice
-choice-some openedOnly g s x t = go (topCells openedOnly g s) t
-  where
-    go : (ts : List ℕ) → T (has x ts) → _≡_ {A = Choice} (elim ts [ [] ↦ clicks (unitCells g s) | x ∷ xs ↦ chords (x ∷ xs) ]) (chords ts)
-    go [] u = absurd u
-    go (y ∷ ys) u = refl
-
 module _ (openedOnly : Bool) (g : Grid) (s : Position) (w : List ℤ) (n : ℕ) (r : Holds g s w) (e : size g ≡ n) where
   below : (j : ℕ) → j < size g → T (lookedAt openedOnly w j) → numberAt w (5 * j + 2) ≤ bestOf openedOnly w n .top
   below j h u = passed-all openedOnly w n .bound j (omega arith) u
 
   -- if the scan has a cell, the cells of highest premium are those of its raised premium
-  scanned : Lowest openedOnly w n (bestOf openedOnly w n) → topCells openedOnly g s ≡ keep (topAt openedOnly (bestOf openedOnly w n .top) w) (range 0 n)
+  pub scanned : Lowest openedOnly w n (bestOf openedOnly w n) → topCells openedOnly g s ≡ keep (topAt openedOnly (bestOf openedOnly w n .top) w) (range 0 n)
   scanned l =
       tops-are openedOnly g s w r (bestOf openedOnly w n .top) below (l .reaches) (bestOf openedOnly w n .at) (omega (arith, l .inside)) (l .has-it)
       ∙ ap (λ (k : ℕ). keep (topAt openedOnly (bestOf openedOnly w n .top) w) (range 0 k)) e
 
   -- else there are none
-  unmet : bestOf openedOnly w n .top ≡ 9 → topCells openedOnly g s ≡ []
+  pub unmet : bestOf openedOnly w n .top ≡ 9 → topCells openedOnly g s ≡ []
   unmet q = tops-none openedOnly g s w r (bestOf openedOnly w n .top) below (omega arith)
 
   -- where no premium reaches 0, each that is looked at is lower
@@ -230,31 +216,3 @@ module _ (openedOnly : Bool) (g : Grid) (s : Position) (w : List ℤ) (n : ℕ) 
     where
       other : {a b : ℕ} → b ≤ a → a < b → ⊥
       other k q = omega arith
-
--- the highest raised premium alone tells what a random step chooses among
-module _ (g : Grid) (s : Position) (w : List ℤ) (n : ℕ) (r : Holds g s w) (e : size g ≡ n) where
-  pub top-tells : (ltb (bestOf false w n .top) 10 ≡ forClick (choice false g s)) × (keep (candidateAt (bestOf false w n .top) w) (range 0 n) ≡ candidatesOf (choice false g s))
-  top-tells = ⊎-elim (λ u. click (u .0)) chord (passed-all false w n .which)
-    where
-      m : ℕ
-      m = bestOf false w n .top
-
-      test : (b : Bool) → ltb m 10 ≡ b → keep (candidateAt m w) (range 0 n) ≡ keep (λ i. cond b (unitAt w i) (eqb (numberAt w (5 * i + 2)) m)) (range 0 n)
-      test b q =
-          keep-ext (candidateAt m w) (λ i. cond b (unitAt w i) (eqb (numberAt w (5 * i + 2)) m)) (range 0 n)
-          (λ i t. ap (λ (c : Bool). cond c (unitAt w i) (eqb (numberAt w (5 * i + 2)) m)) q)
-
-      click : m ≡ 9 → (ltb m 10 ≡ forClick (choice false g s)) × (keep (candidateAt m w) (range 0 n) ≡ candidatesOf (choice false g s))
-      click q =
-          let c = choice-none false g s (unmet false g s w n r e q) in
-          let l = lt-ltb m 10 (omega arith) in (
-            l ∙ sym (ap forClick c),
-            test true l ∙ ap (λ (k : ℕ). keep (unitAt w) (range 0 k)) (sym e) ∙ sym (units-there g s w r) ∙ sym (ap candidatesOf c),
-          )
-
-      chord : Lowest false w n (bestOf false w n) → (ltb m 10 ≡ forClick (choice false g s)) × (keep (candidateAt m w) (range 0 n) ≡ candidatesOf (choice false g s))
-      chord k =
-          let at = bestOf false w n .at in
-          let c = choice-some false g s at (rw (scanned false g s w n r e k) (has-keep (topAt false m w) at (range 0 n) (range-has 0 n at (omega arith) (k .inside)) (k .has-it))) in
-          let l = le-ltb m 10 (k .reaches) in
-          (l ∙ sym (ap forClick c), test false l ∙ sym (scanned false g s w n r e k) ∙ sym (ap candidatesOf c))

@@ -1,11 +1,10 @@
 -- What a search for a cell finds. Assumes nothing.
 use Prim.Native.Nat.{ℕ, _+_, _*_}
-use mathlib.Core.Bool.{Bool, true, false, cond, _&&_}
+use mathlib.Core.Bool.{Bool, cond, _&&_}
 use mathlib.Core.List.{List, [], _∷_}
 use lib.Dec.{ltb}
 use lib.IntN.{ℤ}
 use Rattle.game.specs.Lists.{fold, range}
-use Rattle.game.specs.Rounds.{Choice, chords, clicks}
 use Rattle.area.specs.Numbers.{numberAt}
 use Rattle.choices.specs.Tests.{lookedAt}
 use Rattle.choices.specs.declared.Best.{Best}
@@ -29,13 +28,3 @@ columnBest openedOnly w rows b column = fold (λ d row. betterAt openedOnly w d 
 -- the highest raised premium of 10 or more among n cells, and the lowest cell that has it; 9 and n if there is none
 abbrev pub bestOf : Bool → List ℤ → ℕ → Best
 bestOf openedOnly w n = fold (betterAt openedOnly w) (record { top = 9; at = n }) (range 0 n)
-
--- the cells that a choice is among
-abbrev pub candidatesOf : Choice → List ℕ
-candidatesOf (chords is) = is
-candidatesOf (clicks is) = is
-
--- a choice for one L
-abbrev pub forClick : Choice → Bool
-forClick (chords is) = false
-forClick (clicks is) = true

@@ -1,8 +1,8 @@
 -- Tests of one cell in a work area that stands for a position. Assumes nothing.
 use Prim.Native.Nat.{ℕ, _+_, _*_, _<_}
-use mathlib.Core.Bool.{Bool, not, cond, _&&_, _||_}
+use mathlib.Core.Bool.{Bool, not, _&&_, _||_}
 use mathlib.Core.List.{List}
-use lib.Dec.{T, eqb, ltb}
+use lib.Dec.{T, eqb}
 use lib.IntN.{ℤ}
 use Rattle.game.specs.Lists.{range, some-of}
 use Rattle.area.specs.Numbers.{numberAt}
@@ -23,10 +23,6 @@ unitAt w i =
 -- such a cell stands in the column
 abbrev pub columnHasUnit : List ℤ → ℕ → ℕ → Bool
 columnHasUnit w rows column = some-of (λ row. unitAt w (column * rows + row)) (range 0 rows)
-
--- a cell that a random step may take: of the highest raised premium if that is 10 or more, else a closed unit
-abbrev pub candidateAt : ℕ → List ℤ → ℕ → Bool
-candidateAt top w i = cond (ltb top 10) (unitAt w i) (eqb (numberAt w (5 * i + 2)) top)
 
 -- no closed unit has an index below k
 pub record NoUnitBelow (w : List ℤ) (k : ℕ) : Type 0 where

@@ -1,9 +1,9 @@
 -- What is kept of each column, so that a step looks again only at the columns that may have changed. Assumes nothing.
-use Prim.Native.Nat.{ℕ, _+_, _*_, _-_, _<_, _≤_}
+use Prim.Native.Nat.{ℕ, _+_, _*_, _<_, _≤_}
 use mathlib.Core.Path.{_≡_}
-use mathlib.Core.Bool.{Bool, _&&_, cond, not}
+use mathlib.Core.Bool.{Bool, cond}
 use mathlib.Core.List.{List}
-use lib.Dec.{eqb, ltb}
+use lib.Dec.{ltb}
 use lib.IntN.{ℤ}
 use lib.ListN.{getD, length}
 use Rattle.game.specs.Lists.{count, fold, range}
@@ -32,10 +32,6 @@ higherOf b top column = cond (ltb (b .top) top) (record { top = top; at = column
 abbrev pub firstOf : Bool → List ℤ → ℕ → ℕ → ℕ → Best
 firstOf openedOnly w rows columns n =
     fold (λ b column. higherOf b (columnTop openedOnly w rows column) column) (record { top = 9; at = columns }) (range 0 n)
-
--- a column that a random step passes over: a lower premium is kept of it
-abbrev pub skippedAt : ℕ → List ℕ → ℕ → Bool
-skippedAt top tops column = not (eqb (getD tops column 0) 0) && ltb (getD tops column 0 - 1) top
 
 -- the closed units of a column
 abbrev pub columnUnits : List ℤ → ℕ → ℕ → ℕ

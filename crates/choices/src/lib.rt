@@ -2,7 +2,6 @@
 pub mod highest; // the highest premium of a column, the lowest index
 pub mod kept; // the same of all columns, looking again only at those that may have changed
 pub mod units; // the lowest closed unit
-pub mod ties; // the cells that a random step draws among
 
 // What a search finds.
 pub enum Found {

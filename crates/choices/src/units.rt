@@ -2,10 +2,10 @@
 use crate::Found;
 ghost use mathlib.Core.Path.{_≡_};
 ghost use mathlib.Core.List.{List};
-ghost use Prim.Native.Nat.{ℕ, _+_, _*_, _<_, _≤_};
+ghost use Prim.Native.Nat.{_+_, _*_, _<_, _≤_};
 ghost use lib.IntN.{ℤ};
 ghost use lib.ListN.{length};
-ghost use Rattle.game.specs.Grid.{Grid, size};
+ghost use Rattle.game.specs.Grid.{Grid};
 ghost use Rattle.game.specs.Position.{Position};
 ghost use Rattle.game.specs.Rounds.{unitCells};
 ghost use Rattle.area.specs.Stages.{Shape, Stands};

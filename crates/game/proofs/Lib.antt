@@ -17,6 +17,7 @@ pub mod Choices
 pub mod Legal
 pub mod Runs
 pub mod Rounds
+pub mod Falls
 pub mod Searches
 pub mod Ranges
 pub mod Table

@@ -124,6 +124,13 @@ keep-has f x (y ∷ xs) t =
     ⊎-elim (λ p. has-cases x y (keep f xs) (λ e. (has-head x y xs e, rw e (p .0))) below (p .1)) below
     (if-has (f y) x (y ∷ keep f xs) (keep f xs) t)
 
+-- tests that agree on a list keep the same of it
+pub keep-ext : (f h : ℕ → Bool) (xs : List ℕ) → ((x : ℕ) → T (has x xs) → f x ≡ h x) → keep f xs ≡ keep h xs
+keep-ext f h [] e = refl
+keep-ext f h (x ∷ xs) e =
+    ap (λ (b : Bool). elim b [ true ↦ x ∷ keep f xs | false ↦ keep f xs ]) (first-of x xs e)
+    ∙ ap (λ (l : List ℕ). elim (h x) [ true ↦ x ∷ l | false ↦ l ]) (keep-ext f h xs (rest-of x xs e))
+
 pub some-yes : (f : ℕ → Bool) (x : ℕ) (xs : List ℕ) → T (has x xs) → T (f x) → T (some-of f xs)
 some-yes f x [] t u = absurd t
 some-yes f x (y ∷ xs) t u =

@@ -12,7 +12,6 @@ use borrow.Author.Tests.{eq-eqb}
 use Rattle.game.specs.Demands.{InTurn, Sound, SoundSearch, lastOf, leastOf, playedFrom}
 use Rattle.game.specs.Grid.{Grid}
 use Rattle.game.specs.Lists.{Each}
-use Rattle.game.specs.Moves.{Move}
 use Rattle.game.specs.Rounds.{Round, Searched, movesOf, randomRound, randomSearch, searchFrom}
 use Rattle.game.proofs.Rounds.{IfSome, Used, random-sound, random-uses}
 

@@ -1,7 +1,7 @@
 // Stored move lines read and written, whole, cut and spoilt.
-use lines::moves::MovesRead;
-use lines::moves::MovesWritten;
 use reader::price;
+use stored::MovesRead;
+use stored::MovesWritten;
 
 // An answer: its number and its values.
 struct Read {
@@ -30,7 +30,7 @@ fn read_of(answer: MovesRead) -> Read {
 
 // A line read into a list: the answer, then the list.
 fn read_into(line: &[u8], list: &mut [u32]) {
-    let read = read_of(lines::moves::read_moves(line, list));
+    let read = read_of(stored::read_moves(line, list));
     trials::print_number(read.number as u64);
     trials::print_number(read.rows as u64);
     trials::print_number(read.columns as u64);
@@ -84,7 +84,7 @@ fn print_written(number: usize, digits: usize, line: &[u8]) {
 // Moves written into a run: the answer, then the run.
 fn write_into(rows: usize, columns: usize, count: usize, line: &mut [u8]) {
     let list = [65537u32, 131072, 196609, 4294967295];
-    let written = lines::moves::write_moves(rows, columns, &list, count, line);
+    let written = stored::write_moves(rows, columns, &list, count, line);
     match written {
         MovesWritten::Digits(digits) => print_written(0, digits, line),
         MovesWritten::Refused(refusal) => print_written(price::number_of(refusal), 0, line),
@@ -119,7 +119,7 @@ pub fn write_all() {
 // The number that a line is answered with.
 fn read_number(line: &[u8; 12]) -> usize {
     let mut list = [9u32; 4];
-    let read = read_of(lines::moves::read_moves(line, &mut list));
+    let read = read_of(stored::read_moves(line, &mut list));
     read.number
 }
 

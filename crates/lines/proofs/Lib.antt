@@ -3,7 +3,4 @@ pub mod Runs
 pub mod Priced
 pub mod Verdict
 pub mod Calls
-pub mod Words
-pub mod MoveCalls
-pub mod Stores
 pub mod Once

@@ -1,4 +1,4 @@
--- There is only one answer and one end content of each lent run for the calls on lines: the promises are functions, and each enum is read back from its number and values. Assumes nothing.
+-- There is only one answer and one end content of each lent run for the calls on board lines: the promises are functions, and each enum is read back from its number and values. Assumes nothing.
 use Prim.Native.Nat.{ℕ}
 use mathlib.Core.Path.{_≡_, refl, sym, _∙_}
 use mathlib.Core.Bool.{cond}
@@ -11,30 +11,25 @@ use lib.ListN.{getD}
 use Rattle.game.specs.Calls.{Answer, numberOf, refuses}
 use Rattle.game.specs.Calls as Game
 use Rattle.lines.specs.BoardLine.{GridOutcome}
-use Rattle.lines.specs.MoveLine.{RunOutcome}
-use Rattle.lines.specs.Answers.{KeptGrid, KeptRun, boardAnswer, named, readAnswer, refusalOf, writtenAnswer}
+use Rattle.lines.specs.Answers.{KeptGrid, boardAnswer, named, refusalOf}
 use Rattle.lines.specs.declared.Refusal.{Refusal}
 use Rattle.lines.specs.declared.Refusal.the-variants.{Shape, Board, Trace, Frame, Size}
 use Rattle.lines.specs.declared.Checked.{Checked}
 use Rattle.lines.specs.declared.Checked.the-variants as Checks
 use Rattle.lines.specs.declared.board.Board as Boards
 use Rattle.lines.specs.declared.board.Board.the-variants as Grids
-use Rattle.lines.specs.declared.moves.MovesRead.{MovesRead}
-use Rattle.lines.specs.declared.moves.MovesRead.the-variants as Reads
-use Rattle.lines.specs.declared.moves.MovesWritten.{MovesWritten}
-use Rattle.lines.specs.declared.moves.MovesWritten.the-variants as Writes
 
 -- ---- each enum is read back
 
 -- the refusal of a number
-abbrev refusalBy : ℕ → Refusal
+abbrev pub refusalBy : ℕ → Refusal
 refusalBy n = cond (eqb n 1) Shape (cond (eqb n 2) Board (cond (eqb n 4) Trace (cond (eqb n 8) Frame Size)))
 
 -- an enum from an answer: success by its values, a refusal by its number
-abbrev readBack : {A : Type 0} → (List ℕ → A) → (Refusal → A) → Answer → A
+abbrev pub readBack : {A : Type 0} → (List ℕ → A) → (Refusal → A) → Answer → A
 readBack given refused a = cond (eqb (a .number) 0) (given (a .values)) (refused (refusalBy (a .number)))
 
-refused-back : {A : Type 0} (given : List ℕ → A) (refused : Refusal → A) (f : Refusal) → readBack given refused (refuses (named f)) ≡ refused f
+pub refused-back : {A : Type 0} (given : List ℕ → A) (refused : Refusal → A) (f : Refusal) → readBack given refused (refuses (named f)) ≡ refused f
 refused-back given refused Shape = refl
 refused-back given refused Board = refl
 refused-back given refused Trace = refl
@@ -50,26 +45,6 @@ board-same = LeftInverse·injective (readBack cells Grids.Refused) boardAnswer b
     back : (r : Boards.Board) → readBack cells Grids.Refused (boardAnswer r) ≡ r
     back (Grids.Cells rows columns) = refl
     back (Grids.Refused f) = refused-back cells Grids.Refused f
-
-read-same : (r r′ : MovesRead) → readAnswer r ≡ readAnswer r′ → r ≡ r′
-read-same = LeftInverse·injective (readBack moves Reads.Refused) readAnswer back
-  where
-    moves : List ℕ → MovesRead
-    moves vs = Reads.Moves (getD vs 0 0) (getD vs 1 0) (getD vs 2 0)
-
-    back : (r : MovesRead) → readBack moves Reads.Refused (readAnswer r) ≡ r
-    back (Reads.Moves rows columns n) = refl
-    back (Reads.Refused f) = refused-back moves Reads.Refused f
-
-written-same : (r r′ : MovesWritten) → writtenAnswer r ≡ writtenAnswer r′ → r ≡ r′
-written-same = LeftInverse·injective (readBack digits Writes.Refused) writtenAnswer back
-  where
-    digits : List ℕ → MovesWritten
-    digits vs = Writes.Digits (getD vs 0 0)
-
-    back : (r : MovesWritten) → readBack digits Writes.Refused (writtenAnswer r) ≡ r
-    back (Writes.Digits n) = refl
-    back (Writes.Refused f) = refused-back digits Writes.Refused f
 
 -- ---- one answer and one end of each lent run
 
@@ -92,11 +67,3 @@ line-once o r r′ e e′ = LeftInverse·injective checkedBy refusalOf back r r�
 -- a board line read
 pub board-once : (p : GridOutcome) (r r′ : Boards.Board) (v v′ : List ℤ) → KeptGrid p (boardAnswer r) v → KeptGrid p (boardAnswer r′) v′ → (r ≡ r′) × (v ≡ v′)
 board-once p r r′ v v′ k k′ = (board-same r r′ (k .answers ∙ sym (k′ .answers)), k .leaves ∙ sym (k′ .leaves))
-
--- a stored line read
-pub read-once : (p : RunOutcome) (r r′ : MovesRead) (l l′ : List ℕ) → KeptRun p (readAnswer r) l → KeptRun p (readAnswer r′) l′ → (r ≡ r′) × (l ≡ l′)
-read-once p r r′ l l′ k k′ = (read-same r r′ (k .answers ∙ sym (k′ .answers)), k .leaves ∙ sym (k′ .leaves))
-
--- a line written
-pub written-once : (p : RunOutcome) (r r′ : MovesWritten) (l l′ : List ℕ) → KeptRun p (writtenAnswer r) l → KeptRun p (writtenAnswer r′) l′ → (r ≡ r′) × (l ≡ l′)
-written-once p r r′ l l′ k k′ = (written-same r r′ (k .answers ∙ sym (k′ .answers)), k .leaves ∙ sym (k′ .leaves))

@@ -2,22 +2,16 @@
 use mathlib.Core.Path.{_≡_}
 use mathlib.Core.List.{List, [], _∷_}
 use mathlib.Core.Option.{Option, none, some}
-use Prim.Native.Nat.{ℕ}
 use lib.IntN.{ℤ}
 use Rattle.game.specs.Calls.{Answer, board, frame, gives, refuses, shape, size-over, trace}
 use Rattle.game.specs.Calls as Game
 use Rattle.lines.specs.BoardLine.{GridOutcome}
-use Rattle.lines.specs.MoveLine.{RunOutcome}
 use Rattle.lines.specs.declared.Refusal.{Refusal}
 use Rattle.lines.specs.declared.Refusal.the-variants.{Shape, Board, Trace, Frame, Size}
 use Rattle.lines.specs.declared.Checked.{Checked}
 use Rattle.lines.specs.declared.Checked.the-variants as Checks
 use Rattle.lines.specs.declared.board.Board as Boards
 use Rattle.lines.specs.declared.board.Board.the-variants as Grids
-use Rattle.lines.specs.declared.moves.MovesRead.{MovesRead}
-use Rattle.lines.specs.declared.moves.MovesRead.the-variants as Reads
-use Rattle.lines.specs.declared.moves.MovesWritten.{MovesWritten}
-use Rattle.lines.specs.declared.moves.MovesWritten.the-variants as Writes
 
 -- the refusal of that name
 abbrev pub named : Refusal → Game.Refusal
@@ -41,18 +35,3 @@ boardAnswer (Grids.Refused f) = refuses (named f)
 pub record KeptGrid (promise : GridOutcome) (answer : Answer) (values : List ℤ) : Type 0 where
   pub answers : answer ≡ promise .answer
   pub leaves : values ≡ promise .values
-
--- a stored line read: 0, rows, columns and how many moves, or the refusal's number alone
-abbrev pub readAnswer : MovesRead → Answer
-readAnswer (Reads.Moves rows columns n) = gives (rows ∷ columns ∷ n ∷ [])
-readAnswer (Reads.Refused f) = refuses (named f)
-
--- a line written: 0 and how many digits, or the refusal's number alone
-abbrev pub writtenAnswer : MovesWritten → Answer
-writtenAnswer (Writes.Digits n) = gives (n ∷ [])
-writtenAnswer (Writes.Refused f) = refuses (named f)
-
--- a call that writes into one lent run keeps its promise
-pub record KeptRun (promise : RunOutcome) (answer : Answer) (run : List ℕ) : Type 0 where
-  pub answers : answer ≡ promise .answer
-  pub leaves : run ≡ promise .run

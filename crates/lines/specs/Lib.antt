@@ -1,5 +1,4 @@
--- Lines of hexadecimal: document 01's words for boards, prices and stored moves.
+-- Lines of hexadecimal: document 01's words for boards and prices.
 pub mod BoardLine
 pub mod PriceLine
-pub mod MoveLine
 pub mod Answers

@@ -1,6 +1,6 @@
 -- A price line: a byte 00 or the refusal, then 3BV, greedy and openings-first clicks, two bytes each, high first. Assumes nothing.
 use Prim.Native.Nat.{ℕ, _%_}
-use mathlib.Core.List.{List, [], _∷_, _++_}
+use mathlib.Core.List.{List, _∷_, _++_}
 use Rattle.game.specs.Lists.{concat-map}
 use Rattle.hex.specs.Hex.{byteDigits, twoBytes}
 use Rattle.lines.specs.declared.price.Price as Struct

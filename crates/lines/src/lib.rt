@@ -1,7 +1,6 @@
-// Lines of hexadecimal: boards, prices and stored moves.
+// Lines of hexadecimal: boards and prices.
 pub mod board; // board lines
 pub mod price; // price lines
-pub mod moves; // stored move lists
 
 // Why a line is refused.
 pub enum Refusal {

@@ -7,7 +7,7 @@ use mathlib.Core.Logic.{_⊎_, inl, inr}
 use mathlib.Core.Bool.{false}
 use mathlib.Core.List.{List}
 use lib.IntN.{ℤ}
-use lib.ListN.{List·getD-eq-default, getD, length, set}
+use lib.ListN.{List·getD-eq-default, length, set}
 use lib.Seq.{getD-set-other, getD-set-same}
 use Rattle.marks.specs.Marks.{Far, MarkedOr, Parted, columnShares}
 

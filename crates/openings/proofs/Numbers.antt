@@ -13,7 +13,7 @@ use Rattle.area.specs.Numbers.{natural}
 use Rattle.area.specs.Stages.{kind, labelledFive, loadedFive}
 use Rattle.game.specs.Area.{laid}
 use Rattle.game.specs.Grid.{Grid, size, zeroCell}
-use Rattle.game.specs.Lists.{count, fold, has, range, some-of}
+use Rattle.game.specs.Lists.{count, has, range, some-of}
 use Rattle.game.specs.Openings.{Joined, gather, holds, joinedTo, labels, openings, places}
 use Rattle.openings.specs.Marks.{edgeFirst, firstOf, kindOf, secondOf, shaped}
 use Rattle.openings.specs.Spread.{Begun, Labelling, Numbered, Opened, partFive, upto}

@@ -1,12 +1,12 @@
 -- A cell's labels in the work area, and what one more label makes of them. Assumes nothing.
-use Prim.Native.Nat.{ℕ, _+_, _*_, _/_, _%_, _<_, _≤_}
+use Prim.Native.Nat.{ℕ, _+_, _*_, _<_, _≤_}
 use mathlib.Core.Path.{_≡_}
 use mathlib.Core.Bool.{Bool, cond, not, _&&_}
 use mathlib.Core.List.{List, []}
 use lib.IntN.{ℤ, pos}
 use lib.ListN.{length, set}
 use lib.Dec.{eqb, ltb}
-use Rattle.game.specs.Grid.{Grid, rowOf, columnOf, size}
+use Rattle.game.specs.Grid.{Grid}
 use Rattle.game.specs.Lists.{count, range}
 use Rattle.area.specs.Numbers.{gridOf, numberAt}
 use Rattle.area.specs.Stages.{Shape}

@@ -2,7 +2,6 @@
 ghost use mathlib.Core.Path.{_≡_};
 ghost use Prim.Native.Nat.{_+_, _*_, _<_, _≤_};
 ghost use lib.ListN.{length};
-ghost use Rattle.area.specs.Stages.{Shape};
 ghost use Rattle.openings.specs.Marks.{edgeFirst, edgeSecond, freshCell, bordered, marked, numberedOf};
 
 // Whether the cell is a 0-cell without label.

@@ -3,7 +3,7 @@ use Prim.Native.Nat.{ℕ, _+_, _<_, suc}
 use native.Mathlib.Omega.{arith}
 use native.Mathlib.Decide.{ℕ-discrete}
 use native.Mathlib.Nat.{add-zero}
-use mathlib.Core.Path.{_∙_, _≡_, ap, ap₂, refl, subst, subst₂, sym}
+use mathlib.Core.Path.{_∙_, _≡_, ap, refl, subst, subst₂, sym}
 use mathlib.Core.Bool.{Bool, _&&_, cond, false, not, true}
 use mathlib.Core.List.{List, [], _∷_, map}
 use mathlib.Core.Option.{none}
@@ -21,7 +21,7 @@ use Rattle.original.specs.Cells.{Zcell, around, at, change, with-flagged
 use Rattle.original.specs.Play.{State, add-around, click, flag-cell, flagaround, one-click, reveal-cell, with-cells}
 use Rattle.original.specs.Rounds.{play-at}
 use Rattle.game.proofs.Counts.{Once, length-keep}
-use Rattle.game.proofs.Members.{first-of, has-cases, rest-of}
+use Rattle.game.proofs.Members.{first-of, has-cases, keep-ext, rest-of}
 use Rattle.game.proofs.Played.{Played, flag-played, reveal-played}
 use Rattle.game.proofs.Reveal.{Revealed, getD-sweep, mine-off, opens, revealed, stays, sweeps}
 use Rattle.game.proofs.Runs.{moves-cost}
@@ -55,11 +55,6 @@ mine-stays g s c j h hj m = ap (λ (x : ℕ). eqb x 2) (go (reveal g s c) (revea
         getD-sweep g s c j hj ∙ ap (λ (b : Bool). cond b 1 (getD s j 0)) (no→false (holds g j (joinedTo g c)) (mine-off g c j (record { inside = h; none = z }) hj m))
 
 -- ---- flagaround
-
-keep-ext : (p q : ℕ → Bool) (xs : List ℕ) → ((x : ℕ) → T (has x xs) → p x ≡ q x) → keep p xs ≡ keep q xs
-keep-ext p q [] e = refl
-keep-ext p q (x ∷ xs) e =
-    ap₂ (λ b ys. elim b as (λ z. List ℕ) [ true ↦ x ∷ ys | false ↦ ys ]) (first-of x xs e) (keep-ext p q xs (rest-of x xs e))
 
 -- the loop of flagaround
 abbrev flag-turn : Grid → State → ℕ → State

@@ -1,9 +1,9 @@
 -- zini.rs: Zcell, build_cells_ref, getnumber, getadj3bv, setopeningborder, process_opening, initboard. Assumes nothing.
-use Prim.Native.Nat.{ℕ, zero, suc, _+_, _-_, _*_, _<_}
-use mathlib.Core.Bool.{Bool, true, false, not, cond, _&&_, _||_}
-use mathlib.Core.List.{List, [], _∷_, map}
+use Prim.Native.Nat.{ℕ, zero, suc, _+_, _-_, _*_}
+use mathlib.Core.Bool.{Bool, true, false, not, cond, _&&_}
+use mathlib.Core.List.{List, map}
 use lib.IntN.{ℤ, pos, negℤ, _+ℤ_, _-ℤ_}
-use lib.ListN.{getD, set, length}
+use lib.ListN.{getD, set}
 use lib.Dec.{eqb, ltb}
 use Rattle.game.specs.Lists.{bit, count, range, concat-map, fold}
 use Rattle.game.specs.Grid.{Grid, isMine}

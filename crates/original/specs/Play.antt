@@ -1,12 +1,11 @@
 -- zini.rs: open, reveal, click, flag, flagaround, chord, hitopenings. Assumes nothing.
 use Prim.Native.Nat.{ℕ, _+_, _-_}
-use mathlib.Core.Bool.{Bool, true, false, not, _&&_, _||_}
-use mathlib.Core.List.{List}
+use mathlib.Core.Bool.{true, false, not, _&&_, _||_}
 use lib.IntN.{ℤ, pos, negsuc}
 use lib.ListN.{length}
 use lib.Dec.{eqb}
 use Rattle.game.specs.Lists.{range, fold}
-use Rattle.original.specs.Cells.{Zcell, Cells, at, change, add-premium, with-opened, with-flagged, around}
+use Rattle.original.specs.Cells.{Cells, at, change, add-premium, with-opened, with-flagged, around}
 
 -- cells, zini and closed_cells
 pub record State : Type 0 where

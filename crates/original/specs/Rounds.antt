@@ -9,7 +9,7 @@ use lib.ListN.{getD, set, length, replicate}
 use lib.Dec.{eqb, ltb, leb}
 use Rattle.game.specs.Lists.{count, range, fold}
 use Rattle.game.specs.Draws.{Drawn, fourBytes}
-use Rattle.original.specs.Cells.{Zcell, Cells, at}
+use Rattle.original.specs.Cells.{Cells, at}
 use Rattle.original.specs.Play.{State, click, flagaround, chord-cell, hitopenings}
 
 -- click if it is closed, flagaround, chord

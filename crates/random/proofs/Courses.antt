@@ -8,7 +8,7 @@ use mathlib.Core.Option.{Option, none, some}
 use lib.IntN.{ℤ}
 use lib.ListN.{getD, length, length-append, length-map, set}
 use lib.Seq.{getD-set-other, length-sets, sets}
-use Rattle.rounds.specs.declared.State.{State}
+use Rattle.moves.specs.declared.State.{State}
 use Rattle.random.specs.declared.Stepped.{Stepped}
 use Rattle.random.specs.declared.Stepped.the-variants as Steps
 use Rattle.random.specs.declared.Rolled.the-variants as Rolls
@@ -21,7 +21,8 @@ use Rattle.game.specs.Openings.{threeBV}
 use Rattle.game.specs.Position.{Position, closedSafe, closedUnits, untouched}
 use Rattle.game.specs.Rounds.{Round, Step, afterStep, before, choice, movesOf, randomFrom, randomRound, stepOf, width}
 use Rattle.random.specs.Promises.{Rolling, Stepping, Went}
-use Rattle.rounds.specs.Promises.{Fresh, Made}
+use Rattle.moves.specs.Promises.{Made}
+use Rattle.rounds.specs.Promises.{Fresh}
 use Rattle.area.proofs.Cells.{cells-few}
 use Rattle.game.proofs.Choices.{never-stuck}
 use Rattle.game.proofs.Played.{Played, reached-played}
@@ -29,8 +30,8 @@ use Rattle.game.proofs.Rounds.{IfSome, Rolled, rolled}
 use Rattle.game.proofs.Runs.{Fits, choice-fits, fit-takes, moves-append}
 use Rattle.game.proofs.Units.{after-append, units-at-most-cells, units-untouched}
 use Rattle.rounds.proofs.Ending.{closed-alike}
-use Rattle.rounds.proofs.Falls.{step-falls, step-pays}
-use Rattle.rounds.proofs.Joins.{made-both, made-none}
+use Rattle.game.proofs.Falls.{step-falls, step-pays}
+use Rattle.moves.proofs.Joins.{made-both, made-none}
 
 -- ---- the list past what was written
 

@@ -1,5 +1,5 @@
 -- A step at a drawn cell: the draw is among the cells of the choice, and the cell at the drawn place may be taken. Assumes nothing.
-use Rattle.rounds.specs.declared.State.{State}
+use Rattle.moves.specs.declared.State.{State}
 use Rattle.draws.specs.declared.Drawn.{Drawn}
 use Rattle.draws.specs.declared.Drawn.the-variants.{Place, Short}
 use Rattle.random.specs.declared.Stepped.the-variants.{Dry, Went}
@@ -16,8 +16,7 @@ use lib.Dec.{T, ltb, ltb→lt, lt→ltb, nltb→le}
 use lib.IntN.{ℤ}
 use lib.ListN.{List·getD-eq-default, getD, length}
 use Rattle.area.specs.Stages.{Shape}
-use Rattle.choices.specs.Picks.{candidatesOf, forClick}
-use Rattle.choices.specs.Tests.{candidateAt}
+use Rattle.ties.specs.Candidates.{candidateAt, candidatesOf, forClick}
 use Rattle.choices.specs.Tops.{Kept, UnitsKept}
 use Rattle.draws.specs.Answers.{drawnOf}
 use Rattle.game.specs.Draws.{draw}
@@ -27,7 +26,8 @@ use Rattle.game.specs.Moves.{Move, left}
 use Rattle.game.specs.Position.{Position, closed, closedSafe}
 use Rattle.game.specs.Rounds.{Choice, choice, chords, clicks, movesAt, stepOf, topCells, unitCells, width}
 use Rattle.random.specs.Promises.{Stepping, takenMoves}
-use Rattle.rounds.specs.Promises.{Made, MadeKept}
+use Rattle.moves.specs.Promises.{Made}
+use Rattle.rounds.specs.Promises.{MadeKept}
 use Rattle.game.proofs.Choices.{Top, looked→, never-stuck, premium-pays, top→, unit→}
 use Rattle.game.proofs.Counts.{length-keep}
 use Rattle.game.proofs.Legal.{zero-poor}

@@ -14,7 +14,7 @@ use Rattle.game.specs.Moves.{Move, after, left, word}
 use Rattle.game.specs.Draws as Game
 use Rattle.game.specs.Rounds.{Round, Searched, choice, movesAt, movesOf, stepOf}
 use Rattle.area.specs.Stages.{Stands}
-use Rattle.rounds.specs.declared.State.{State}
+use Rattle.moves.specs.declared.State.{State}
 use Rattle.random.specs.declared.Stepped.{Stepped}
 use Rattle.random.specs.declared.Stepped.the-variants as Steps
 use Rattle.random.specs.declared.Rolled.{Rolled}

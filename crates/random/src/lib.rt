@@ -1,6 +1,6 @@
 // Random steps, rounds and searches on a work area that stands for a position.
 use draws::Drawn;
-use rounds::State;
+use moves::State;
 use rounds::steps;
 ghost use mathlib.Core.Path.{_≡_};
 ghost use mathlib.Core.Bool.{cond, false};
@@ -74,13 +74,13 @@ pub fn step(
         × Kept false (now (work .exit)) rows columns (now (tops .exit))
         × UnitsKept (now (work .exit)) rows columns (now (tops .exit)) (now (units .exit))) ⌝ }
 {
-    let top = choices::ties::top(work, rows, columns, tops, units);
-    let candidates = choices::ties::count(work, rows, columns, tops, units, top);
+    let top = ties::top(work, rows, columns, tops, units);
+    let candidates = ties::count(work, rows, columns, tops, units, top);
     let drawn = draws::draw(draws, state.next, candidates);
     let Drawn::Place(place, next) = drawn else {
         return Stepped::Dry;
     };
-    let index = choices::ties::pick(work, rows, columns, tops, units, top, place);
+    let index = ties::pick(work, rows, columns, tops, units, top, place);
     let onward = State {
         moves: state.moves,
         closed: state.closed,

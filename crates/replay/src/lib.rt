@@ -6,7 +6,7 @@ ghost use mathlib.Core.Option.{some};
 ghost use lib.IntN.{ℤ};
 ghost use lib.ListN.{length, take};
 ghost use Rattle.game.specs.Lists.{bit, count as countOf};
-ghost use Rattle.game.specs.Grid.{Grid, mine};
+ghost use Rattle.game.specs.Grid.{Grid};
 ghost use Rattle.game.specs.Position.{Position, closedSafe};
 ghost use Rattle.game.specs.Moves.{legal, legalRead, readMove, replayFrom, chordable as mayChord, left as leftMove, flag as flagMove, chord as chordMove};
 ghost use Rattle.area.specs.Stages.{Shape, Stands};

@@ -2,8 +2,8 @@
 use Prim.Native.Nat.{ℕ, _*_, _+_, _-_, _<_, _≤_}
 use native.Mathlib.Omega.{arith}
 use native.Mathlib.Decide.{ℕ-discrete}
-use mathlib.Core.Path.{_∙_, _≡_, ap, ap₂, refl, subst, sym}
-use mathlib.Core.Bool.{Bool, _&&_, _||_, cond, false, not, true}
+use mathlib.Core.Path.{_∙_, _≡_, ap, refl, subst, sym}
+use mathlib.Core.Bool.{Bool, _||_, cond, false, not, true}
 use mathlib.Core.List.{List, [], _∷_}
 use lib.Dec.{T, T-not, eqb}
 use lib.IntN.{ℤ}
@@ -17,13 +17,11 @@ use Rattle.choices.proofs.Columns.{column-low}
 use Rattle.marks.proofs.Held.{held-numbers}
 use Rattle.choices.proofs.Tops.{none-reaches}
 use Rattle.game.specs.Grid.{Grid, columnOf, mine, safe, size, square, zeroCell}
-use Rattle.game.specs.Lists.{count, has}
 use Rattle.game.specs.Moves.{after, left, play, reveal}
-use Rattle.game.specs.Openings.{holds, unlabelled}
+use Rattle.game.specs.Openings.{unlabelled}
 use Rattle.game.specs.Position.{Position, cellUnit, closed, cost, gain}
 use Rattle.game.specs.Rounds.{topCells}
 use Rattle.game.proofs.Counts.{count-mono}
-use Rattle.game.proofs.Openings.{Full}
 use Rattle.game.proofs.Reveal.{Revealed, opens, revealed, stays, sweeps}
 use Rattle.game.proofs.Truth.{and-both, and-left, and-right}
 use Rattle.rounds.proofs.Quiet.{in-column, same-cost, same-openings, same-units}

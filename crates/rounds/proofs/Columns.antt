@@ -16,8 +16,9 @@ use Rattle.game.specs.Grid.{Grid, safe, size, zeroCell}
 use Rattle.game.specs.Moves.{left}
 use Rattle.game.specs.Position.{Position, closed}
 use Rattle.game.specs.Rounds.{choice, movesAt, stepOf, topCells}
-use Rattle.rounds.specs.Promises.{Made, MadeKept, StepKept}
-use Rattle.rounds.specs.declared.State.{State}
+use Rattle.moves.specs.Promises.{Made}
+use Rattle.rounds.specs.Promises.{MadeKept, StepKept}
+use Rattle.moves.specs.declared.State.{State}
 use Rattle.rounds.proofs.Clicks.{click-low, click-units}
 use Rattle.rounds.proofs.Quiet.{click-at, moves-at, quiet-column, quiet-units}
 

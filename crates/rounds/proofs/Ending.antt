@@ -9,7 +9,7 @@ use lib.Dec.{T, eqb}
 use lib.IntN.{ℤ}
 use lib.ListN.{drop, length, length-map}
 use lib.Seq.{sets, sets-eq}
-use Rattle.rounds.specs.declared.State.{State}
+use Rattle.moves.specs.declared.State.{State}
 use Rattle.area.specs.Stages.{Stands}
 use Rattle.game.specs.Area.{listOf}
 use Rattle.game.specs.Demands.{Sound}
@@ -20,15 +20,16 @@ use Rattle.game.specs.Openings.{threeBV}
 use Rattle.game.specs.Position.{Position, closed, closedSafe, closedUnits, untouched}
 use Rattle.game.specs.Rounds.{firstClicks, greedySteps, movesOf, openingClicks, openingsFirstSteps, stepsFrom}
 use Rattle.play.specs.Walks.{kindAt, stateAt}
-use Rattle.rounds.specs.Promises.{Fresh, Going, Made, Round, firstSteps, roundSteps}
+use Rattle.moves.specs.Promises.{Made}
+use Rattle.rounds.specs.Promises.{Fresh, Going, Round, firstSteps, roundSteps}
 use Rattle.game.proofs.Counts.{count-ext}
 use Rattle.game.proofs.Rounds.{greedy-sound, openings-first-sound}
 use Rattle.game.proofs.Runs.{moves-append}
 use Rattle.game.proofs.Squares.{cells→}
 use Rattle.play.proofs.Held.{kind-mine}
 use Rattle.play.proofs.Reveals.{kind-read, state-read}
-use Rattle.rounds.proofs.Falls.{units-most}
-use Rattle.rounds.proofs.Joins.{made-both, made-none}
+use Rattle.game.proofs.Falls.{units-most}
+use Rattle.moves.proofs.Joins.{made-both, made-none}
 
 -- ---- one work area stands for positions with as many closed safe cells
 

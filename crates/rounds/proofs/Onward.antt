@@ -5,20 +5,21 @@ use mathlib.Core.Path.{_∙_, _≡_, ap, ap₂, refl, subst, sym}
 use mathlib.Core.Bool.{Bool}
 use mathlib.Core.List.{List, [], _++_, _∷_, append-assoc, append-nil}
 use lib.IntN.{ℤ}
-use Rattle.rounds.specs.declared.State.{State}
+use Rattle.moves.specs.declared.State.{State}
 use Rattle.area.specs.Stages.{Shape, Standing, Stands}
 use Rattle.game.specs.Grid.{Grid}
 use Rattle.game.specs.Moves.{Move, after}
 use Rattle.game.specs.Position.{Position, closedSafe, closedUnits}
 use Rattle.game.specs.Rounds.{Step, afterStep, choice, movesOf, stepOf, stepsFrom}
-use Rattle.rounds.specs.Promises.{Going, Made}
+use Rattle.moves.specs.Promises.{Made}
+use Rattle.rounds.specs.Promises.{Going}
 use Rattle.area.proofs.Cells.{cells-few}
 use Rattle.game.proofs.Choices.{never-stuck}
 use Rattle.game.proofs.Played.{Played, reached-played}
 use Rattle.game.proofs.Runs.{Fits, choice-fits, fit-takes}
 use Rattle.game.proofs.Units.{after-append, units-at-most-cells}
-use Rattle.rounds.proofs.Falls.{step-falls, step-pays, units-most}
-use Rattle.rounds.proofs.Joins.{made-both, made-none}
+use Rattle.game.proofs.Falls.{step-falls, step-pays, units-most}
+use Rattle.moves.proofs.Joins.{made-both, made-none}
 
 -- one step was made, whatever position w stood for
 abbrev pub Stepping : Bool → (rows columns : ℕ) → List ℤ → List ℕ → State → List ℤ → List ℕ → State → Type 0

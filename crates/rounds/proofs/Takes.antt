@@ -11,7 +11,7 @@ use Rattle.choices.specs.declared.Found.{Found}
 use Rattle.choices.specs.declared.Found.the-variants.{At, Nothing}
 use Rattle.area.specs.Stages.{Standing, Stands}
 use Rattle.choices.specs.Picks.{foundFirst}
-use Rattle.game.specs.Grid.{Grid, safe, size, zeroCell}
+use Rattle.game.specs.Grid.{Grid, safe, zeroCell}
 use Rattle.game.specs.Lists.{has}
 use Rattle.game.specs.Moves.{Move, left}
 use Rattle.game.specs.Position.{Position, closed, closedSafe}

@@ -1,3 +1,2 @@
 -- What steps and rounds promise of the work area and the move list.
 pub mod Promises
-pub mod Walks

@@ -1,36 +1,21 @@
--- Moves made on a work area that stands for a position, and noted in a list. Assumes nothing.
-use Prim.Native.Nat.{ℕ, _+_, _-_, _*_}
+-- A step's moves made, and what is kept of the columns right again; a whole round. Assumes nothing.
+use Prim.Native.Nat.{ℕ}
 use mathlib.Core.Path.{_≡_}
 use mathlib.Core.Bool.{Bool, true, false}
-use mathlib.Core.List.{List, [], map}
+use mathlib.Core.List.{List, []}
 use lib.IntN.{ℤ}
-use lib.ListN.{length, set}
-use lib.Seq.{sets}
+use lib.ListN.{length}
 use Rattle.game.specs.Grid.{Grid}
 use Rattle.game.specs.Position.{Position, untouched, closedSafe}
-use Rattle.game.specs.Moves.{Move, after, word}
+use Rattle.game.specs.Moves.{Move, after}
 use Rattle.game.specs.Area.{listOf}
 use Rattle.game.specs.Rounds.{Step, choice, firstClicks, greedySteps, openingsFirstSteps, stepOf}
 use Rattle.area.specs.Stages.{Stands}
 use Rattle.choices.specs.Tops.{Kept, UnitsKept}
-use Rattle.rounds.specs.declared.State.{State}
+use Rattle.moves.specs.Promises.{Made}
+use Rattle.moves.specs.declared.State.{State}
 
--- a move of a kind was noted, and the state carried on: one move more, so many cells fewer closed
-pub record Carried (kind index opened : ℕ) (list : List ℕ) (t : State) (list′ : List ℕ) (t′ : State) : Type 0 where
-  pub written : list′ ≡ set list (t .moves) (kind * 65536 + index)
-  pub one-more : t′ .moves ≡ t .moves + 1
-  pub fewer : t′ .closed ≡ t .closed - opened
-  pub same-draw : t′ .next ≡ t .next
-
--- the moves ms were made from position s on: the area stands for the position after them, they are noted in the list, and the state is carried on
-pub record Made (rows columns : ℕ) (g : Grid) (s : Position) (old : List ℤ) (ms : List Move) (list : List ℕ) (t : State) (w′ : List ℤ) (list′ : List ℕ) (t′ : State) : Type 0 where
-  pub stands : Stands rows columns g (after g s ms) old w′
-  pub noted : list′ ≡ sets list (t .moves) (map word ms)
-  pub clicks : t′ .moves ≡ t .moves + length ms
-  pub left-closed : t′ .closed ≡ closedSafe g (after g s ms)
-  pub next-draw : t′ .next ≡ t .next
-
--- the same, and what is kept of the columns is right again; so is what was kept of their closed units, but for those now marked
+-- the moves ms were made from position s on, and what is kept of the columns is right again; so is what was kept of their closed units, but for those now marked
 pub record MadeKept (openedOnly : Bool) (rows columns : ℕ) (g : Grid) (s : Position) (old : List ℤ) (ms : List Move) (list : List ℕ) (w : List ℤ) (tops : List ℕ) (t : State) (w′ : List ℤ) (list′ tops′ : List ℕ) (t′ : State) : Type 0 where
   pub made : Made rows columns g s old ms list t w′ list′ t′
   pub kept : Kept openedOnly w rows columns tops → Kept openedOnly w′ rows columns tops′

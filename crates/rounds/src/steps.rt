@@ -1,23 +1,22 @@
-// One step by the lowest index, and the opening clicks of an openings-first round.
-use crate::State;
-use crate::moves;
+// One step by the lowest index.
 use choices::Found;
+use moves::State;
+use moves::single;
 ghost use mathlib.Core.Path.{_≡_};
 ghost use mathlib.Core.Bool.{Bool};
 ghost use mathlib.Core.List.{List, [], _∷_};
-ghost use Prim.Native.Nat.{ℕ, _+_, _*_, _^_, _<_, _≤_};
+ghost use Prim.Native.Nat.{_*_, _^_, _<_, _≤_};
 ghost use lib.IntN.{ℤ};
 ghost use lib.ListN.{length, getD};
 ghost use lib.Dec.{T};
-ghost use Rattle.game.specs.Grid.{Grid, cells, safe, zeroCell};
+ghost use Rattle.game.specs.Grid.{Grid, safe, zeroCell};
 ghost use Rattle.game.specs.Position.{Position, closed as isClosed, closedSafe};
 ghost use Rattle.game.specs.Moves.{left};
-ghost use Rattle.game.specs.Rounds.{movesAt, topCells, unitCells, movesOf, openingClicks};
+ghost use Rattle.game.specs.Rounds.{movesAt, topCells, unitCells};
 ghost use Rattle.area.specs.Stages.{Shape, Stands, Standing};
 ghost use Rattle.choices.specs.Tests.{NoUnitBelow};
 ghost use Rattle.choices.specs.Tops.{Kept};
-ghost use Rattle.rounds.specs.Promises.{Made, MadeKept, StepKept};
-ghost use Rattle.rounds.specs.Walks.{Over, hitsFrom};
+ghost use Rattle.rounds.specs.Promises.{MadeKept, StepKept};
 
 // L on a closed safe cell, where no premium reaches 0; the columns that it may change are marked.
 pub fn click_at(
@@ -36,7 +35,7 @@ pub fn click_at(
         → MadeKept openedOnly rows columns g s old (left index ∷ []) (now (list .entry)) (now (work .entry)) (now (tops .entry)) state (now (work .exit)) (now (list .exit)) (now (tops .exit)) r) ⌝ }
 {
     marks::forget_click(work, rows, columns, tops, index);
-    moves::click(work, rows, columns, list, state, index)
+    single::click(work, rows, columns, list, state, index)
 }
 
 // The moves at a chosen cell; the columns that they may change are marked.
@@ -56,7 +55,7 @@ pub fn act_at(
         → MadeKept openedOnly rows columns g s old (movesAt g s index) (now (list .entry)) (now (work .entry)) (now (tops .entry)) state (now (work .exit)) (now (list .exit)) (now (tops .exit)) r) ⌝ }
 {
     marks::forget(work, rows, columns, tops, index);
-    moves::act(work, rows, columns, list, state, index)
+    single::act(work, rows, columns, list, state, index)
 }
 
 // L on the lowest closed 0-cell or unlabelled safe cell, if there is one, where no premium reaches 0; there is none in the columns before one.
@@ -107,46 +106,4 @@ pub fn step(
         Found::At(index) => act_at(work, rows, columns, list, tops, state, index),
         Found::Nothing => click_lowest(work, rows, columns, list, tops, state, from),
     }
-}
-
-// L, if there is a closed 0-cell.
-pub fn hit(
-    work: &mut [i32],
-    rows: usize,
-    columns: usize,
-    list: &mut [u32],
-    state: State,
-    index: usize,
-) -> State
-    requires { ⌜ Shape rows columns ⌝ }
-    requires { ⌜ (5 * (rows * columns) ≤ length (now work)) × (index < rows * columns) × (state .moves ≤ 2 ^ 45) ⌝ }
-    ensures { λ r. ⌜ r .moves ≤ state .moves + 1 ⌝ }
-    ensures { λ r. ⌜ Over hitsFrom (index ∷ []) rows columns (now (work .entry)) (now (list .entry)) state (now (work .exit)) (now (list .exit)) r ⌝ }
-{
-    if area::get(work, 5 * index + 4) != 1 {
-        return state;
-    }
-    moves::click_closed(work, rows, columns, list, state, index)
-}
-
-// L on each closed 0-cell, in index order.
-pub fn hit_openings(
-    work: &mut [i32],
-    rows: usize,
-    columns: usize,
-    list: &mut [u32],
-    state: State,
-) -> State
-    requires { ⌜ Shape rows columns ⌝ }
-    requires { ⌜ (5 * (rows * columns) ≤ length (now work)) × (state .moves ≤ 2 ^ 32) ⌝ }
-    ensures { λ r. ⌜ r .moves ≤ state .moves + rows * columns ⌝ }
-    ensures { λ r. ⌜ ((g : Grid) (s : Position) (old : List ℤ) → Stands rows columns g s old (now (work .entry)) → state .closed ≡ closedSafe g s
-        → Made rows columns g s old (movesOf (openingClicks g s (cells g))) (now (list .entry)) state (now (work .exit)) (now (list .exit)) r) ⌝ }
-{
-    let cells = rows * columns;
-    let mut clicked = state;
-    for index in 0..cells {
-        clicked = hit(work, rows, columns, list, clicked, index);
-    }
-    clicked
 }

@@ -1,6 +1,7 @@
 // Steps until all safe cells are open, and a whole round: greedy or openings-first.
-use crate::State;
 use crate::steps;
+use moves::State;
+use moves::opening_clicks;
 ghost use mathlib.Core.Path.{_≡_};
 ghost use mathlib.Core.List.{List};
 ghost use Prim.Native.Nat.{ℕ, _+_, _*_, _^_, _≤_};
@@ -11,7 +12,8 @@ ghost use Rattle.game.specs.Position.{Position, closedSafe, closedUnits, untouc
 ghost use Rattle.game.specs.Rounds.{movesOf, stepsFrom};
 ghost use Rattle.area.specs.Stages.{Shape, Stands};
 ghost use Rattle.choices.specs.Tops.{Kept};
-ghost use Rattle.rounds.specs.Promises.{Made, Going, Fresh, Round, roundSteps, firstSteps};
+ghost use Rattle.moves.specs.Promises.{Made};
+ghost use Rattle.rounds.specs.Promises.{Going, Fresh, Round, roundSteps, firstSteps};
 
 // Steps by the lowest index until all safe cells are open.
 pub fn play_on(
@@ -56,7 +58,7 @@ pub fn begin(
         → Made rows columns g (untouched g) old (movesOf (firstSteps «openings_first» g)) (now (list .entry)) state (now (work .exit)) (now (list .exit)) r) ⌝ }
 {
     if openings_first {
-        return steps::hit_openings(work, rows, columns, list, state);
+        return opening_clicks::hit_openings(work, rows, columns, list, state);
     }
     state
 }

@@ -15,15 +15,15 @@ use Rattle.game.specs.Grid.{Grid, cells, safe, size}
 use Rattle.game.specs.Lists.{count, fold, range}
 use Rattle.game.specs.Openings.{firstLabel, openings, secondLabel, threeBV, unlabelled}
 use Rattle.game.specs.Position.{Position, closed, closedSafe, untouched}
-use Rattle.start.specs.Passes.{bareAt, layCell, raiseNear, safeAt}
+use Rattle.premiums.specs.Laying.{bareAt, layCell, raiseNear, safeAt}
 use Rattle.start.specs.Setting.{Setting}
 use Rattle.game.proofs.Areas.{laid-at}
 use Rattle.game.proofs.Counts.{count-ext}
 use Rattle.game.proofs.Squares.{cells→}
 use Rattle.game.proofs.Truth.{and-true}
 use Rattle.game.proofs.Units.{closed-untouched, units-at-most-cells}
-use Rattle.start.proofs.Priced.{Readable, bare-there, safe-there}
-use Rattle.start.proofs.Raising.{laid-alone, raised-all}
+use Rattle.premiums.proofs.Priced.{Readable, bare-there, safe-there}
+use Rattle.premiums.proofs.Raising.{laid-alone, raised-all}
 
 labelled-readable : (g : Grid) (old : List ℤ) → Readable 2 g (laid (labelledFive g) (size g) old)
 unfolding labelledFive

@@ -6,7 +6,6 @@ use native.Mathlib.Numerals.{towards-suc}
 use native.Mathlib.Nat.{mod-eq-of-lt, mul-comm}
 use mathlib.Core.Path.{_∙_, _≡_, ap, refl, sym}
 use mathlib.Core.Logic.{⊎-elim}
-use mathlib.Core.Bool.{Bool, cond, false, true}
 use mathlib.Core.List.{List, [], _∷_, map}
 use lib.IntN.{pos, ℤ}
 use lib.ListN.{getD, length, length-set}
@@ -16,11 +15,11 @@ use Rattle.area.specs.Stages.{kind, loadedFive}
 use Rattle.game.specs.Area.{laid}
 use Rattle.game.specs.Grid.{Grid, index, mine, number, size, square}
 use Rattle.game.specs.Lists.{concat-map, count, fold, range}
+use Rattle.premiums.proofs.Priced.{kind-few}
 use Rattle.start.specs.Passes.{loadAt, loadCell, minesOf}
 use Rattle.game.proofs.Areas.{laid-fold, sets-above, sets-below, sets-here}
-use Rattle.game.proofs.Counts.{count-append, count-ext, count-le, count-map}
+use Rattle.game.proofs.Counts.{count-append, count-ext, count-map}
 use Rattle.game.proofs.Members.{concat-map-more, fold-columns, range-none}
-use Rattle.game.proofs.Ranges.{length-square}
 use Rattle.game.proofs.Squares.{square-at}
 use Rattle.area.proofs.Cells.{mine-here}
 
@@ -30,14 +29,6 @@ length-load w i k = simp length-set
 -- the five numbers are set one after the other
 load-sets : (w : List ℤ) (i k : ℕ) → k < 2147483648 → loadAt w i k ≡ sets w (5 * i) (pos 0 ∷ pos 0 ∷ pos k ∷ pos 0 ∷ pos 0 ∷ [])
 load-sets w i k h = rw (mod-eq-of-lt h) (simp towards-suc)
-
-pub kind-few : (g : Grid) (i : ℕ) → kind g i < 2147483648
-unfolding kind number
-kind-few g i = go (mine g i)
-  where
-    go : (b : Bool) → cond b 0 (1 + count (mine g) (square g i)) < 2147483648
-    go true = omega arith
-    go false = omega (arith, count-le (mine g) (square g i), length-square g i)
 
 -- ---- the number of a cell, by rows
 

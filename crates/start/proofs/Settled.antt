@@ -19,8 +19,8 @@ use Rattle.game.specs.Position.{Position, cost, gain, premium}
 use Rattle.start.specs.Passes.{settleCell}
 use Rattle.game.proofs.Areas.{LaidTo, laid-again, laid-ahead, laid-fold, laid-length}
 use Rattle.game.proofs.Ranges.{cost-range}
-use Rattle.start.proofs.Priced.{kind-zero, raised-few}
-use Rattle.start.proofs.Puts.{cell-there, slot-here, slot-there}
+use Rattle.premiums.proofs.Priced.{kind-zero, raised-few}
+use Rattle.area.proofs.Puts.{cell-there, slot-here, slot-there}
 
 pub length-lowered : (b : Bool) (w : List ℤ) (k v : ℕ) → length (cond b w (putLowered w k v)) ≡ length w
 length-lowered true w k v = refl

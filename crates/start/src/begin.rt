@@ -1,7 +1,7 @@
 // The position before any move: kinds, labels, first premiums; and the work area handed back.
 ghost use mathlib.Core.Path.{_≡_};
 ghost use mathlib.Core.List.{List};
-ghost use Prim.Native.Nat.{ℕ, _+_, _*_, _≤_};
+ghost use Prim.Native.Nat.{_+_, _*_, _≤_};
 ghost use lib.IntN.{ℤ};
 ghost use lib.ListN.{length};
 ghost use Rattle.game.specs.Grid.{Grid, size};
@@ -26,8 +26,8 @@ pub fn set_up(grid: &[i32], rows: usize, columns: usize, work: &mut [i32]) -> Co
     let cells = rows * columns;
     crate::load::load(grid, rows, columns, work);
     let openings = openings::label(work, rows, columns);
-    let tally = crate::price::lay(work, cells, 2);
-    crate::price::raise_all(work, rows, columns);
+    let tally = premiums::lay(work, cells, 2);
+    premiums::raise_all(work, rows, columns);
     Counts {
         units: openings + tally.bare,
         safe: tally.safe,
@@ -49,6 +49,6 @@ pub fn reset(work: &mut [i32], rows: usize, columns: usize)
     ensures { λ _. ⌜ ((g : Grid) (s : Position) (old : List ℤ) → Stands rows columns g s old (now (work .entry)) → now (work .exit) ≡ held g (untouched g) old) ⌝ }
 {
     let cells = rows * columns;
-    crate::price::lay(work, cells, 4);
-    crate::price::raise_all(work, rows, columns);
+    premiums::lay(work, cells, 4);
+    premiums::raise_all(work, rows, columns);
 }

@@ -1,5 +1,4 @@
 // The position before any move, and the work area as it is handed back.
 pub mod load; // each cell's kind
-pub mod price; // each cell's first premium
 pub mod settle; // the end of a call
 pub mod begin; // the position before any move as a whole

@@ -1,6 +1,6 @@
 -- There is only one answer and one end content of each lent run for every call: the promises are functions, and each enum is read back from its number and values. Assumes nothing.
 use Prim.Native.Nat.{ℕ}
-use mathlib.Core.Path.{_≡_, refl, sym, _∙_}
+use mathlib.Core.Path.{_≡_, refl}
 use mathlib.Core.Bool.{cond}
 use mathlib.Core.List.{List}
 use mathlib.Mathlib.Logic.Function.Defs.{LeftInverse·injective}

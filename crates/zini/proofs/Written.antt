@@ -9,7 +9,7 @@ use lib.IntN.{ℤ}
 use lib.ListN.{drop, getD, length, length-map, take}
 use Rattle.game.specs.Grid.{Grid, size}
 use Rattle.game.specs.Area.{listOf}
-use Rattle.game.specs.Moves.{Move, replayFrom, word}
+use Rattle.game.specs.Moves.{replayFrom, word}
 use Rattle.game.specs.Position.{untouched}
 use Rattle.game.specs.Rounds.{Round, Searched, Step, greedySteps, movesOf, openingsFirstSteps, randomRound, randomSearch}
 use Rattle.game.specs.Demands.{Sound, SoundSearch}

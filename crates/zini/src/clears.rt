@@ -1,5 +1,5 @@
 // DRAWS: lent memory filled with 0.
-ghost use Prim.Native.Nat.{ℕ, _≤_};
+ghost use Prim.Native.Nat.{_≤_};
 ghost use lib.IntN.{pos};
 ghost use lib.ListN.{length};
 ghost use Rattle.zini.specs.Clearing.{Cleared};

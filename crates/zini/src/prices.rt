@@ -3,7 +3,7 @@ use crate::Priced;
 use checks::Checked;
 ghost use mathlib.Core.Path.{_≡_};
 ghost use mathlib.Core.List.{[], _∷_, _++_};
-ghost use Prim.Native.Nat.{ℕ, _*_, _≤_};
+ghost use Prim.Native.Nat.{_*_, _≤_};
 ghost use lib.ListN.{length};
 ghost use Rattle.game.specs.Rounds.{movesOf};
 ghost use Rattle.game.specs.Calls.{firstGiven, gives, greedyCall, gridChecks, listCheck, openingsFirstCall, playedRound, unlessListed};

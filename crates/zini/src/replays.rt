@@ -3,7 +3,7 @@ use crate::Replayed;
 use checks::Checked;
 use checks::Refusal;
 ghost use mathlib.Core.Path.{_≡_};
-ghost use Prim.Native.Nat.{ℕ, _*_, _≤_};
+ghost use Prim.Native.Nat.{_*_, _≤_};
 ghost use lib.ListN.{length, take};
 ghost use Rattle.game.specs.Position.{untouched};
 ghost use Rattle.game.specs.Moves.{replayFrom};

@@ -1,8 +1,6 @@
 -- `area::get`: a number below 0 reads as 0, any other as itself. Assumes nothing.
-use Prim.Native.Nat.{_<_}
 use native.Mathlib.Omega.{arith}
 use borrow.Author.Needs.{needs, sfits-of}
-use mathlib.Core.Path.{_≡_}
 use lib.ListN.{getD}
 use lib.IntN.{ℤ, pos}
 use mir.Val.{SFits}

@@ -1,9 +1,8 @@
 -- `area::mines_in_row`: the mines counted so far are those of the columns passed. Assumes nothing.
-use Prim.Native.Nat.{ℕ, _+_, _-_, _≤_}
+use Prim.Native.Nat.{ℕ, _-_, _≤_}
 use native.Mathlib.Omega.{arith}
 use borrow.Author.Needs.{needs}
 use mathlib.Core.Path.{_≡_, ap, _∙_}
-use lib.ListN.{length}
 use Rattle.game.specs.Lists.{count, range}
 use Rattle.area.proofs.Tests.{byte-le, count-none-yet, count-one-more}
 use Rattle.area.specs.Numbers.{rowMine}

@@ -1,5 +1,4 @@
 -- `checks::check`: the tests in their order. Assumes nothing.
-use Prim.Native.Nat.{_*_}
 use native.Mathlib.Omega.{arith}
 use borrow.Author.Needs.{needs}
 use Rattle.area.specs.Numbers.{gridOf}

@@ -2,11 +2,11 @@
 use native.Mathlib.Omega.{arith}
 use mathlib.Core.Path.{_≡_, ap, sym, _∙_}
 use mathlib.Core.List.{List}
-use mathlib.Core.Option.{none, some}
+use mathlib.Core.Option.{none}
 use Rattle.game.specs.Calls.{Check, firstGiven, gridChecks}
 use Rattle.area.specs.Numbers.{gridOf}
 use Rattle.area.proofs.Cells.{cells-few}
-use Rattle.checks.specs.Refusals.{named, refusalOf, below, listed}
+use Rattle.checks.specs.Refusals.{refusalOf, listed}
 use Rattle.checks.proofs.Verdict.{passed}
 use Rattle.checks.proofs.More.{first-stands, too-low, enough}
 use lib.ListN.{length}

@@ -2,7 +2,7 @@
 use Prim.Native.Nat.{ℕ, _%_, _+_, _-_, _/_, _≤_}
 use native.Mathlib.Omega.{arith}
 use mathlib.Core.Path.{_∙_, _≡_, ap, ap₂, subst, sym}
-use mathlib.Core.Bool.{Bool, _||_, false, true}
+use mathlib.Core.Bool.{Bool, _||_, false}
 use mathlib.Core.List.{[]}
 use lib.Dec.{T}
 use Rattle.area.specs.Numbers.{gridOf}

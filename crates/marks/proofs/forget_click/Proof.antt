@@ -1,5 +1,5 @@
 -- `marks::forget_click`: a 0-cell opens all of its opening, any other cell itself. Assumes nothing.
-use mathlib.Core.Path.{_∙_, sym}
+use mathlib.Core.Path.{_∙_}
 use Rattle.marks.proofs.Spanned.{clicked-one, clicked-opening}
 use borrow.Author.Needs.{needs}
 use Rattle.marks.proofs.forget_click.Statement.{statement}

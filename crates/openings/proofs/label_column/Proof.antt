@@ -2,7 +2,7 @@
 use Prim.Native.Nat.{ℕ, _*_, _+_, _-_, _<_, _≤_}
 use native.Mathlib.Omega.{arith}
 use native.Mathlib.Nat.{add-assoc, add-zero, mul-le-mul-right}
-use mathlib.Core.Path.{_∙_, _≡_, refl, subst, sym}
+use mathlib.Core.Path.{_∙_, _≡_, refl, subst}
 use mathlib.Core.List.{List}
 use lib.IntN.{ℤ}
 use lib.ListN.{length}

@@ -1,17 +1,17 @@
 -- `trials::print_signed`: a number below 0 is one less than a number that fits. Assumes nothing.
-use Prim.Native.Nat.{ℕ, zero, suc, _+_, _-_, _<_}
+use Prim.Native.Nat.{ℕ, suc, _+_, _-_, _<_}
 use native.Mathlib.Omega.{arith}
 use borrow.Author.Needs.{needs}
 use borrow.Author.Tests.{le-ltb}
 use mathlib.Core.Path.{_≡_, ap, sym, subst, _∙_}
-use mathlib.Core.Bool.{Bool, true, false, cond}
-use lib.Dec.{T, ltb, ltb→lt}
+use mathlib.Core.Bool.{Bool, true, cond}
+use lib.Dec.{T, ltb→lt}
 use lib.IntN.{ℤ, pos, negsuc, natAbs, _-ℤ_}
 use lib.Signed.{ltZ, nonNeg}
 use mir.Syntax.{w32, w64}
-use mir.Val.{Fits, SFits, toZ, ofZ}
+use mir.Val.{Fits, SFits}
 use mir.Facts.{toZ-ofZ}
-use Rattle.area.proofs.Signs.{FromZero, left-negative}
+use Rattle.area.proofs.Signs.{left-negative}
 use Rattle.trials.proofs.print_signed.Statement.{statement}
 use Rattle.trials.proofs.print_signed.Tie as tie
 

@@ -1,6 +1,5 @@
 -- `trials::print_sum`: the numbers added are within the work area. Assumes nothing.
-use Prim.Native.Nat.{ℕ, _≤_, _-_}
-use native.Mathlib.Omega.{arith}
+use Prim.Native.Nat.{_≤_, _-_}
 use borrow.Author.Needs.{needs}
 use lib.ListN.{length}
 use Rattle.trials.proofs.print_sum.Statement.{statement}

@@ -1,5 +1,5 @@
 -- `rounds::whole::play_on`: the steps so far are those of the definition; fewer safe cells are closed after each; what is kept of the columns stays right. Assumes nothing.
-use Prim.Native.Nat.{ℕ, _*_, _+_, _<_, _≤_}
+use Prim.Native.Nat.{_*_, _≤_}
 use native.Mathlib.Omega.{arith}
 use native.Mathlib.Nat.{mul-le-mul-right}
 use mathlib.Core.Path.{_≡_, refl}
@@ -7,7 +7,6 @@ use lib.ListN.{length}
 use borrow.Author.Needs.{needs}
 use Rattle.choices.specs.Tests.{NoUnitBelow}
 use Rattle.choices.specs.Tops.{Kept}
-use Rattle.game.specs.Position.{closedSafe}
 use Rattle.game.specs.Rounds.{choice, stepOf}
 use Rattle.rounds.proofs.Lows.{low-stays}
 use Rattle.rounds.proofs.Onward.{Midway, Underway, closed-falls, midway-begins, midway-ends, midway-goes-on, underway-begins, underway-goes-on, underway-stands}

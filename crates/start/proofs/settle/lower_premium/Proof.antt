@@ -3,9 +3,7 @@ use borrow.Author.Needs.{needs}
 use borrow.Author.Tests.{eq-eqb, ne-eqb}
 use mathlib.Core.Path.{_≡_, ap, sym, _∙_}
 use mathlib.Core.Bool.{Bool, cond}
-use mathlib.Core.List.{List}
-use lib.IntN.{ℤ}
-use Prim.Native.Nat.{ℕ, _+_, _*_}
+use Prim.Native.Nat.{_+_, _*_}
 use Rattle.area.specs.Numbers.{numberAt, putLowered}
 use Rattle.start.proofs.settle.lower_premium.Statement.{statement}
 use Rattle.start.proofs.settle.lower_premium.Tie as tie

@@ -1,16 +1,14 @@
 -- `start::settle::settle_cells`: the cells passed are settled. Assumes nothing.
-use Prim.Native.Nat.{ℕ, _+_, _-_, _*_, _≤_, _<_}
+use Prim.Native.Nat.{ℕ, _+_, _-_, _*_, _≤_}
 use native.Mathlib.Omega.{arith}
 use mathlib.Core.Path.{_≡_, refl, ap, sym, _∙_}
-use mathlib.Core.Bool.{Bool, true, false, cond}
 use mathlib.Core.List.{List}
 use lib.Dec.{eqb}
-use lib.IntN.{ℤ, pos}
-use lib.ListN.{length, length-set}
-use borrow.Author.Needs.{needs}
+use lib.IntN.{ℤ}
+use lib.ListN.{length}
 use Rattle.game.specs.Lists.{range, fold}
 use Rattle.game.proofs.Members.{fold-more}
-use Rattle.area.specs.Numbers.{numberAt, putAt, putLowered}
+use Rattle.area.specs.Numbers.{numberAt, putAt}
 use Rattle.start.specs.Passes.{settleCell}
 use Rattle.start.proofs.Settled.{length-lowered, length-settle}
 use Rattle.start.proofs.settle.settle_cells.Statement.{statement}

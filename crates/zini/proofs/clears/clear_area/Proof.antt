@@ -3,8 +3,6 @@ use Prim.Native.Nat.{ℕ, _+_, _-_, _≤_}
 use native.Mathlib.Omega.{arith}
 use mathlib.Core.Path.{_≡_, subst, sym}
 use mathlib.Core.List.{List}
-use lib.ListN.{length}
-use borrow.Author.Needs.{needs}
 use Rattle.zini.specs.Clearing.{Cleared}
 use Rattle.zini.proofs.Clearing.{cleared-more, cleared-none}
 use lib.IntN.{ℤ, pos}

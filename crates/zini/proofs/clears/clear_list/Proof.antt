@@ -1,9 +1,7 @@
 -- `zini::clears::clear_list`: the words passed are 0. Assumes nothing.
-use Prim.Native.Nat.{ℕ, _+_, _-_, _≤_}
+use Prim.Native.Nat.{ℕ, _-_, _≤_}
 use native.Mathlib.Omega.{arith}
-use mathlib.Core.Path.{_≡_, subst, sym}
-use mathlib.Core.List.{List}
-use lib.ListN.{length}
+use mathlib.Core.Path.{_≡_, subst}
 use borrow.Author.Needs.{needs}
 use Rattle.zini.specs.Clearing.{Cleared}
 use Rattle.zini.proofs.Clearing.{cleared-more, cleared-none}

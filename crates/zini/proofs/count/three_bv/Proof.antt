@@ -1,17 +1,15 @@
 -- `zini::count::three_bv`: refused as the checks say, else counted and settled. Assumes nothing.
-use Prim.Native.Nat.{ℕ, _*_}
 use native.Mathlib.Omega.{arith}
 use borrow.Author.Needs.{needs}
 use mathlib.Core.Path.{_≡_, ap, refl, sym, _∙_}
 use mathlib.Core.Option.{none}
-use Rattle.game.specs.Grid.{Grid}
 use Rattle.game.specs.Position.{untouched}
 use Rattle.game.specs.Calls.{firstGiven, gridChecks}
 use Rattle.area.specs.Numbers.{gridOf}
 use lib.ListN.{length}
 use Rattle.area.proofs.Held.{length-held}
 use Rattle.area.proofs.Cells.{cells-few}
-use Rattle.checks.specs.Refusals.{named, refusalOf}
+use Rattle.checks.specs.Refusals.{refusalOf}
 use Rattle.checks.proofs.Verdict.{Passed, passed}
 use Rattle.zini.proofs.Counts.{count-refused, count-answered}
 use Rattle.zini.proofs.count.three_bv.Statement.{statement}

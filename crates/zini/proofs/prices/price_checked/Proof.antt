@@ -1,5 +1,4 @@
 -- `zini::prices::price_checked`: set up, played, settled. Assumes nothing.
-use native.Mathlib.Omega.{arith}
 use mathlib.Core.Path.{ap, refl}
 use mathlib.Core.List.{[], _∷_}
 use Prim.Native.Nat.{ℕ}

@@ -1,14 +1,13 @@
 -- `zini::replays::replay`: refused as the checks say, else played. Assumes nothing.
 use mathlib.Core.Path.{_≡_, ap, sym, _∙_}
-use mathlib.Core.List.{List, _++_}
-use mathlib.Core.Option.{Option, none, some}
-use Rattle.game.specs.Grid.{Grid}
+use mathlib.Core.List.{_++_}
+use mathlib.Core.Option.{Option, none}
 use Rattle.game.specs.Position.{untouched}
 use Rattle.game.specs.Moves.{replayFrom}
 use Rattle.game.specs.Calls.{Outcome, Refusal, firstGiven, gridChecks, replayCall, replayed, trace}
 use Rattle.area.specs.Numbers.{gridOf}
 use lib.ListN.{length, take}
-use Rattle.checks.specs.Refusals.{named, refusalOf}
+use Rattle.checks.specs.Refusals.{refusalOf}
 use Rattle.checks.proofs.More.{reaches, all-passed}
 use Rattle.zini.proofs.Promises.{kept-else, kept-refused}
 use borrow.Author.Needs.{needs}

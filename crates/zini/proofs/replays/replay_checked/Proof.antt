@@ -1,17 +1,12 @@
 -- `zini::replays::replay_checked`: set up, played, settled. Assumes nothing.
-use Prim.Native.Nat.{ℕ, _*_}
 use native.Mathlib.Omega.{arith}
 use borrow.Author.Needs.{needs}
-use mathlib.Core.Path.{_≡_, ap, refl, sym, subst, _∙_}
-use mathlib.Core.List.{List}
-use lib.IntN.{ℤ}
-use lib.ListN.{length, take}
-use Rattle.game.specs.Grid.{Grid}
-use Rattle.game.specs.Position.{Position, untouched}
+use mathlib.Core.Path.{refl, sym, subst}
+use lib.ListN.{take}
+use Rattle.game.specs.Position.{untouched}
 use Rattle.game.specs.Moves.{replayFrom}
 use Rattle.game.specs.Calls.{replayed}
 use Rattle.area.specs.Numbers.{gridOf}
-use Rattle.area.proofs.Held.{length-held}
 use Rattle.area.proofs.Cells.{cells-few}
 use Rattle.zini.specs.Answers.{Kept, replayedAnswer}
 use Rattle.zini.specs.declared.Replayed.{Replayed}

@@ -1,0 +1,4 @@
+pub mod Joins
+pub mod Flags
+pub mod Acted
+pub mod Hits

@@ -1,0 +1,10 @@
+// Moves on a work area that stands for a position, each noted in a list.
+pub mod single; // single moves, and the moves at a chosen cell
+pub mod opening_clicks; // L on each closed 0-cell
+
+// What goes from move to move: moves made, safe cells still closed, the place in the draws.
+pub struct State {
+    pub moves: usize,
+    pub closed: usize,
+    pub next: usize,
+}

@@ -1,0 +1,2 @@
+-- What the passes that lay the first premiums promise.
+pub mod Laying

@@ -1,0 +1,26 @@
+-- Each answer of a call on stored move lists in document 01's numbers and values. Assumes nothing.
+use mathlib.Core.Path.{_≡_}
+use mathlib.Core.List.{List, [], _∷_}
+use Prim.Native.Nat.{ℕ}
+use Rattle.game.specs.Calls.{Answer, gives, refuses}
+use Rattle.lines.specs.Answers.{named}
+use Rattle.stored.specs.MoveLine.{RunOutcome}
+use Rattle.stored.specs.declared.MovesRead.{MovesRead}
+use Rattle.stored.specs.declared.MovesRead.the-variants as Reads
+use Rattle.stored.specs.declared.MovesWritten.{MovesWritten}
+use Rattle.stored.specs.declared.MovesWritten.the-variants as Writes
+
+-- a stored line read: 0, rows, columns and how many moves, or the refusal's number alone
+abbrev pub readAnswer : MovesRead → Answer
+readAnswer (Reads.Moves rows columns n) = gives (rows ∷ columns ∷ n ∷ [])
+readAnswer (Reads.Refused f) = refuses (named f)
+
+-- a line written: 0 and how many digits, or the refusal's number alone
+abbrev pub writtenAnswer : MovesWritten → Answer
+writtenAnswer (Writes.Digits n) = gives (n ∷ [])
+writtenAnswer (Writes.Refused f) = refuses (named f)
+
+-- a call that writes into one lent run keeps its promise
+pub record KeptRun (promise : RunOutcome) (answer : Answer) (run : List ℕ) : Type 0 where
+  pub answers : answer ≡ promise .answer
+  pub leaves : run ≡ promise .run

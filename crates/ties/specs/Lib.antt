@@ -1,0 +1,2 @@
+-- What the cells that a random step draws among are.
+pub mod Candidates
