@@ -1,7 +1,7 @@
 pub mod Passing
 pub mod Held
+pub mod Columns
 pub mod Tops
 pub mod Below
-pub mod Columns
 pub mod Bytes
 pub mod Firsts

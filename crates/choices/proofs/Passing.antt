@@ -98,3 +98,30 @@ pub first-none : (f : ℕ → Bool) (a b : ℕ) → ((j : ℕ) → a ≤ j → j
 first-none f a b n =
     sym (ap (λ (l : List ℕ). getD l 0 0)
     (none-there (keep f (range a b)) (λ x t. let k = keep-has f x (range a b) t in let r = has-range a b x (k .0) in n x (r .0) (r .1) (k .1))))
+
+-- the place i lies in a run from a on, the cell there passes, and none before it does
+abbrev First : (ℕ → Bool) → ℕ → ℕ → ℕ → Type 0
+First f a b i = (a ≤ i) × (i < b) × T (f i) × ((j : ℕ) → a ≤ j → j < i → T (f j) → ⊥)
+
+first-from : (f : ℕ → Bool) (n a b x : ℕ) → a ≤ x → x < b → b ≡ a + n → T (f x) → First f a b (getD (keep f (from a n)) 0 0)
+first-from f zero a b x h k e t = absurd (omega arith)
+first-from f (suc n) a b x h k e t = split (f a) refl (λ l. first-from f n (suc a) b x l k (omega arith) t)
+  where
+    split : (c : Bool) → f a ≡ c → (suc a ≤ x → First f (suc a) b (getD (keep f (from (suc a) n)) 0 0))
+        → First f a b (getD (elim c [ true ↦ a ∷ keep f (from (suc a) n) | false ↦ keep f (from (suc a) n) ]) 0 0)
+    split true q r = (omega arith, omega arith, subst T (sym q) tt, λ j l m u. absurd (omega arith))
+    split false q r =
+        let later : suc a ≤ x = elim (ℕ-discrete x a) [ yes z ↦ absurd (subst T q (subst (λ (i : ℕ). T (f i)) z t)) | no z ↦ omega arith ] in
+        let there = r later in (
+          omega (arith, there .0),
+          there .1,
+          there .2,
+          λ j l m u. elim (ℕ-discrete j a) [
+            | yes z ↦ subst T q (subst (λ (i : ℕ). T (f i)) z u)
+            | no z ↦ there .3 j (omega arith) m u
+          ],
+        )
+
+-- where one passes, the first lies in the run
+pub first-there : (f : ℕ → Bool) (a b x : ℕ) → a ≤ x → x < b → T (f x) → First f a b (getD (keep f (range a b)) 0 0)
+first-there f a b x h k t = first-from f (b - a) a b x h k (omega arith) t

@@ -1,36 +1,37 @@
--- The cells of highest premium, by what the work area holds: one scan finds the lowest of them. Assumes nothing.
+-- The cells of highest premium, by what the work area holds: the first column of highest premium has the lowest of them. Assumes nothing.
 use Rattle.choices.specs.declared.Found.the-variants.{At, Nothing}
 use Rattle.choices.specs.declared.Best.{Best}
-use Prim.Native.Nat.{ℕ, _*_, _+_, _-_, _<_, _≤_, suc, zero}
+use Prim.Native.Nat.{ℕ, _*_, _+_, _/_, _<_, _≤_}
 use native.Mathlib.Omega.{arith}
-use native.Mathlib.Decide.{ℕ-discrete, decLt}
-use native.Mathlib.Nat.{add-zero}
-use mathlib.Core.Path.{_∙_, _≡_, ap, refl, subst, sym}
-use mathlib.Core.Logic.{_⊎_, inl, inr, ⊎-elim}
-use mathlib.Core.Bool.{Bool, _&&_, _||_, cond, false, not, true}
+use native.Mathlib.Decide.{decLt}
+use native.Mathlib.Nat.{mul-comm, mul-le-mul-right}
+use mathlib.Core.Path.{_∙_, _≡_, ap, ap₂, subst, sym}
+use mathlib.Core.Logic.{⊎-elim}
+use mathlib.Core.Bool.{Bool, _&&_, _||_, not}
 use mathlib.Core.List.{List, [], map}
-use lib.Dec.{T, eqb, eqb→eq, ltb, ltb→lt, lt→ltb}
+use lib.Dec.{T, eqb}
 use lib.IntN.{ℤ}
+use lib.ListN.{getD}
 use lib.Signed.{leZ}
 use Rattle.area.specs.Numbers.{numberAt}
-use Rattle.choices.specs.Picks.{bestOf, betterAt, foundFirst}
+use Rattle.area.specs.Stages.{Stands}
+use Rattle.area.proofs.Cells.{cell-below}
+use Rattle.choices.specs.Picks.{foundFirst}
 use Rattle.choices.specs.Tests.{lookedAt, topAt}
+use Rattle.choices.specs.Tops.{firstOf}
 use Rattle.game.specs.Grid.{Grid, cells, safe, size}
-use Rattle.game.specs.Lists.{fold, from, has, keep, range}
+use Rattle.game.specs.Lists.{has, keep, range}
 use Rattle.game.specs.Position.{Position, opened, premium}
 use Rattle.game.specs.Rounds.{highest, leastChosen, looked, same, topCells}
-use Rattle.marks.proofs.Held.{Holds}
+use Rattle.marks.proofs.Held.{Holds, held-numbers}
+use Rattle.choices.proofs.Columns.{Leading, Led, cell-bound, column-has, led-all, top→looked}
 use Rattle.choices.proofs.Held.{looked→, premium→raised, raised→premium, raised→safe, reaches→, →looked, →reaches}
-use Rattle.choices.proofs.Passing.{found-at, none-there, ordered-same}
+use Rattle.choices.proofs.Passing.{first-there, found-at, none-there, ordered-same}
 use Rattle.game.proofs.Choices.{top→, →top}
 use Rattle.game.proofs.Members.{has-keep, keep-has, range-has}
 use Rattle.game.proofs.Orders.{ordered-keep, ordered-range}
 use Rattle.game.proofs.Squares.{cells→, →cells}
-use Rattle.game.proofs.Truth.{and-both, and-left, and-right, eqb-yes}
-
-top→looked : (openedOnly : Bool) (m : ℕ) (w : List ℤ) (i : ℕ) → T (topAt openedOnly m w i) → T (lookedAt openedOnly w i) × (numberAt w (5 * i + 2) ≡ m)
-top→looked openedOnly m w i t =
-    (and-left (lookedAt openedOnly w i) (eqb (numberAt w (5 * i + 2)) m) t, eqb→eq (numberAt w (5 * i + 2)) m (and-right (lookedAt openedOnly w i) (eqb (numberAt w (5 * i + 2)) m) t))
+use Rattle.game.proofs.Truth.{and-both, eqb-yes}
 
 looked→top : (openedOnly : Bool) (m : ℕ) (w : List ℤ) (i : ℕ) → T (lookedAt openedOnly w i) → numberAt w (5 * i + 2) ≡ m → T (topAt openedOnly m w i)
 looked→top openedOnly m w i t e =
@@ -90,129 +91,90 @@ module _ (openedOnly : Bool) (g : Grid) (s : Position) (w : List ℤ) (r : Holds
         most : ℤ
         most = highest (map (premium g s) (looked openedOnly g s))
 
--- ---- the scan
+-- ---- the first column of highest premium
 
--- the lowest of the cells passed that has the highest raised premium, which is 10 or more
-pub record Lowest (openedOnly : Bool) (w : List ℤ) (i : ℕ) (b : Best) : Type 0 where
-  pub reaches : 10 ≤ b .top
-  pub inside : b .at < i
-  pub has-it : T (topAt openedOnly (b .top) w (b .at))
-  pub first : (j : ℕ) → j < b .at → T (topAt openedOnly (b .top) w j) → ⊥
+module _ (openedOnly : Bool) (rows columns : ℕ) (g : Grid) (s : Position) (old w : List ℤ) (st : Stands rows columns g s old w) where
+  abbrev best : Best
+  best = firstOf openedOnly w rows columns columns
 
--- what the scan of n cells has once i are passed
-pub record Passed (openedOnly : Bool) (w : List ℤ) (n i : ℕ) (b : Best) : Type 0 where
-  pub bound : (j : ℕ) → j < i → T (lookedAt openedOnly w j) → numberAt w (5 * j + 2) ≤ b .top
-  pub which : ((b .top ≡ 9) × (b .at ≡ n)) ⊎ Lowest openedOnly w i b
+  abbrev is-top : ℕ → Bool
+  is-top = topAt openedOnly (best .top) w
 
-module _ (openedOnly : Bool) (w : List ℤ) (n : ℕ) where
-  passed-one : (i : ℕ) (b : Best) → Passed openedOnly w n i b → Passed openedOnly w n (suc i) (betterAt openedOnly w b i)
-  passed-one i b p = go (ltb (b .top) here && lookedAt openedOnly w i) refl
-    where
-      here : ℕ
-      here = numberAt w (5 * i + 2)
+  numbers : Holds g s w
+  numbers = held-numbers rows columns g s old w st
 
-      least : 9 ≤ b .top
-      least = ⊎-elim (λ u. omega arith) (λ l. omega (arith, l .reaches)) (p .which)
+  all-cells : size g ≡ rows * columns
+  all-cells = ap₂ _*_ (st .rows-are) (st .columns-are)
 
-      go : (c : Bool) → (ltb (b .top) here && lookedAt openedOnly w i) ≡ c → Passed openedOnly w n (suc i) (cond c (record { top = here; at = i }) b)
-      go true e =
-          let t = subst T (sym e) tt in
-          let more = ltb→lt (b .top) here (and-left (ltb (b .top) here) (lookedAt openedOnly w i) t) in
-          record {
-            bound = λ j h u. elim (ℕ-discrete j i) [
-              | yes q ↦ rw q (omega arith)
-              | no q ↦ omega (arith, p .bound j (omega arith) u)
-            ];
-            which = inr (record {
-              reaches = omega (arith, least);
-              inside = omega arith;
-              has-it = looked→top openedOnly here w i (and-right (ltb (b .top) here) (lookedAt openedOnly w i) t) refl;
-              first = λ j h u. let q = top→looked openedOnly here w j u in omega (arith, q .1, p .bound j h (q .0));
-            });
-          }
-      go false e =
-          record {
-            bound = λ j h u. elim (ℕ-discrete j i) [
-              | yes q ↦ rw q (no-more (rw q at u))
-              | no q ↦ p .bound j (omega arith) u
-            ];
-            which = ⊎-elim (λ u. inl u) (λ l. inr (record { reaches = l .reaches; inside = omega (arith, l .inside); has-it = l .has-it; first = l .first })) (p .which);
-          }
-        where
-          no-more : T (lookedAt openedOnly w i) → here ≤ b .top
-          no-more u =
-              elim (decLt (b .top) here) [
-                | yes k ↦ absurd (subst T e (and-both (ltb (b .top) here) (lookedAt openedOnly w i) (lt→ltb (b .top) here k) u))
-                | no k ↦ omega arith
-              ]
+  led : Led openedOnly w rows columns columns best
+  led = led-all openedOnly w rows columns
 
-  passed-from : (k i : ℕ) (b : Best) → Passed openedOnly w n i b → Passed openedOnly w n (i + k) (fold (betterAt openedOnly w) b (from i k))
-  passed-from zero i b p = subst (λ (m : ℕ). Passed openedOnly w n m b) (sym (add-zero i)) p
-  passed-from (suc k) i b p =
-      subst (λ (m : ℕ). Passed openedOnly w n m (fold (betterAt openedOnly w) b (from i (suc k)))) (up i k) (passed-from k (suc i) (betterAt openedOnly w b i) (passed-one i b p))
-    where
-      up : (i k : ℕ) → suc i + k ≡ i + suc k
-      up i k = omega arith
+  -- no cell that is looked at has more
+  below : (j : ℕ) → j < size g → T (lookedAt openedOnly w j) → numberAt w (5 * j + 2) ≤ best .top
+  below j h t =
+      let k = cell-bound openedOnly w rows columns j (st .shape .some-rows) (rw (mul-comm columns rows) (omega (arith, all-cells))) in
+      omega (arith, k .1 t, led .bound (j / rows) (k .0))
 
-  pub passed-all : Passed openedOnly w n n (bestOf openedOnly w n)
-  passed-all =
-      subst (λ (m : ℕ). Passed openedOnly w n m (bestOf openedOnly w n)) (all n)
-      (passed-from (n - 0) 0 (record { top = 9; at = n }) (record { bound = λ j h u. absurd (omega arith); which = inl (refl, refl) }))
-    where
-      all : (n : ℕ) → 0 + (n - 0) ≡ n
-      all n = omega arith
+  -- without a premium of 0 or more there are none
+  pub no-tops : best .top ≡ 9 → topCells openedOnly g s ≡ []
+  no-tops e = tops-none openedOnly g s w numbers (best .top) below (omega arith)
 
--- ---- what the scan tells of a position
+  module _ (l : Leading openedOnly w rows columns best) where
+    -- a cell of the column has it
+    led-cell : (row : ℕ) × (row < rows) × T (is-top (best .at * rows + row))
+    led-cell =
+        let k = column-has openedOnly w rows (best .at) (omega (arith, l .reaches, l .its)) in
+        (k .0, k .1, subst (λ (m : ℕ). T (topAt openedOnly m w (best .at * rows + k .0))) (sym (l .its)) (k .2))
 
-module _ (openedOnly : Bool) (g : Grid) (s : Position) (w : List ℤ) (n : ℕ) (r : Holds g s w) (e : size g ≡ n) where
-  below : (j : ℕ) → j < size g → T (lookedAt openedOnly w j) → numberAt w (5 * j + 2) ≤ bestOf openedOnly w n .top
-  below j h u = passed-all openedOnly w n .bound j (omega arith) u
+    led-inside : best .at * rows + led-cell .0 < rows * columns
+    led-inside = cell-below rows columns (led-cell .0) (best .at) (led-cell .1) (l .inside)
 
-  -- if the scan has a cell, the cells of highest premium are those of its raised premium
-  pub scanned : Lowest openedOnly w n (bestOf openedOnly w n) → topCells openedOnly g s ≡ keep (topAt openedOnly (bestOf openedOnly w n .top) w) (range 0 n)
-  scanned l =
-      tops-are openedOnly g s w r (bestOf openedOnly w n .top) below (l .reaches) (bestOf openedOnly w n .at) (omega (arith, l .inside)) (l .has-it)
-      ∙ ap (λ (k : ℕ). keep (topAt openedOnly (bestOf openedOnly w n .top) w) (range 0 k)) e
+    -- the cells of highest premium are those that have it
+    pub tops-there : topCells openedOnly g s ≡ keep is-top (range 0 (rows * columns))
+    tops-there =
+        tops-are openedOnly g s w numbers (best .top) below (l .reaches) (best .at * rows + led-cell .0) (omega (arith, led-inside, all-cells)) (led-cell .2)
+        ∙ ap (λ (n : ℕ). keep is-top (range 0 n)) all-cells
 
-  -- else there are none
-  pub unmet : bestOf openedOnly w n .top ≡ 9 → topCells openedOnly g s ≡ []
-  unmet q = tops-none openedOnly g s w r (bestOf openedOnly w n .top) below (omega arith)
+    -- there is one
+    pub top-there : (i : ℕ) × T (has i (topCells openedOnly g s))
+    top-there = (
+      best .at * rows + led-cell .0,
+      rw tops-there (has-keep is-top (best .at * rows + led-cell .0) (range 0 (rows * columns))
+          (range-has 0 (rows * columns) (best .at * rows + led-cell .0) (omega arith) led-inside) (led-cell .2)),
+    )
+
+    -- no earlier column has it
+    none-earlier : (j : ℕ) → j < best .at * rows → T (is-top j) → ⊥
+    none-earlier j h t =
+        let q = top→looked openedOnly (best .top) w j t in
+        let k = cell-bound openedOnly w rows (best .at) j (st .shape .some-rows) h in
+        omega (arith, k .1 (q .0), l .first (j / rows) (k .0), q .1)
+
+    -- so the first of its cells that have it is the first of all
+    led-found : At (getD (keep is-top (range (best .at * rows) (best .at * rows + rows))) 0 0) ≡ foundFirst (topCells openedOnly g s)
+    led-found =
+        let i = getD (keep is-top (range (best .at * rows) (best .at * rows + rows))) 0 0 in
+        let f = first-there is-top (best .at * rows) (best .at * rows + rows) (best .at * rows + led-cell .0) (omega arith) (omega (arith, led-cell .1)) (led-cell .2) in
+        found-at is-top (rows * columns) i (omega (arith, f .1, mul-le-mul-right rows (l .inside), mul-comm columns rows)) (f .2)
+        (λ j h t. elim (decLt j (best .at * rows)) [
+          | yes k ↦ none-earlier j k t
+          | no k ↦ f .3 j (omega arith) h t
+        ])
+        ∙ sym (ap foundFirst tops-there)
 
   -- where no premium reaches 0, each that is looked at is lower
   pub none-reaches : topCells openedOnly g s ≡ [] → (j : ℕ) → j < size g → T (lookedAt openedOnly w j) → numberAt w (5 * j + 2) ≤ 9
   none-reaches q j h u =
-      ⊎-elim
-      (λ v. omega (arith, below j h u, v .0))
-      (λ l. absurd (subst (λ (xs : List ℕ). T (has (bestOf openedOnly w n .at) xs)) (sym (scanned l) ∙ q)
-      (has-keep (topAt openedOnly (bestOf openedOnly w n .top) w) (bestOf openedOnly w n .at) (range 0 n) (range-has 0 n (bestOf openedOnly w n .at) (omega arith) (l .inside)) (l .has-it))))
-      (passed-all openedOnly w n .which)
+      ⊎-elim (λ v. omega (arith, below j h u, v .0)) (λ l. absurd (subst (λ (xs : List ℕ). T (has (top-there l .0) xs)) q (top-there l .1))) (led .which)
 
-  -- a premium of 10 or more is that of a cell, the lowest that has it
-  best-lowest : 10 ≤ bestOf openedOnly w n .top → Lowest openedOnly w n (bestOf openedOnly w n)
-  best-lowest h = ⊎-elim (λ u. absurd (other h (u .0))) (λ l. l) (passed-all openedOnly w n .which)
-    where
-      other : {a : ℕ} → 10 ≤ a → a ≡ 9 → ⊥
-      other k q = omega arith
-
-  pub best-inside : 10 ≤ bestOf openedOnly w n .top → bestOf openedOnly w n .at < n
-  best-inside h = best-lowest h .inside
-
-  pub best-first : 10 ≤ bestOf openedOnly w n .top
-      → T (topAt openedOnly (bestOf openedOnly w n .top) w (bestOf openedOnly w n .at)) × ((j : ℕ) → j < bestOf openedOnly w n .at → T (topAt openedOnly (bestOf openedOnly w n .top) w j) → ⊥)
-  best-first h = let l = best-lowest h in (l .has-it, l .first)
-
-  pub best-found : bestOf openedOnly w n .at < n → At (bestOf openedOnly w n .at) ≡ foundFirst (topCells openedOnly g s)
-  best-found h =
-      ⊎-elim (λ u. absurd (other h (u .1)))
-      (λ l. found-at (topAt openedOnly (bestOf openedOnly w n .top) w) n (bestOf openedOnly w n .at) h (l .has-it) (l .first) ∙ sym (ap foundFirst (scanned l)))
-      (passed-all openedOnly w n .which)
+  pub best-found : best .at < columns → At (getD (keep is-top (range (best .at * rows) (best .at * rows + rows))) 0 0) ≡ foundFirst (topCells openedOnly g s)
+  best-found h = ⊎-elim (λ u. absurd (other h (u .1))) led-found (led .which)
     where
       other : {a b : ℕ} → a < b → a ≡ b → ⊥
       other k q = omega arith
 
-  pub best-none : n ≤ bestOf openedOnly w n .at → Nothing ≡ foundFirst (topCells openedOnly g s)
-  best-none h =
-      ⊎-elim (λ u. sym (ap foundFirst (unmet (u .0)))) (λ l. absurd (other h (l .inside))) (passed-all openedOnly w n .which)
+  pub best-none : columns ≤ best .at → Nothing ≡ foundFirst (topCells openedOnly g s)
+  best-none h = ⊎-elim (λ u. sym (ap foundFirst (no-tops (u .0)))) (λ l. absurd (other h (l .inside))) (led .which)
     where
       other : {a b : ℕ} → b ≤ a → a < b → ⊥
       other k q = omega arith

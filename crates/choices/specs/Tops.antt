@@ -1,19 +1,23 @@
 -- What is kept of each column, so that a step looks again only at the columns that may have changed. Assumes nothing.
 use Prim.Native.Nat.{ℕ, _+_, _*_, _<_, _≤_}
 use mathlib.Core.Path.{_≡_}
-use mathlib.Core.Bool.{Bool, cond}
+use mathlib.Core.Bool.{Bool, cond, _&&_}
 use mathlib.Core.List.{List}
 use lib.Dec.{ltb}
 use lib.IntN.{ℤ}
 use lib.ListN.{getD, length}
 use Rattle.game.specs.Lists.{count, fold, range}
-use Rattle.choices.specs.Picks.{columnBest}
-use Rattle.choices.specs.Tests.{unitAt}
+use Rattle.area.specs.Numbers.{numberAt}
+use Rattle.choices.specs.Tests.{lookedAt, unitAt}
 use Rattle.choices.specs.declared.Best.{Best}
+
+-- the higher raised premium so far, once a cell has been looked at
+abbrev pub topWith : Bool → List ℤ → ℕ → ℕ → ℕ
+topWith openedOnly w top i = cond (ltb top (numberAt w (5 * i + 2)) && lookedAt openedOnly w i) (numberAt w (5 * i + 2)) top
 
 -- the highest raised premium of 10 or more in a column, 9 if there is none
 abbrev pub columnTop : Bool → List ℤ → ℕ → ℕ → ℕ
-columnTop openedOnly w rows column = columnBest openedOnly w rows (record { top = 9; at = 0 }) column .top
+columnTop openedOnly w rows column = fold (λ top row. topWith openedOnly w top (column * rows + row)) 9 (range 0 rows)
 
 -- what is kept of each column: 0 where it must be looked at again, else 1 more than its highest premium
 pub record Kept (openedOnly : Bool) (w : List ℤ) (rows columns : ℕ) (tops : List ℕ) : Type 0 where

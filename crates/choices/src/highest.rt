@@ -1,11 +1,10 @@
-// The highest premium of 0 or more in a column, and the lowest cell that has it.
-use crate::Best;
+// The highest premium of 0 or more in a column.
 ghost use mathlib.Core.Path.{_≡_};
 ghost use Prim.Native.Nat.{_+_, _*_, _<_, _≤_};
 ghost use lib.ListN.{length};
 ghost use Rattle.area.specs.Stages.{Shape};
 ghost use Rattle.choices.specs.Tests.{lookedAt};
-ghost use Rattle.choices.specs.Picks.{betterAt, columnBest};
+ghost use Rattle.choices.specs.Tops.{columnTop, topWith};
 
 // Whether a step may look at the cell.
 pub fn looked(work: &[i32], index: usize, opened_only: bool) -> bool
@@ -18,41 +17,37 @@ pub fn looked(work: &[i32], index: usize, opened_only: bool) -> bool
     true
 }
 
-// The best so far, once the cell has been looked at.
-pub fn better(work: &[i32], index: usize, opened_only: bool, best: Best) -> Best
+// The higher raised premium so far, once the cell has been looked at.
+pub fn better(work: &[i32], index: usize, opened_only: bool, top: usize) -> usize
     requires { ⌜ 5 * index + 5 ≤ length (now work) ⌝ }
-    ensures { λ r. ⌜ r ≡ betterAt «opened_only» (now (work .entry)) best index ⌝ }
+    ensures { λ r. ⌜ r ≡ topWith «opened_only» (now (work .entry)) top index ⌝ }
 {
-    if !looked(work, index, opened_only) {
-        return best;
-    }
     let premium = area::get(work, 5 * index + 2);
-    if premium <= best.top {
-        return best;
+    if premium <= top {
+        return top;
     }
-    Best {
-        top: premium,
-        at: index,
+    if looked(work, index, opened_only) {
+        return premium;
     }
+    top
 }
 
-// The best so far, once the cells of a column have been looked at.
+// The highest raised premium of a column, at least 9.
 pub fn scan_column(
     work: &[i32],
     rows: usize,
     columns: usize,
     column: usize,
     opened_only: bool,
-    best: Best,
-) -> Best
+) -> usize
     requires { ⌜ Shape rows columns ⌝ }
     requires { ⌜ (5 * (rows * columns) ≤ length (now work)) × (column < columns) ⌝ }
-    ensures { λ r. ⌜ r ≡ columnBest «opened_only» (now (work .entry)) rows best column ⌝ }
+    ensures { λ r. ⌜ r ≡ columnTop «opened_only» (now (work .entry)) rows column ⌝ }
 {
-    let mut found = best;
+    let mut top: usize = 9;
     for row in 0..rows {
         let index = area::cell(rows, columns, row, column);
-        found = better(work, index, opened_only, found);
+        top = better(work, index, opened_only, top);
     }
-    found
+    top
 }

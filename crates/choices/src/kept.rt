@@ -64,10 +64,9 @@ fn top_of(
     if kept > 0 {
         return kept - 1;
     }
-    let start = Best { top: 9, at: 0 };
-    let found = highest::scan_column(work, rows, columns, column, opened_only, start);
-    tops[column] = kept_of(found.top);
-    found.top
+    let found = highest::scan_column(work, rows, columns, column, opened_only);
+    tops[column] = kept_of(found);
+    found
 }
 
 // The highest premium of all columns, and the first column that has it.

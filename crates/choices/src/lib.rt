@@ -1,6 +1,6 @@
 // Which cell a step takes.
-pub mod highest; // the highest premium of a column, the lowest index
-pub mod kept; // the same of all columns, looking again only at those that may have changed
+pub mod highest; // the highest premium of a column
+pub mod kept; // the lowest cell of highest premium, looking again only at columns that may have changed
 pub mod units; // the lowest closed unit
 
 // What a search finds.
@@ -9,7 +9,7 @@ pub enum Found {
     Nothing,
 }
 
-// The highest raised premium so far, and the lowest cell that has it.
+// The highest raised premium so far, and the first column that has it.
 pub struct Best {
     pub top: usize,
     pub at: usize,

@@ -9,10 +9,8 @@ use mathlib.Core.List.{List, [], _∷_}
 use lib.IntN.{pos, ℤ}
 use lib.ListN.{List·getD-append, drop, getD, length, length-append, length-drop, length-set, set}
 use lib.Seq.{ext-getD, getD-append-add, getD-drop, getD-set-other, getD-set-same, sets}
-use Rattle.game.specs.Area.{begun, fiveNumbers, laid}
-use Rattle.game.specs.Grid.{Grid}
+use Rattle.game.specs.Area.{begun, laid}
 use Rattle.game.specs.Lists.{concat-map, fold, from, range}
-use Rattle.game.specs.Position.{Position}
 
 -- ---- a run that begins with other entries
 
@@ -175,10 +173,6 @@ laid-again five other l k n old h =
     (λ i m a b. laid-at five l n (laid other n old) i m a b)
     (λ m a. laid-past five l n (laid other n old) m a ∙ laid-past other k n old m a)
 
-pub length-fiveNumbers : (g : Grid) (s : Position) (i : ℕ) → length (fiveNumbers g s i) ≡ 5
-unfolding fiveNumbers
-length-fiveNumbers g s i = refl
-
 -- ---- in the middle of a pass over cells that were laid before
 
 module _ (five other : ℕ → List ℤ) (len : (i : ℕ) → length (five i) ≡ 5) (len′ : (i : ℕ) → length (other i) ≡ 5) (n : ℕ) (old : List ℤ)
@@ -186,8 +180,3 @@ module _ (five other : ℕ → List ℤ) (len : (i : ℕ) → length (five i) �
   -- a cell that the pass has not come to is as it was
   pub laid-ahead : (j k : ℕ) → i ≤ j → j < n → k < 5 → getD w (5 * j + k) (pos 0) ≡ getD (other j) k (pos 0)
   laid-ahead j k h a b = l .rest (5 * j + k) (omega arith) ∙ laid-at other len′ n old j k a b
-
-  -- a number that the pass keeps is as it was, everywhere
-  pub laid-kept : (k : ℕ) → k < 5 → ((j : ℕ) → getD (five j) k (pos 0) ≡ getD (other j) k (pos 0)) → (j : ℕ) → j < n → getD w (5 * j + k) (pos 0) ≡ getD (other j) k (pos 0)
-  laid-kept k b e j a =
-      elim (decLe i j) [ yes h ↦ laid-ahead j k h a b | no h ↦ l .done j k (omega arith) b ∙ e j ]

@@ -236,6 +236,3 @@ lineRefusal-kept line =
       | yes h ↦ ap lineRefusal (take-all 517 line h)
       | no h ↦ long-refused (take 517 line) (omega (arith, length-take 517 line)) ∙ sym (long-refused line (omega arith))
     ]
-
-pub both-refused : (line : List ℕ) → 516 < length line → (lineRefusal (take 517 line) ≡ some frame) × (lineRefusal line ≡ some frame)
-both-refused line h = let e = long-refused line h in (lineRefusal-kept line ∙ e, e)

@@ -92,7 +92,7 @@ module _ (g : Grid) (s : Position) (i : ℕ) (is-safe : T (safe g i)) (shut : T 
         ∙ sym (column-low openedOnly w rows c (λ row h t. before-it (c * rows + row) (in-column rows columns g (st .rows-are) (st .columns-are) row c h inside .0) t))
       where
         before-it : (j : ℕ) → j < size g → T (lookedAt openedOnly w j) → numberAt w (5 * j + 2) ≤ 9
-        before-it j h t = none-reaches openedOnly g s w (size g) (held-numbers rows columns g s old w st) refl none j h t
+        before-it j h t = none-reaches openedOnly rows columns g s old w st none j h t
 
         after-it : (j : ℕ) → j < size g → (j ≡ i → ⊥) → T (lookedAt openedOnly w′ j) → numberAt w′ (5 * j + 2) ≤ 9
         after-it j h n t =

@@ -9,7 +9,6 @@ use mathlib.Core.List.{List, [], _∷_}
 use lib.IntN.{ℤ}
 use lib.ListN.{getD, getD-replicate, length, length-replicate, replicate}
 use Rattle.area.specs.Stages.{Stands}
-use Rattle.choices.specs.declared.Best.{Best}
 use Rattle.choices.specs.Tops.{Kept, UnitsKept, columnTop, columnUnits}
 use Rattle.marks.specs.Marks.{Beside, Clicked, Forgotten, MarkedOr, Still}
 use Rattle.game.specs.Grid.{Grid, safe, size, zeroCell}
@@ -62,7 +61,7 @@ module _ (rows columns : ℕ) (g : Grid) (s : Position) (old w w′ : List ℤ) 
       record {
         made = m;
         kept = tops-kept (Still g s i) w w′ rows columns tops tops′ (f .long) (f .marks) openedOnly
-            (λ c b q. ap (λ (x : Best). x .top) (quiet-column g s i inside (movesAt g s i) (moves-at g s i) rows columns old w w′ st (m .stands) openedOnly (record { top = 9; at = 0 }) c b q));
+            (quiet-column g s i inside (movesAt g s i) (moves-at g s i) rows columns old w w′ st (m .stands) openedOnly);
         units-kept = units-still (Still g s i) w w′ rows columns tops tops′ (f .long) (f .marks)
             (quiet-units g s i inside (movesAt g s i) (moves-at g s i) rows columns old w w′ st (m .stands));
       }
@@ -81,8 +80,7 @@ module _ (rows columns : ℕ) (g : Grid) (s : Position) (old w w′ : List ℤ) 
       numbered e z = subst T e z
 
       top : (c : ℕ) → c < columns → Beside g s i c → (z : Bool) → zeroCell g i ≡ z → columnTop openedOnly w′ rows c ≡ columnTop openedOnly w rows c
-      top c b q true e =
-          ap (λ (x : Best). x .top) (quiet-column g s i inside (left i ∷ []) (click-at g i) rows columns old w w′ st (m .stands) openedOnly (record { top = 9; at = 0 }) c b (q .still (subst T (sym e) tt)))
+      top c b q true e = quiet-column g s i inside (left i ∷ []) (click-at g i) rows columns old w w′ st (m .stands) openedOnly c b (q .still (subst T (sym e) tt))
       top c b q false e = click-low g s i is-safe shut (numbered e) rows columns old w w′ st (m .stands) c b (q .other) openedOnly none
 
       units : (c : ℕ) → c < columns → Beside g s i c → (z : Bool) → zeroCell g i ≡ z → columnUnits w′ rows c ≡ columnUnits w rows c

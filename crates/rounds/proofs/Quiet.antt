@@ -11,10 +11,8 @@ use lib.ListN.{getD, set}
 use lib.Seq.{getD-set-other}
 use Rattle.area.specs.Numbers.{numberAt}
 use Rattle.area.specs.Stages.{Stands, raised}
-use Rattle.choices.specs.declared.Best.{Best}
-use Rattle.choices.specs.Picks.{betterAt, columnBest}
 use Rattle.choices.specs.Tests.{unitAt}
-use Rattle.choices.specs.Tops.{columnUnits}
+use Rattle.choices.specs.Tops.{columnTop, columnUnits, topWith}
 use Rattle.marks.specs.Marks.{Far, Still}
 use Rattle.game.specs.Grid.{Grid, columnOf, index, mine, safe, size, square, zeroCell}
 use Rattle.game.specs.Lists.{Each, bit, count, fold, has, keep, range}
@@ -246,24 +244,22 @@ module _ (g : Grid) (s : Position) (i : ℕ) (inside : i < size g) (ms : List Mo
           v′ .states j h ∙ q .2 ∙ sym (v .states j h),
         )
 
-    -- a look at a column there finds what it found
-    pub quiet-column : (openedOnly : Bool) (b : Best) (c : ℕ) → c < columns → Still g s i c
-        → columnBest openedOnly w′ rows b c ≡ columnBest openedOnly w rows b c
-    quiet-column openedOnly b c h still = go (range 0 rows) b (λ row t. has-range 0 rows row t .1)
+    -- a column there has the highest premium that it had
+    pub quiet-column : (openedOnly : Bool) (c : ℕ) → c < columns → Still g s i c → columnTop openedOnly w′ rows c ≡ columnTop openedOnly w rows c
+    quiet-column openedOnly c h still = go (range 0 rows) 9 (λ row t. has-range 0 rows row t .1)
       where
-        one : (d : Best) (row : ℕ) → row < rows → betterAt openedOnly w′ d (c * rows + row) ≡ betterAt openedOnly w d (c * rows + row)
-        one d row k =
-            let j = c * rows + row in
+        one : (top row : ℕ) → row < rows → topWith openedOnly w′ top (c * rows + row) ≡ topWith openedOnly w top (c * rows + row)
+        one top row k =
             let e = in-column rows columns g (st .rows-are) (st .columns-are) row c k h in
-            let q = quiet-numbers j (e .0) (subst (Still g s i) (sym (e .1)) still) in
-            ap₂ (λ (m n : ℕ). cond (ltb (d .top) m && (not openedOnly || eqb n 1)) (record { top = m; at = j }) d) (q .0) (q .1)
+            let q = quiet-numbers (c * rows + row) (e .0) (subst (Still g s i) (sym (e .1)) still) in
+            ap₂ (λ (m n : ℕ). cond (ltb top m && (not openedOnly || eqb n 1)) m top) (q .0) (q .1)
 
-        go : (xs : List ℕ) (d : Best) → ((x : ℕ) → T (has x xs) → x < rows)
-            → fold (λ e row. betterAt openedOnly w′ e (c * rows + row)) d xs ≡ fold (λ e row. betterAt openedOnly w e (c * rows + row)) d xs
-        go [] d f = refl
-        go (x ∷ xs) d f =
-            ap (λ (e : Best). fold (λ e row. betterAt openedOnly w′ e (c * rows + row)) e xs) (one d x (first-of x xs f))
-            ∙ go xs (betterAt openedOnly w d (c * rows + x)) (rest-of x xs f)
+        go : (xs : List ℕ) (top : ℕ) → ((x : ℕ) → T (has x xs) → x < rows)
+            → fold (λ t row. topWith openedOnly w′ t (c * rows + row)) top xs ≡ fold (λ t row. topWith openedOnly w t (c * rows + row)) top xs
+        go [] top f = refl
+        go (x ∷ xs) top f =
+            ap (λ (t : ℕ). fold (λ t row. topWith openedOnly w′ t (c * rows + row)) t xs) (one top x (first-of x xs f))
+            ∙ go xs (topWith openedOnly w top (c * rows + x)) (rest-of x xs f)
 
     -- and has the closed units that it had
     pub quiet-units : (c : ℕ) → c < columns → Still g s i c → columnUnits w′ rows c ≡ columnUnits w rows c

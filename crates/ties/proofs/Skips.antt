@@ -33,7 +33,7 @@ module _ (w : List ℤ) (rows columns : ℕ) (tops : List ℕ) (top column : ℕ
         eqb→eq (numberAt w (5 * here + 2)) top (subst (λ (c : Bool). T (cond c (unitAt w here) (eqb (numberAt w (5 * here + 2)) top))) (le-ltb top 10 chord) u),
         kept .right column inside some,
         ltb→lt (k - 1) top (and-right (not (eqb k 0)) (ltb (k - 1) top) t),
-        column-bound w rows column row h,
+        column-bound false w rows column row h tt,
       )
     where
       here : ℕ

@@ -1,7 +1,7 @@
 -- The highest raised premium alone tells what a random step chooses among. Assumes nothing.
 use Prim.Native.Nat.{ℕ, _*_, _+_}
 use native.Mathlib.Omega.{arith}
-use mathlib.Core.Path.{_∙_, _≡_, ap, refl, sym}
+use mathlib.Core.Path.{_∙_, _≡_, ap, ap₂, refl, sym}
 use mathlib.Core.Logic.{⊎-elim}
 use mathlib.Core.Bool.{Bool, cond, false, true}
 use mathlib.Core.List.{List, [], _∷_}
@@ -9,17 +9,19 @@ use borrow.Author.Tests.{lt-ltb, le-ltb}
 use lib.Dec.{T, eqb, ltb}
 use lib.IntN.{ℤ}
 use Rattle.area.specs.Numbers.{numberAt}
-use Rattle.choices.specs.Picks.{bestOf}
-use Rattle.choices.specs.Tests.{topAt, unitAt}
+use Rattle.area.specs.Stages.{Stands}
+use Rattle.choices.specs.Tests.{unitAt}
+use Rattle.choices.specs.Tops.{firstOf}
 use Rattle.ties.specs.Candidates.{candidateAt, candidatesOf, forClick}
-use Rattle.game.specs.Grid.{Grid, size}
+use Rattle.game.specs.Grid.{Grid}
 use Rattle.game.specs.Lists.{has, keep, range}
 use Rattle.game.specs.Position.{Position}
 use Rattle.game.specs.Rounds.{Choice, choice, chords, clicks, topCells, unitCells}
-use Rattle.marks.proofs.Held.{Holds}
+use Rattle.marks.proofs.Held.{held-numbers}
+use Rattle.choices.proofs.Columns.{Leading, led-all}
 use Rattle.choices.proofs.Held.{units-there}
-use Rattle.choices.proofs.Tops.{Lowest, passed-all, scanned, unmet}
-use Rattle.game.proofs.Members.{has-keep, keep-ext, range-has}
+use Rattle.choices.proofs.Tops.{no-tops, top-there, tops-there}
+use Rattle.game.proofs.Members.{keep-ext}
 
 -- without a premium of 0 or more the choice is for one L
 choice-none : (openedOnly : Bool) (g : Grid) (s : Position) → topCells openedOnly g s ≡ [] → choice openedOnly g s ≡ clicks (unitCells g s)
@@ -34,29 +36,35 @@ choice-some openedOnly g s x t = go (topCells openedOnly g s) t
     go [] u = absurd u
     go (y ∷ ys) u = refl
 
-module _ (g : Grid) (s : Position) (w : List ℤ) (n : ℕ) (r : Holds g s w) (e : size g ≡ n) where
-  pub top-tells : (ltb (bestOf false w n .top) 10 ≡ forClick (choice false g s)) × (keep (candidateAt (bestOf false w n .top) w) (range 0 n) ≡ candidatesOf (choice false g s))
-  top-tells = ⊎-elim (λ u. click (u .0)) chord (passed-all false w n .which)
-    where
-      m : ℕ
-      m = bestOf false w n .top
+module _ (rows columns : ℕ) (g : Grid) (s : Position) (old w : List ℤ) (st : Stands rows columns g s old w) where
+  abbrev top : ℕ
+  top = firstOf false w rows columns columns .top
 
-      test : (b : Bool) → ltb m 10 ≡ b → keep (candidateAt m w) (range 0 n) ≡ keep (λ i. cond b (unitAt w i) (eqb (numberAt w (5 * i + 2)) m)) (range 0 n)
-      test b q =
-          keep-ext (candidateAt m w) (λ i. cond b (unitAt w i) (eqb (numberAt w (5 * i + 2)) m)) (range 0 n)
-          (λ i t. ap (λ (c : Bool). cond c (unitAt w i) (eqb (numberAt w (5 * i + 2)) m)) q)
+  -- what it tells
+  abbrev Told : ℕ → Type 0
+  Told m = (ltb m 10 ≡ forClick (choice false g s)) × (keep (candidateAt m w) (range 0 (rows * columns)) ≡ candidatesOf (choice false g s))
 
-      click : m ≡ 9 → (ltb m 10 ≡ forClick (choice false g s)) × (keep (candidateAt m w) (range 0 n) ≡ candidatesOf (choice false g s))
-      click q =
-          let c = choice-none false g s (unmet false g s w n r e q) in
-          let l = lt-ltb m 10 (omega arith) in (
-            l ∙ sym (ap forClick c),
-            test true l ∙ ap (λ (k : ℕ). keep (unitAt w) (range 0 k)) (sym e) ∙ sym (units-there g s w r) ∙ sym (ap candidatesOf c),
-          )
+  test : (b : Bool) → ltb top 10 ≡ b
+      → keep (candidateAt top w) (range 0 (rows * columns)) ≡ keep (λ i. cond b (unitAt w i) (eqb (numberAt w (5 * i + 2)) top)) (range 0 (rows * columns))
+  test b q =
+      keep-ext (candidateAt top w) (λ i. cond b (unitAt w i) (eqb (numberAt w (5 * i + 2)) top)) (range 0 (rows * columns))
+      (λ i t. ap (λ (c : Bool). cond c (unitAt w i) (eqb (numberAt w (5 * i + 2)) top)) q)
 
-      chord : Lowest false w n (bestOf false w n) → (ltb m 10 ≡ forClick (choice false g s)) × (keep (candidateAt m w) (range 0 n) ≡ candidatesOf (choice false g s))
-      chord k =
-          let at = bestOf false w n .at in
-          let c = choice-some false g s at (rw (scanned false g s w n r e k) (has-keep (topAt false m w) at (range 0 n) (range-has 0 n at (omega arith) (k .inside)) (k .has-it))) in
-          let l = le-ltb m 10 (k .reaches) in
-          (l ∙ sym (ap forClick c), test false l ∙ sym (scanned false g s w n r e k) ∙ sym (ap candidatesOf c))
+  click : top ≡ 9 → Told top
+  click q =
+      let c = choice-none false g s (no-tops false rows columns g s old w st q) in
+      let l = lt-ltb top 10 (omega arith) in (
+        l ∙ sym (ap forClick c),
+        test true l ∙ ap (λ (k : ℕ). keep (unitAt w) (range 0 k)) (sym (ap₂ _*_ (st .rows-are) (st .columns-are)))
+            ∙ sym (units-there g s w (held-numbers rows columns g s old w st)) ∙ sym (ap candidatesOf c),
+      )
+
+  chord : Leading false w rows columns (firstOf false w rows columns columns) → Told top
+  chord l =
+      let t = top-there false rows columns g s old w st l in
+      let c = choice-some false g s (t .0) (t .1) in
+      let b = le-ltb top 10 (l .reaches) in
+      (b ∙ sym (ap forClick c), test false b ∙ sym (tops-there false rows columns g s old w st l) ∙ sym (ap candidatesOf c))
+
+  pub top-tells : Told top
+  top-tells = ⊎-elim (λ u. click (u .0)) chord (led-all false w rows columns .which)

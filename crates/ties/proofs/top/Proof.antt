@@ -1,15 +1,13 @@
 -- `ties::top`: the highest premium of all columns tells what a random step chooses among. Assumes nothing.
 use borrow.Author.Needs.{needs}
 use Prim.Native.Nat.{ℕ, _*_}
-use mathlib.Core.Path.{_∙_, _≡_, ap, ap₂, subst, sym}
+use mathlib.Core.Path.{_≡_, ap, subst, sym}
 use mathlib.Core.Bool.{false}
 use lib.Dec.{ltb}
 use Rattle.game.specs.Lists.{keep, range}
 use Rattle.game.specs.Rounds.{choice}
 use Rattle.choices.specs.declared.Best.{Best}
 use Rattle.ties.specs.Candidates.{candidateAt, candidatesOf, forClick}
-use Rattle.choices.proofs.Columns.{led-all}
-use Rattle.marks.proofs.Held.{held-numbers}
 use Rattle.ties.proofs.Units.{units-marked}
 use Rattle.ties.proofs.Telling.{top-tells}
 use Rattle.ties.proofs.top.Statement.{statement}
@@ -38,8 +36,7 @@ returns c =
         (u .0, units-marked (a .work .now) (a .rows) (a .columns) (a .tops .now) (a .units .now) _ (b .pre .1 .2) (u .0) (u .1)),
         λ g s old t.
             subst (λ (m : ℕ). (ltb m 10 ≡ forClick (choice false g s)) × (keep (candidateAt m (a .work .now)) (range 0 (a .rows * a .columns)) ≡ candidatesOf (choice false g s)))
-            (led-all false (a .work .now) (a .rows) (a .columns) .same ∙ ap (λ (b : Best). b .top) (sym (f .first-column .ensures .0)))
-            (top-tells g s (a .work .now) (a .rows * a .columns) (held-numbers (a .rows) (a .columns) g s old (a .work .now) t) (ap₂ _*_ (t .rows-are) (t .columns-are))),
+            (ap (λ (b : Best). b .top) (sym (f .first-column .ensures .0))) (top-tells (a .rows) (a .columns) g s old (a .work .now) t),
       ),
     )
 

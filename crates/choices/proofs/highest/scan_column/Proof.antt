@@ -1,20 +1,19 @@
--- `choices::highest::scan_column`: the best of the column's cells passed. Assumes nothing.
+-- `choices::highest::scan_column`: the highest premium of the cells passed. Assumes nothing.
 use Prim.Native.Nat.{ℕ, _*_, _+_, _-_, _≤_}
 use native.Mathlib.Omega.{arith}
 use mathlib.Core.Path.{_∙_, _≡_, ap, refl, sym}
 use Rattle.game.specs.Lists.{fold, range}
 use Rattle.game.proofs.Members.{fold-more}
-use Rattle.choices.specs.Picks.{betterAt}
-use Rattle.choices.specs.declared.Best.{Best}
+use Rattle.choices.specs.Tops.{topWith}
 use Rattle.choices.proofs.highest.scan_column.Statement.{statement}
 use Rattle.choices.proofs.highest.scan_column.Tie as tie
 
 abbrev Inv-loop : tie.InvT-loop
-Inv-loop work rows columns column opened-only found₀ row₀ found row =
-    (row ≤ rows) × (found ≡ fold (λ d r. betterAt opened-only work d (column * rows + r)) found₀ (range 0 row))
+Inv-loop work rows columns column opened-only top₀ row₀ top row =
+    (row ≤ rows) × (top ≡ fold (λ t r. topWith opened-only work t (column * rows + r)) 9 (range 0 row))
 
 abbrev μ-loop : tie.MeasureT-loop
-μ-loop work rows columns column opened-only found₀ row₀ found row = rows - row
+μ-loop work rows columns column opened-only top₀ row₀ top row = rows - row
 
 loop-holds : tie.Need-loop-holds Inv-loop μ-loop
 loop-holds c = (omega arith, refl)
@@ -35,10 +34,10 @@ loop-again : tie.Need-loop-again Inv-loop μ-loop
 loop-again c =
     let l = c .before .before .before .loop in
     let a = c .before .before .before .before .args in
-    let f : Best → ℕ → Best = λ d r. betterAt (a .opened-only) (a .work .now) d (a .column * a .rows + r) in (
+    let f : ℕ → ℕ → ℕ = λ t r. topWith (a .opened-only) (a .work .now) t (a .column * a .rows + r) in (
       omega arith,
-      c .better .ensures ∙ ap (betterAt (a .opened-only) (a .work .now) (l .found)) (c .before .cell .ensures .0) ∙ ap (λ (b : Best). f b (l .row)) (l .inv .1)
-          ∙ sym (fold-more f (a .best) 0 (l .row) (omega arith)),
+      c .better .ensures ∙ ap (topWith (a .opened-only) (a .work .now) (l .top)) (c .before .cell .ensures .0) ∙ ap (λ (t : ℕ). f t (l .row)) (l .inv .1)
+          ∙ sym (fold-more f 9 0 (l .row) (omega arith)),
     )
 
 returns : tie.Need-returns Inv-loop μ-loop
@@ -46,7 +45,7 @@ returns c =
     let l = c .before .loop in
     let a = c .before .before .args in
     let e : l .row ≡ a .rows = omega arith in
-    l .inv .1 ∙ ap (λ (k : ℕ). fold (λ d r. betterAt (a .opened-only) (a .work .now) d (a .column * a .rows + r)) (a .best) (range 0 k)) e
+    l .inv .1 ∙ ap (λ (k : ℕ). fold (λ t r. topWith (a .opened-only) (a .work .now) t (a .column * a .rows + r)) 9 (range 0 k)) e
 
 pub scan-column-spec : {M : Type 1} → statement M
 scan-column-spec =

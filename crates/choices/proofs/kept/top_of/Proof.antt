@@ -1,9 +1,8 @@
 -- `choices::kept::top_of`: what is kept is right, and what is looked at again is kept. Assumes nothing.
 use native.Mathlib.Omega.{arith}
-use mathlib.Core.Path.{ap, refl}
+use mathlib.Core.Path.{refl}
 use lib.ListN.{length-set}
 use borrow.Author.Needs.{needs}
-use Rattle.choices.specs.declared.Best.{Best}
 use Rattle.choices.proofs.Bytes.{kept-again}
 use Rattle.choices.proofs.kept.top_of.Statement.{statement}
 use Rattle.choices.proofs.kept.top_of.Tie as tie
@@ -40,7 +39,7 @@ returns-2 : tie.Need-returns-2
 returns-2 c =
     let s = c .before .before .before .before .before .before in
     let a = s .args in
-    let t = ap (λ (b : Best). b .top) (c .before .scan-column .ensures) in (
+    let t = c .before .scan-column .ensures in (
       t,
       (length-set (a .tops .now) (a .column) (c .kept-of .result), rw (c .kept-of .ensures, t) (kept-again (a .opened-only) (a .work .now) (a .rows) (a .columns) (a .tops .now) (a .column) (s .pre .1 .2))),
     )
