@@ -9,9 +9,9 @@ use lib.Dec.{eqb, ltb}
 use lib.ListN.{getD, length, length-take, set, take}
 use lib.Seq.{length-take-le, take-all, take-suc}
 use borrow.Author.Tests.{le-ltb, lt-ltb, ne-eqb}
-use Rattle.reader.specs.Blocks.{Cut, Desk, Keeps, Told, blockRead, byteRead, cutFrom}
-use Rattle.reader.specs.Answers.{Room}
-use Rattle.reader.proofs.Desks.{block-answers}
+use Rattle.reader.specs.Blocks.{Cut, Desk, cutFrom}
+use Rattle.reader.specs.Bytes.{Room, blockRead, byteRead}
+use Rattle.reader.proofs.Desks.{Keeps, Told, block-answers}
 
 -- a byte read, by its two tests
 abbrev by : Desk → ℕ → Bool → Bool → Desk
@@ -60,7 +60,7 @@ ended-few begun (b ∷ bs) = go (eqb b 10) (ended-few [] bs) (ended-few (begun +
     go false p q = omega arith
 
 -- what is kept is the line that it begins
-own-line : (held : List ℕ) (count : ℕ) → 517 ≤ length held → count ≤ 517 → Keeps (take count held) held count
+pub own-line : (held : List ℕ) (count : ℕ) → 517 ≤ length held → count ≤ 517 → Keeps (take count held) held count
 own-line held count h c =
     let long : length (take count held) ≡ count = length-take-le count held (omega arith) in
     let whole : take 517 (take count held) ≡ take count held = take-all 517 (take count held) (omega arith) in

@@ -1,22 +1,24 @@
--- What the calls wrote is what is to be printed: a call that is not refused leaves the desk that its block comes to. Assumes nothing.
+-- What the calls wrote is what is to be printed, wherever the input is cut into blocks: each block tells of its own bytes, and cuts join. Assumes nothing.
 use Prim.Native.Nat.{ℕ, _*_, _≤_}
 use native.Mathlib.Omega.{arith}
-use native.Mathlib.Decide.{decLe}
 use mathlib.Core.Path.{_≡_, refl, ap, subst, sym, _∙_}
-use mathlib.Core.List.{List, [], _∷_, _++_}
+use mathlib.Core.List.{List, [], _∷_, _++_, append-assoc}
 use mathlib.Core.Option.{Option, none, some}
-use lib.Dec.{eqb}
-use lib.ListN.{getD, length, length-take, take}
+use lib.ListN.{drop, getD, length, length-take, take}
+use lib.Seq.{take-at}
 use Rattle.game.specs.Lists.{concat-map}
 use Rattle.game.specs.Calls.{Answer, Refusal, gives}
-use Rattle.checks.proofs.Verdict.{none≢some}
+use Rattle.game.proofs.Members.{concat-map-append}
 use Rattle.reader.specs.Prices.{answerLine}
-use Rattle.reader.specs.Blocks.{Desk, Fits, Keeps, Told, blockCall, blockRead, cutFrom, deskOf, endCall, endRead, joined, lastLine, printed, saidAt, unlessDesk}
-use Rattle.reader.specs.Answers.{KeptDesk, Room}
-use Rattle.reader.specs.Runs.{Runs, ends, goes}
-use Rattle.reader.proofs.Desks.{block-answers}
-use Rattle.reader.proofs.Sessions.{allLines, blocks-join, end-prints}
-use Rattle.reader.proofs.Verdict.{fine, given, many-kept, short-held, short-out}
+use Rattle.reader.specs.Blocks.{Cut, Desk, blockCall, cutFrom, deskAfter, endCall, lastLine, printed, unlessDesk}
+use Rattle.reader.specs.Bytes.{deskOf}
+use Rattle.reader.specs.Answers.{KeptDesk}
+use Rattle.reader.specs.Runs.{Runs, ends, goes, joined}
+use Rattle.reader.proofs.After.{block-desk}
+use Rattle.reader.proofs.Cuts.{cut-joins}
+use Rattle.reader.proofs.Desks.{Keeps, Told, block-answers, saidAt}
+use Rattle.reader.proofs.Kept.{answer-kept}
+use Rattle.reader.proofs.Verdict.{fine, given, room-given}
 
 -- ---- a call that is not refused
 
@@ -33,46 +35,57 @@ not-refused none held out d held′ out′ kept written k =
     let same-written : written ≡ d .written = ap (λ (a : Answer). getD (a .values) 1 0) (k .answers) in
     (refl, λ i. left (k .keeps i) (same-kept i) (k .prints i) (same-written i))
 
--- the checks passed
-room-given : (held : List ℕ) (count : ℕ) (out : List ℕ) (n : ℕ) → given held count out n ≡ none → Room (deskOf held count out) n
-room-given held count out n e =
-    elim (decLe 517 (length held)) [
-      | no h ↦ absurd (none≢some (short-held held count out n (omega arith) ∙ e))
-      | yes held-room ↦ elim (decLe count 517) [
-        | no h ↦ absurd (none≢some (many-kept held count out n held-room (omega arith) ∙ e))
-        | yes few ↦ elim (decLe (15 * n) (length out)) [
-          | no h ↦ absurd (none≢some (short-out held count out n held-room few (omega arith) ∙ e))
-          | yes out-room ↦ record { held-room = held-room; few = few; out-room = omega arith }
-        ]
-      ]
-    ]
-
 -- the lines that ended in the block are what answer_block wrote, and what it kept goes on
 pub block-told : (block begun held out held′ out′ : List ℕ) (count kept written : ℕ) → Keeps begun held count → KeptDesk (blockCall block held count out) (gives (kept ∷ written ∷ [])) held′ out′
     → Told (cutFrom begun block) (deskOf held count out) (left held′ kept out′ written)
 unfolding blockCall
 block-told block begun held out held′ out′ count kept written k p =
-    let q = not-refused (given held count out (length block)) held out (blockRead (deskOf held count out) block) held′ out′ kept written p in
+    let q = not-refused (given held count out (length block)) held out (deskAfter (cutFrom (take count held) block) held out) held′ out′ kept written p in
     let r = room-given held count out (length block) (q .0) in
-    subst (λ (d : Desk). Told (cutFrom begun block) (deskOf held count out) d) (sym (q .1)) (block-answers block begun (deskOf held count out) k (r .held-room) (r .out-room))
+    subst (λ (d : Desk). Told (cutFrom begun block) (deskOf held count out) d) (block-desk block held count out r ∙ sym (q .1))
+    (block-answers block begun (deskOf held count out) k (r .held-room) (r .out-room))
+
+-- what is kept of the last line has its answer
+last-alike : (begun line : List ℕ) → line ≡ take 517 begun → concat-map answerLine (lastLine line) ≡ concat-map answerLine (lastLine begun)
+last-alike [] line e = ap (λ (l : List ℕ). concat-map answerLine (lastLine l)) e
+last-alike (b ∷ bs) line e = ap (λ (l : List ℕ). concat-map answerLine (lastLine l)) e ∙ ap (λ (l : List ℕ). l ++ []) (answer-kept (b ∷ bs))
 
 -- the line that goes on is what answer_end wrote
 pub end-told : (begun held out held′ out′ : List ℕ) (count kept written : ℕ) → Keeps begun held count → KeptDesk (endCall held count out) (gives (kept ∷ written ∷ [])) held′ out′
     → take written out′ ≡ concat-map answerLine (lastLine begun)
 unfolding endCall
 end-told begun held out held′ out′ count kept written k p =
-    let q = not-refused (given held count out 1) held out (endRead (deskOf held count out)) held′ out′ kept written p in
-    let r = room-given held count out 1 (q .0) in
-    ap saidAt (q .1) ∙ end-prints begun held count out k (r .held-room) (omega (arith, r .out-room)) (eqb count 0) refl
+    let q = not-refused (given held count out 1) held out (deskAfter (record { ended = lastLine (take count held); goes-on = [] }) held out) held′ out′ kept written p in
+    let said = concat-map answerLine (lastLine (take count held)) in
+    ap saidAt (q .1) ∙ take-at said (drop (length said) out) (length said) refl ∙ last-alike begun (take count held) (k .kept)
+
+-- room for as many answers as a block has bytes
+abbrev pub Fits : List ℕ → List ℕ → Type 0
+Fits out block = 15 * length block ≤ length out
 
 -- a reader that keeps what it was handed, with room for its block, is not refused
 pub never-refused : (block begun held out : List ℕ) (count : ℕ) → Keeps begun held count → 517 ≤ length held → Fits out block → blockCall block held count out .answer .number ≡ 0
 unfolding blockCall
 never-refused block begun held out count k h f =
-    ap (λ (o : Option Refusal). unlessDesk o held out (blockRead (deskOf held count out) block) .answer .number)
+    ap (λ (o : Option Refusal). unlessDesk o held out (deskAfter (cutFrom (take count held) block) held out) .answer .number)
     (sym (fine held count out (length block) h (omega (arith, k .counted, length-take 517 begun)) f))
 
 -- ---- all the calls
+
+-- the lines of a cut that nothing follows
+abbrev pub allLines : Cut → List (List ℕ)
+allLines c = c .ended ++ lastLine (c .goes-on)
+
+-- a block's answers, and those of the blocks after it
+pub blocks-join : (b : List ℕ) (bs : List (List ℕ)) (begun later : List ℕ) → later ≡ concat-map answerLine (allLines (cutFrom (cutFrom begun b .goes-on) (joined bs)))
+    → concat-map answerLine (cutFrom begun b .ended) ++ later ≡ concat-map answerLine (allLines (cutFrom begun (joined (b ∷ bs))))
+blocks-join b bs begun later e =
+    let c = cutFrom begun b in
+    let c′ = cutFrom (c .goes-on) (joined bs) in
+    ap (λ (l : List ℕ). concat-map answerLine (c .ended) ++ l) e
+    ∙ sym (concat-map-append answerLine (c .ended) (allLines c′))
+    ∙ ap (concat-map answerLine) (sym (append-assoc (c .ended) (c′ .ended) (lastLine (c′ .goes-on))))
+    ∙ ap (λ (x : Cut). concat-map answerLine (allLines x)) (sym (cut-joins begun b (joined bs)))
 
 runs-from : {blocks : List (List ℕ)} {held said : List ℕ} {count : ℕ} (begun : List ℕ) → Keeps begun held count → Runs blocks held count said → said ≡ concat-map answerLine (allLines (cutFrom begun (joined blocks)))
 runs-from begun k (ends held out held′ out′ count kept written p) = end-told begun held out held′ out′ count kept written k p
@@ -84,3 +97,7 @@ runs-from begun k (goes block blocks held out held′ out′ later count kept wr
 pub calls-print : (blocks : List (List ℕ)) (held said : List ℕ) → Runs blocks held 0 said → said ≡ printed (joined blocks)
 unfolding printed
 calls-print blocks held said r = runs-from [] (record { kept = refl; counted = refl }) r
+
+-- two ways of cutting one input print the same
+pub cuts-print-alike : (blocks blocks′ : List (List ℕ)) (held held′ said said′ : List ℕ) → Runs blocks held 0 said → Runs blocks′ held′ 0 said′ → joined blocks ≡ joined blocks′ → said ≡ said′
+cuts-print-alike blocks blocks′ held held′ said said′ r r′ e = calls-print blocks held said r ∙ ap printed e ∙ sym (calls-print blocks′ held′ said′ r′)

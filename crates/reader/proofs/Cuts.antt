@@ -4,7 +4,11 @@ use mathlib.Core.Path.{_≡_, refl, ap}
 use mathlib.Core.Bool.{Bool, true, false}
 use mathlib.Core.List.{List, [], _∷_, _++_}
 use lib.Dec.{eqb}
-use Rattle.reader.specs.Blocks.{Cut, cutFrom, readOn}
+use Rattle.reader.specs.Blocks.{Cut, cutFrom}
+
+-- bytes read on where a cut ended
+abbrev pub readOn : Cut → List ℕ → Cut
+readOn c bs = record { ended = c .ended ++ cutFrom (c .goes-on) bs .ended; goes-on = cutFrom (c .goes-on) bs .goes-on }
 
 pub cut-joins : (begun xs ys : List ℕ) → cutFrom begun (xs ++ ys) ≡ readOn (cutFrom begun xs) ys
 cut-joins begun [] ys = refl

@@ -13,8 +13,29 @@ use Rattle.game.specs.Lists.{concat-map}
 use Rattle.hex.specs.Hex.{putDigits}
 use Rattle.lines.proofs.Priced.{put-there}
 use Rattle.reader.specs.Prices.{answerLine}
-use Rattle.reader.specs.Blocks.{Cut, Desk, Keeps, Told, blockRead, cutFrom, saidAt}
+use Rattle.reader.specs.Blocks.{Cut, Desk, cutFrom}
+use Rattle.reader.specs.Bytes.{blockRead}
 use Rattle.reader.proofs.Kept.{answer-kept, answer-long}
+
+-- ---- the words of the theorems
+
+-- what is kept is the line that goes on, as far as 517 bytes
+pub record Keeps (goes-on held : List ℕ) (count : ℕ) : Type 0 where
+  pub kept : take count held ≡ take 517 goes-on
+  pub counted : count ≡ length (take 517 goes-on)
+
+-- what is printed from a desk
+abbrev pub saidAt : Desk → List ℕ
+saidAt d = take (d .written) (d .out)
+
+-- what bytes have come to at a desk: the lines that ended are answered, the line that goes on is kept, and what is past the answers stands
+pub record Told (cut : Cut) (before after : Desk) : Type 0 where
+  pub keeps : Keeps (cut .goes-on) (after .held) (after .count)
+  pub says : saidAt after ≡ saidAt before ++ concat-map answerLine (cut .ended)
+  pub held-whole : length (after .held) ≡ length (before .held)
+  pub out-whole : length (after .out) ≡ length (before .out)
+  pub fifteen-each : after .written ≡ before .written + 15 * length (cut .ended)
+  pub stands : drop (after .written) (after .out) ≡ drop (after .written) (before .out)
 
 -- ---- what is put in its place
 
@@ -44,7 +65,7 @@ module _ (at : ℕ) (ds old : List ℕ) (room : at + length ds ≤ length old) w
       )
 
 -- what stands past a place stands past a later one
-past-later : (m n : ℕ) (xs ys : List ℕ) → m ≤ n → drop m xs ≡ drop m ys → drop n xs ≡ drop n ys
+pub past-later : (m n : ℕ) (xs ys : List ℕ) → m ≤ n → drop m xs ≡ drop m ys → drop n xs ≡ drop n ys
 past-later m n xs ys h e = part xs ∙ ap (drop (n - m)) e ∙ sym (part ys)
   where
     part : (l : List ℕ) → drop n l ≡ drop (n - m) (drop m l)
@@ -53,7 +74,7 @@ past-later m n xs ys h e = part xs ∙ ap (drop (n - m)) e ∙ sym (part ys)
 -- ---- one byte
 
 -- a line feed read
-abbrev fed : Desk → Desk
+abbrev pub fed : Desk → Desk
 fed d = record { held = d .held; count = 0; out = putDigits (d .written) (answerLine (take (d .count) (d .held))) (d .out); written = d .written + 15 }
 
 -- the answer to what is kept is the line's answer
@@ -61,7 +82,7 @@ kept-answer : (begun held : List ℕ) (count : ℕ) → Keeps begun held count �
 kept-answer begun held count k = ap answerLine (k .kept) ∙ answer-kept begun
 
 -- after a line feed the next line begins
-next-line : (held : List ℕ) → Keeps [] held 0
+pub next-line : (held : List ℕ) → Keeps [] held 0
 next-line held = record { kept = refl; counted = refl }
 
 -- a line's answer, and then what is told from there on
@@ -98,7 +119,7 @@ after-byte d d′ e cut o w l t =
     }
 
 -- a byte kept
-more-kept : (begun held : List ℕ) (count b : ℕ) → Keeps begun held count → 517 ≤ length held → count < 517 → Keeps (begun ++ b ∷ []) (set held count b) (suc count)
+pub more-kept : (begun held : List ℕ) (count b : ℕ) → Keeps begun held count → 517 ≤ length held → count < 517 → Keeps (begun ++ b ∷ []) (set held count b) (suc count)
 more-kept begun held count b k h c =
     let few : length begun < 517 = omega (arith, k .counted, length-take 517 begun) in
     let whole : take 517 begun ≡ begun = take-all 517 begun (omega arith) in
@@ -110,7 +131,7 @@ more-kept begun held count b k h c =
     }
 
 -- 517 bytes are kept already
-no-more-kept : (begun held : List ℕ) (count b : ℕ) → Keeps begun held count → 517 ≤ count → Keeps (begun ++ b ∷ []) held count
+pub no-more-kept : (begun held : List ℕ) (count b : ℕ) → Keeps begun held count → 517 ≤ count → Keeps (begun ++ b ∷ []) held count
 no-more-kept begun held count b k c =
     let many : 517 ≤ length begun = omega (arith, k .counted, length-take 517 begun) in
     let same : take 517 (begun ++ b ∷ []) ≡ take 517 begun = take-append-le 517 begun (b ∷ []) many in

@@ -1,8 +1,8 @@
 pub mod Cuts
 pub mod Kept
 pub mod Desks
-pub mod Sessions
 pub mod Bytes
+pub mod After
 pub mod Verdict
 pub mod Case
 pub mod Figures

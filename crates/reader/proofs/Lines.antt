@@ -9,8 +9,8 @@ use Rattle.lines.specs.PriceLine.{Price, priceDigits}
 use Rattle.hex.proofs.Bytes.{sets-more}
 use Rattle.lines.proofs.Priced.{length-price, put-there}
 use Rattle.reader.specs.Prices.{answerLine, priceOf}
-use Rattle.reader.specs.Blocks.{Desk, byteRead}
-use Rattle.reader.specs.Answers.{Room}
+use Rattle.reader.specs.Blocks.{Desk}
+use Rattle.reader.specs.Bytes.{Room, byteRead}
 
 pub feed-put : (at : ℕ) (line old : List ℕ) (p : Price) → at + 15 ≤ length old → p ≡ priceOf line → set (putDigits at (priceDigits p) old) (at + 14) 10 ≡ putDigits at (answerLine line) old
 unfolding answerLine

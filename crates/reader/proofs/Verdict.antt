@@ -1,17 +1,21 @@
--- A block's checks by the tests of the code, and the promise that is kept: refused as they say, else the desk that was read. Assumes nothing.
+-- A block's checks by the tests of the code, and the promise that is kept: refused as they say, else what its lines come to. Assumes nothing.
 use Prim.Native.Nat.{ℕ, _/_, _*_, _<_, _≤_}
 use native.Mathlib.Omega.{arith}
+use native.Mathlib.Decide.{decLe}
 use native.Mathlib.Nat.{div-lt-iff-lt-mul, le-div-iff-mul-le}
 use mathlib.Core.Path.{_≡_, refl, ap, sym, _∙_}
 use mathlib.Core.Bool.{Bool, _||_, false, true}
 use mathlib.Core.List.{List, [], _∷_}
 use mathlib.Core.Option.{Option, none, some}
 use lib.Dec.{ltb}
-use lib.ListN.{length}
-use borrow.Author.Tests.{eq-eqb, le-ltb, lt-ltb, ne-eqb}
+use lib.ListN.{length, take}
+use borrow.Author.Tests.{le-ltb, lt-ltb}
 use Rattle.game.specs.Calls.{Refusal, firstGiven, gives, refuses, trace, work}
-use Rattle.reader.specs.Blocks.{Desk, blockCall, blockRead, byteRead, deskOf, endCall, endRead, heldCheck, outCheck, unlessDesk}
+use Rattle.checks.proofs.Verdict.{none≢some}
+use Rattle.reader.specs.Blocks.{Desk, blockCall, cutFrom, deskAfter, endCall, heldCheck, lastLine, outCheck, unlessDesk}
+use Rattle.reader.specs.Bytes.{Room, blockRead, byteRead, deskOf}
 use Rattle.reader.specs.Answers.{KeptDesk}
+use Rattle.reader.proofs.After.{block-desk, end-desk, end-none}
 
 -- ---- the refusal that is given
 
@@ -48,6 +52,20 @@ short-by m n h = omega (arith, div-lt-iff-lt-mul {k = 15} {x = m} {y = n} (omega
 pub room-by : (m n : ℕ) → n ≤ m / 15 → 15 * n ≤ m
 room-by m n h = omega (arith, le-div-iff-mul-le {k = 15} {x = n} {y = m} (omega arith) .0 h)
 
+-- the checks passed
+pub room-given : (held : List ℕ) (count : ℕ) (out : List ℕ) (n : ℕ) → given held count out n ≡ none → Room (deskOf held count out) n
+room-given held count out n e =
+    elim (decLe 517 (length held)) [
+      | no h ↦ absurd (none≢some (short-held held count out n (omega arith) ∙ e))
+      | yes held-room ↦ elim (decLe count 517) [
+        | no h ↦ absurd (none≢some (many-kept held count out n held-room (omega arith) ∙ e))
+        | yes few ↦ elim (decLe (15 * n) (length out)) [
+          | no h ↦ absurd (none≢some (short-out held count out n held-room few (omega arith) ∙ e))
+          | yes out-room ↦ record { held-room = held-room; few = few; out-room = omega arith }
+        ]
+      ]
+    ]
+
 -- ---- the promise is kept
 
 desk-refused : (o : Option Refusal) (f : Refusal) (held out : List ℕ) (d : Desk) → some f ≡ o → KeptDesk (unlessDesk o held out d) (refuses f) held out
@@ -69,32 +87,34 @@ desk-else o held out d d′ e q =
 
 pub block-refused : (block held : List ℕ) (count : ℕ) (out : List ℕ) (f : Refusal) → some f ≡ given held count out (length block) → KeptDesk (blockCall block held count out) (refuses f) held out
 unfolding blockCall
-block-refused block held count out f e = desk-refused (given held count out (length block)) f held out (blockRead (deskOf held count out) block) e
+block-refused block held count out f e = desk-refused (given held count out (length block)) f held out (deskAfter (cutFrom (take count held) block) held out) e
 
 pub block-kept : (block held : List ℕ) (count : ℕ) (out : List ℕ) (d : Desk) → none ≡ given held count out (length block) → d ≡ blockRead (deskOf held count out) block
     → KeptDesk (blockCall block held count out) (gives (d .count ∷ d .written ∷ [])) (d .held) (d .out)
 unfolding blockCall
-block-kept block held count out d e q = desk-else (given held count out (length block)) held out (blockRead (deskOf held count out) block) d e q
+block-kept block held count out d e q =
+    desk-else (given held count out (length block)) held out (deskAfter (cutFrom (take count held) block) held out) d e
+    (q ∙ block-desk block held count out (room-given held count out (length block) (sym e)))
 
 -- ---- the end of input
 
--- the end read, by whether anything is kept
-abbrev atEnd : Desk → Bool → Desk
-atEnd d t = elim t [ true ↦ d | false ↦ byteRead d 10 ]
-
 module _ (held : List ℕ) (count : ℕ) (out : List ℕ) where
+  -- the desk with its last line answered
+  abbrev ended : Desk
+  ended = deskAfter (record { ended = lastLine (take count held); goes-on = [] }) held out
+
   pub end-refused : (f : Refusal) → some f ≡ given held count out 1 → KeptDesk (endCall held count out) (refuses f) held out
   unfolding endCall
-  end-refused f e = desk-refused (given held count out 1) f held out (endRead (deskOf held count out)) e
+  end-refused f e = desk-refused (given held count out 1) f held out ended e
 
   pub end-empty : none ≡ given held count out 1 → count ≡ 0 → KeptDesk (endCall held count out) (gives (0 ∷ 0 ∷ [])) held out
   unfolding endCall
   end-empty e z =
-      desk-else (given held count out 1) held out (endRead (deskOf held count out)) (deskOf held 0 out) e
-      (ap (λ (n : ℕ). deskOf held n out) (sym z) ∙ ap (atEnd (deskOf held count out)) (sym (eq-eqb count 0 z)))
+      desk-else (given held count out 1) held out ended (deskOf held 0 out) e
+      (end-none held out ∙ ap (λ (n : ℕ). deskAfter (record { ended = lastLine (take n held); goes-on = [] }) held out) (sym z))
 
   pub end-answered : (d : Desk) → none ≡ given held count out 1 → (count ≡ 0 → ⊥) → d ≡ byteRead (deskOf held count out) 10
       → KeptDesk (endCall held count out) (gives (d .count ∷ d .written ∷ [])) (d .held) (d .out)
   unfolding endCall
   end-answered d e some-kept q =
-      desk-else (given held count out 1) held out (endRead (deskOf held count out)) d e (q ∙ ap (atEnd (deskOf held count out)) (sym (ne-eqb count 0 some-kept)))
+      desk-else (given held count out 1) held out ended d e (q ∙ end-desk held count out (room-given held count out 1 (sym e)) some-kept)

@@ -1,16 +1,14 @@
 -- Each answer of the board reader's calls in document 01's numbers and values. Assumes nothing.
-use Prim.Native.Nat.{ℕ, _+_, _*_, _≤_}
+use Prim.Native.Nat.{ℕ}
 use mathlib.Core.Path.{_≡_}
 use mathlib.Core.List.{List, [], _∷_}
-use lib.ListN.{length}
 use Rattle.game.specs.Calls.{Answer, gives, refuses, trace, work}
 use Rattle.game.specs.Calls as Game
-use Rattle.reader.specs.Blocks.{Desk, DeskOutcome}
+use Rattle.reader.specs.Blocks.{DeskOutcome}
 use Rattle.reader.specs.declared.Refusal.{Refusal}
 use Rattle.reader.specs.declared.Refusal.the-variants.{Trace, Work}
 use Rattle.reader.specs.declared.Answered.{Answered}
 use Rattle.reader.specs.declared.Answered.the-variants.{Kept, Refused}
-use Rattle.reader.specs.declared.block.Place.{Place}
 
 -- the refusal of that name
 abbrev pub named : Refusal → Game.Refusal
@@ -27,13 +25,3 @@ pub record KeptDesk (promise : DeskOutcome) (answer : Answer) (held out : List �
   pub answers : answer ≡ promise .answer
   pub keeps : held ≡ promise .held
   pub prints : out ≡ promise .out
-
--- the desk of a place in what is kept and in what is to be printed
-abbrev pub deskAt : List ℕ → Place → List ℕ → Desk
-deskAt held p out = record { held = held; count = p .count; out = out; written = p .written }
-
--- room for what is kept of a line, and for n lines to be printed
-pub record Room (d : Desk) (n : ℕ) : Type 0 where
-  pub held-room : 517 ≤ length (d .held)
-  pub few : d .count ≤ 517
-  pub out-room : d .written + 15 * n ≤ length (d .out)

@@ -1,14 +1,13 @@
--- How bytes become lines, and what is printed for them, wherever the input is cut into blocks. Assumes nothing.
-use Prim.Native.Nat.{ℕ, suc, _+_, _*_, _≤_}
-use mathlib.Core.Path.{_≡_}
+-- How bytes become lines, what is printed for them, and what a block of input comes to. Assumes nothing.
+use Prim.Native.Nat.{ℕ, _*_}
 use mathlib.Core.Bool.{_||_, false, true}
 use mathlib.Core.List.{List, [], _∷_, _++_}
 use lib.Dec.{eqb, ltb}
-use lib.ListN.{drop, length, set, take}
+use lib.ListN.{length, take}
 use mathlib.Core.Option.{Option, none, some}
+use Rattle.game.specs.Area.{begun}
 use Rattle.game.specs.Lists.{concat-map}
 use Rattle.game.specs.Calls.{Answer, Check, Refusal, firstGiven, gives, refuses, trace, work}
-use Rattle.hex.specs.Hex.{putDigits}
 use Rattle.reader.specs.Prices.{answerLine}
 
 -- lines that have ended, and the line that goes on
@@ -18,16 +17,12 @@ pub record Cut : Type 0 where
 
 -- bytes read on from the beginning of a line: a line feed ends it
 abbrev pub cutFrom : List ℕ → List ℕ → Cut
-cutFrom begun [] = record { ended = []; goes-on = begun }
-cutFrom begun (b ∷ bs) =
+cutFrom line [] = record { ended = []; goes-on = line }
+cutFrom line (b ∷ bs) =
     elim (eqb b 10) [
-      | true ↦ record { ended = begun ∷ cutFrom [] bs .ended; goes-on = cutFrom [] bs .goes-on }
-      | false ↦ cutFrom (begun ++ b ∷ []) bs
+      | true ↦ record { ended = line ∷ cutFrom [] bs .ended; goes-on = cutFrom [] bs .goes-on }
+      | false ↦ cutFrom (line ++ b ∷ []) bs
     ]
-
--- bytes read on where a cut ended
-abbrev pub readOn : Cut → List ℕ → Cut
-readOn c bs = record { ended = c .ended ++ cutFrom (c .goes-on) bs .ended; goes-on = cutFrom (c .goes-on) bs .goes-on }
 
 -- the last line feed may be missing; nothing after it is no line
 abbrev pub lastLine : List ℕ → List (List ℕ)
@@ -49,32 +44,24 @@ pub record Desk : Type 0 where
   pub out : List ℕ
   pub written : ℕ
 
--- one byte read: a line feed ends the line, which is answered; of a line's bytes the first 517 are kept
-abbrev pub byteRead : Desk → ℕ → Desk
-byteRead d b =
-    elim (eqb b 10) [
-      | true ↦
-          record {
-            held = d .held;
-            count = 0;
-            out = putDigits (d .written) (answerLine (take (d .count) (d .held))) (d .out);
-            written = d .written + 15;
-          }
-      | false ↦
-          elim (ltb (d .count) 517) [
-            | true ↦ record { held = set (d .held) (d .count) b; count = suc (d .count); out = d .out; written = d .written }
-            | false ↦ d
-          ]
-    ]
+-- of a line's bytes the first 517 are kept, over what was kept before
+abbrev pub keptOver : List ℕ → List ℕ → List ℕ
+keptOver held line = begun (take 517 line) held
 
--- a desk at which nothing has been printed yet
-abbrev pub deskOf : List ℕ → ℕ → List ℕ → Desk
-deskOf held count out = record { held = held; count = count; out = out; written = 0 }
+-- what is kept once lines have ended and another goes on
+abbrev pub heldAfter : List ℕ → List (List ℕ) → List ℕ → List ℕ
+heldAfter held [] goes-on = keptOver held goes-on
+heldAfter held (line ∷ lines) goes-on = heldAfter (keptOver held line) lines goes-on
 
--- a block read, byte by byte
-abbrev pub blockRead : Desk → List ℕ → Desk
-blockRead d [] = d
-blockRead d (b ∷ bs) = blockRead (byteRead d b) bs
+-- what bytes come to: each line that ended is answered, at the start of what is to be printed, and the line that goes on is kept
+abbrev pub deskAfter : Cut → List ℕ → List ℕ → Desk
+deskAfter cut held out =
+    record {
+      held = heldAfter held (cut .ended) (cut .goes-on);
+      count = length (take 517 (cut .goes-on));
+      out = begun (concat-map answerLine (cut .ended)) out;
+      written = length (concat-map answerLine (cut .ended));
+    }
 
 -- what a call of the reader comes to: the answer, what is kept of the line that goes on, and what is to be printed
 pub record DeskOutcome : Type 0 where
@@ -95,50 +82,14 @@ abbrev pub unlessDesk : Option Refusal → List ℕ → List ℕ → Desk → De
 unlessDesk (some f) held out d = record { answer = refuses f; held = held; out = out }
 unlessDesk none held out d = record { answer = gives (d .count ∷ d .written ∷ []); held = d .held; out = d .out }
 
--- a block of input answered: the lines that end in it
+-- a block of input answered, read on from the bytes that are kept
 unfoldable pub blockCall : List ℕ → List ℕ → ℕ → List ℕ → DeskOutcome
 blockCall block held count out =
     unlessDesk (firstGiven (heldCheck held count ∷ outCheck out (length block) ∷ [])) held out
-    (blockRead (deskOf held count out) block)
+    (deskAfter (cutFrom (take count held) block) held out)
 
--- the input's end read: a line that goes on is answered as if its line feed were there
-abbrev pub endRead : Desk → Desk
-endRead d = elim (eqb (d .count) 0) [ true ↦ d | false ↦ byteRead d 10 ]
-
--- the end of input answered: the last line feed may be missing
+-- the end of input answered: a line that goes on ends, as if its line feed were there
 unfoldable pub endCall : List ℕ → ℕ → List ℕ → DeskOutcome
 endCall held count out =
     unlessDesk (firstGiven (heldCheck held count ∷ outCheck out 1 ∷ [])) held out
-    (endRead (deskOf held count out))
-
--- what is kept is the line that goes on, as far as 517 bytes
-pub record Keeps (goes-on held : List ℕ) (count : ℕ) : Type 0 where
-  pub kept : take count held ≡ take 517 goes-on
-  pub counted : count ≡ length (take 517 goes-on)
-
--- what is printed from a desk
-abbrev pub saidAt : Desk → List ℕ
-saidAt d = take (d .written) (d .out)
-
--- what bytes have come to at a desk: the lines that ended are answered, the line that goes on is kept, and what is past the answers stands
-pub record Told (cut : Cut) (before after : Desk) : Type 0 where
-  pub keeps : Keeps (cut .goes-on) (after .held) (after .count)
-  pub says : saidAt after ≡ saidAt before ++ concat-map answerLine (cut .ended)
-  pub held-whole : length (after .held) ≡ length (before .held)
-  pub out-whole : length (after .out) ≡ length (before .out)
-  pub fifteen-each : after .written ≡ before .written + 15 * length (cut .ended)
-  pub stands : drop (after .written) (after .out) ≡ drop (after .written) (before .out)
-
--- room for as many answers as a block has bytes
-abbrev pub Fits : List ℕ → List ℕ → Type 0
-Fits out block = 15 * length block ≤ length out
-
--- the input that blocks come to
-abbrev pub joined : List (List ℕ) → List ℕ
-joined blocks = concat-map (λ b. b) blocks
-
--- blocks answered one after the other, and then the end: all that is printed
-abbrev pub session : List (List ℕ) → List ℕ → ℕ → List ℕ → List ℕ
-session [] held count out = saidAt (endRead (deskOf held count out))
-session (b ∷ bs) held count out =
-    let d = blockRead (deskOf held count out) b in saidAt d ++ session bs (d .held) (d .count) (d .out)
+    (deskAfter (record { ended = lastLine (take count held); goes-on = [] }) held out)

@@ -2,6 +2,7 @@
 pub mod Taken
 pub mod Prices
 pub mod Blocks
+pub mod Bytes
 pub mod Answers
 pub mod Runs
 pub mod WholeCase

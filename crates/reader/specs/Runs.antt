@@ -2,9 +2,14 @@
 use Prim.Native.Nat.{ℕ}
 use mathlib.Core.List.{List, [], _∷_, _++_}
 use lib.ListN.{take}
+use Rattle.game.specs.Lists.{concat-map}
 use Rattle.game.specs.Calls.{gives}
 use Rattle.reader.specs.Blocks.{blockCall, endCall}
 use Rattle.reader.specs.Answers.{KeptDesk}
+
+-- the input that blocks come to
+abbrev pub joined : List (List ℕ) → List ℕ
+joined blocks = concat-map (λ b. b) blocks
 
 -- calls that were not refused, one after the other, what is kept handed on; and all that they wrote
 pub data Runs : List (List ℕ) → List ℕ → ℕ → List ℕ → Type 0 where

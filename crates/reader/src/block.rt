@@ -3,8 +3,9 @@ use crate::Answered;
 use crate::Refusal;
 ghost use mathlib.Core.Path.{_≡_};
 ghost use lib.ListN.{length};
-ghost use Rattle.reader.specs.Blocks.{blockCall, blockRead, byteRead, deskOf, endCall};
-ghost use Rattle.reader.specs.Answers.{KeptDesk, Room, answeredAnswer, deskAt};
+ghost use Rattle.reader.specs.Blocks.{blockCall, endCall};
+ghost use Rattle.reader.specs.Bytes.{Room, blockRead, byteRead, deskAt, deskOf};
+ghost use Rattle.reader.specs.Answers.{KeptDesk, answeredAnswer};
 
 // How much is kept of the line that goes on, and how much is to be printed.
 pub struct Place {

@@ -2,7 +2,7 @@
 use native.Mathlib.Omega.{arith}
 use lib.ListN.{length}
 use Rattle.game.specs.Calls.{trace, work}
-use Rattle.reader.specs.Answers.{deskAt}
+use Rattle.reader.specs.Bytes.{deskAt}
 use Rattle.reader.proofs.Verdict.{block-kept, block-refused, fine, many-kept, room-by, short-by, short-held, short-out}
 use borrow.Author.Needs.{needs}
 use Rattle.reader.proofs.block.answer_block.Statement.{statement}

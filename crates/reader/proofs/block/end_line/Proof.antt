@@ -3,7 +3,7 @@ use mathlib.Core.Path.{sym}
 use lib.Seq.{length-take-le}
 use native.Mathlib.Omega.{arith}
 use Rattle.lines.specs.PriceLine.{heldPrice}
-use Rattle.reader.specs.Answers.{deskAt}
+use Rattle.reader.specs.Bytes.{deskAt}
 use Rattle.reader.proofs.Lines.{line-fed}
 use borrow.Author.Needs.{needs}
 use Rattle.reader.proofs.block.end_line.Statement.{statement}

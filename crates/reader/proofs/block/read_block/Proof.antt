@@ -4,8 +4,8 @@ use native.Mathlib.Omega.{arith}
 use mathlib.Core.Path.{_≡_, ap, refl, sym, _∙_}
 use lib.ListN.{getD, length, take}
 use lib.Seq.{take-all}
-use Rattle.reader.specs.Blocks.{Desk, blockRead, byteRead, deskOf}
-use Rattle.reader.specs.Answers.{deskAt}
+use Rattle.reader.specs.Blocks.{Desk}
+use Rattle.reader.specs.Bytes.{blockRead, byteRead, deskAt, deskOf}
 use Rattle.reader.proofs.Bytes.{one-more, read-held, read-out, read-room}
 use Rattle.reader.proofs.block.read_block.Statement.{statement}
 use Rattle.reader.proofs.block.read_block.Tie as tie

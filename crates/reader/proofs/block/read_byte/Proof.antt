@@ -5,7 +5,7 @@ use mathlib.Core.Path.{_∙_, _≡_, subst, sym}
 use mathlib.Core.Bool.{Bool, false}
 use borrow.Author.Tests.{eq-eqb, eqb-true}
 use lib.Dec.{T, eqb}
-use Rattle.reader.specs.Answers.{deskAt}
+use Rattle.reader.specs.Bytes.{deskAt}
 use Rattle.reader.proofs.Bytes.{feed-read, full-read, kept-read}
 use borrow.Author.Needs.{needs}
 use Rattle.reader.proofs.block.read_byte.Statement.{statement}
