@@ -105,81 +105,45 @@ fn largest() {
     large(b"255 by 255, every 6th", 255, 255, &grid, &mut work, 53678);
 }
 
-// Each refusal on both sides of its edge, and what it leaves.
-fn refusals() {
+// A call's answer beside the number and the value that it should be.
+fn tried(
+    name: &[u8],
+    rows: usize,
+    columns: usize,
+    grid: &[i32],
+    work: &mut [i32],
+    number: u64,
+    value: u64,
+) {
+    let answer = zini::count::three_bv(rows, columns, grid, work);
+    report(name, answer, number, value);
+}
+
+// SHAPE and BOARD on both sides of their edges, and what they leave.
+fn wrong_boards() {
+    let most = 18446744073709551615;
     let grid = [0i32; 256];
     let mut work = [7i32; 1280];
-    report(
-        b"0 rows",
-        zini::count::three_bv(0, 256, &grid, &mut work),
-        1,
-        0,
-    );
-    report(
-        b"0 columns",
-        zini::count::three_bv(256, 0, &grid, &mut work),
-        1,
-        0,
-    );
-    report(
-        b"256 rows",
-        zini::count::three_bv(256, 1, &grid, &mut work),
-        1,
-        0,
-    );
-    report(
-        b"256 columns",
-        zini::count::three_bv(1, 256, &grid, &mut work),
-        1,
-        0,
-    );
-    report(
-        b"most rows",
-        zini::count::three_bv(18446744073709551615, 1, &grid, &mut work),
-        1,
-        0,
-    );
-    report(
-        b"most columns",
-        zini::count::three_bv(1, 18446744073709551615, &grid, &mut work),
-        1,
-        0,
-    );
-    report(
-        b"a value too many",
-        zini::count::three_bv(255, 1, &grid, &mut work),
-        2,
-        0,
-    );
-    report(
-        b"a value too few",
-        zini::count::three_bv(16, 17, &grid, &mut work),
-        2,
-        0,
-    );
+    tried(b"0 rows", 0, 256, &grid, &mut work, 1, 0);
+    tried(b"0 columns", 256, 0, &grid, &mut work, 1, 0);
+    tried(b"256 rows", 256, 1, &grid, &mut work, 1, 0);
+    tried(b"256 columns", 1, 256, &grid, &mut work, 1, 0);
+    tried(b"most rows", most, 1, &grid, &mut work, 1, 0);
+    tried(b"most columns", 1, most, &grid, &mut work, 1, 0);
+    tried(b"a value too many", 255, 1, &grid, &mut work, 2, 0);
+    tried(b"a value too few", 16, 17, &grid, &mut work, 2, 0);
     trials::print_sum(&work);
-    let right = [0i32; 255];
+}
+
+// WORK on both sides of its edge, the longest rows and columns, and what they leave.
+fn short_work() {
+    let grid = [0i32; 255];
     let mut short = [7i32; 1274];
-    report(
-        b"a number too few",
-        zini::count::three_bv(255, 1, &right, &mut short),
-        3,
-        0,
-    );
+    tried(b"a number too few", 255, 1, &grid, &mut short, 3, 0);
     trials::print_sum(&short);
     let mut room = [7i32; 1275];
-    report(
-        b"255 rows",
-        zini::count::three_bv(255, 1, &right, &mut room),
-        0,
-        1,
-    );
-    report(
-        b"255 columns",
-        zini::count::three_bv(1, 255, &right, &mut room),
-        0,
-        1,
-    );
+    tried(b"255 rows", 255, 1, &grid, &mut room, 0, 1);
+    tried(b"255 columns", 1, 255, &grid, &mut room, 0, 1);
     trials::print_sum(&room);
 }
 
@@ -189,5 +153,6 @@ fn main() {
     other_values();
     about_512();
     largest();
-    refusals();
+    wrong_boards();
+    short_work();
 }

@@ -66,6 +66,22 @@ fn first_six() {
     priced(b"P6", 1, 5, &[0i32, 0, -1, 0, 0], &mut w6, &mut l6, 2, 2);
 }
 
+// A board of three by three priced.
+fn three(name: &[u8], grid: &[i32], greedy: u64, openings_first: u64) {
+    let mut work = [7i32; 46];
+    let mut list = [4294967295u32; 10];
+    priced(
+        name,
+        3,
+        3,
+        grid,
+        &mut work,
+        &mut list,
+        greedy,
+        openings_first,
+    );
+}
+
 // P7 to P12.
 fn last_six() {
     let mut w7 = [7i32; 21];
@@ -74,108 +90,56 @@ fn last_six() {
     let mut w8 = [7i32; 21];
     let mut l8 = [4294967295u32; 5];
     priced(b"P8", 2, 2, &[-1i32, 0, -1, 0], &mut w8, &mut l8, 2, 2);
-    let mut w9 = [7i32; 46];
-    let mut l9 = [4294967295u32; 10];
-    priced(
-        b"P9",
-        3,
-        3,
-        &[0i32, 0, 0, 0, 0, 0, 0, 0, 0],
-        &mut w9,
-        &mut l9,
-        1,
-        1,
-    );
-    let mut w10 = [7i32; 46];
-    let mut l10 = [4294967295u32; 10];
-    priced(
-        b"P10",
-        3,
-        3,
-        &[-1i32, 0, 0, 0, 0, 0, 0, 0, 0],
-        &mut w10,
-        &mut l10,
-        1,
-        1,
-    );
-    let mut w11 = [7i32; 46];
-    let mut l11 = [4294967295u32; 10];
-    priced(
-        b"P11",
-        3,
-        3,
-        &[0i32, 0, 0, 0, -1, 0, 0, 0, 0],
-        &mut w11,
-        &mut l11,
-        5,
-        6,
-    );
-    let mut w12 = [7i32; 46];
-    let mut l12 = [4294967295u32; 10];
-    priced(
-        b"P12",
-        3,
-        3,
-        &[0i32, 0, -1, 0, 0, 0, -1, 0, 0],
-        &mut w12,
-        &mut l12,
-        2,
-        2,
-    );
+    three(b"P9", &[0i32, 0, 0, 0, 0, 0, 0, 0, 0], 1, 1);
+    three(b"P10", &[-1i32, 0, 0, 0, 0, 0, 0, 0, 0], 1, 1);
+    three(b"P11", &[0i32, 0, 0, 0, -1, 0, 0, 0, 0], 5, 6);
+    three(b"P12", &[0i32, 0, -1, 0, 0, 0, -1, 0, 0], 2, 2);
+}
+
+// Greedy on rows and columns of six values without a mine: its answer beside the number and the value that it should be.
+fn greedy_six(
+    name: &[u8],
+    rows: usize,
+    columns: usize,
+    work: &mut [i32],
+    list: &mut [u32],
+    number: u64,
+    value: u64,
+) {
+    let answer = zini::prices::greedy(rows, columns, &[0i32; 6], work, list);
+    report(name, answer, number, value);
+}
+
+// The same of openings-first, which is refused.
+fn openings_first_six(
+    name: &[u8],
+    rows: usize,
+    columns: usize,
+    work: &mut [i32],
+    list: &mut [u32],
+    number: u64,
+) {
+    let answer = zini::prices::openings_first(rows, columns, &[0i32; 6], work, list);
+    report(name, answer, number, 0);
 }
 
 // The refusals on both sides of their edges, and what they leave.
 fn refusals() {
-    let grid = [0i32; 6];
+    let most = 18446744073709551615;
     let mut work = [7i32; 30];
     let mut list = [9u32; 6];
-    report(
-        b"0 rows",
-        zini::prices::greedy(0, 6, &grid, &mut work, &mut list),
-        1,
-        0,
-    );
-    report(
-        b"most columns",
-        zini::prices::openings_first(2, 18446744073709551615, &grid, &mut work, &mut list),
-        1,
-        0,
-    );
-    report(
-        b"a value too few",
-        zini::prices::greedy(2, 4, &grid, &mut work, &mut list),
-        2,
-        0,
-    );
+    greedy_six(b"0 rows", 0, 6, &mut work, &mut list, 1, 0);
+    openings_first_six(b"most columns", 2, most, &mut work, &mut list, 1);
+    greedy_six(b"a value too few", 2, 4, &mut work, &mut list, 2, 0);
     let mut short = [7i32; 29];
-    report(
-        b"a number too few",
-        zini::prices::openings_first(2, 3, &grid, &mut short, &mut list),
-        3,
-        0,
-    );
+    openings_first_six(b"a number too few", 2, 3, &mut short, &mut list, 3);
     let mut few = [9u32; 5];
-    report(
-        b"a word too few",
-        zini::prices::greedy(2, 3, &grid, &mut work, &mut few),
-        4,
-        0,
-    );
-    report(
-        b"a word too few",
-        zini::prices::openings_first(2, 3, &grid, &mut work, &mut few),
-        4,
-        0,
-    );
+    greedy_six(b"a word too few", 2, 3, &mut work, &mut few, 4, 0);
+    openings_first_six(b"a word too few", 2, 3, &mut work, &mut few, 4);
     trials::print_list(&few);
     trials::print_list(&list);
     trials::print_area(&work);
-    report(
-        b"words enough",
-        zini::prices::greedy(2, 3, &grid, &mut work, &mut list),
-        0,
-        1,
-    );
+    greedy_six(b"words enough", 2, 3, &mut work, &mut list, 0, 1);
     trials::print_list(&list);
 }
 

@@ -64,6 +64,12 @@ fn first_six() {
     );
 }
 
+// A list that is played to its end on a board of three by three.
+fn three(name: &[u8], grid: &[i32], list: &[u32]) {
+    let mut work = [7i32; 46];
+    whole(name, 3, 3, grid, &mut work, list);
+}
+
 // P7 to P12.
 fn last_six() {
     let mut w7 = [7i32; 21];
@@ -77,40 +83,16 @@ fn last_six() {
     );
     let mut w8 = [7i32; 21];
     whole(b"P8", 2, 2, &[-1i32, 0, -1, 0], &mut w8, &[65538u32, 65539]);
-    let mut w9 = [7i32; 46];
-    whole(
-        b"P9",
-        3,
-        3,
-        &[0i32, 0, 0, 0, 0, 0, 0, 0, 0],
-        &mut w9,
-        &[65536u32],
-    );
-    let mut w10 = [7i32; 46];
-    whole(
-        b"P10",
-        3,
-        3,
-        &[-1i32, 0, 0, 0, 0, 0, 0, 0, 0],
-        &mut w10,
-        &[65538u32],
-    );
-    let mut w11 = [7i32; 46];
-    whole(
+    three(b"P9", &[0i32, 0, 0, 0, 0, 0, 0, 0, 0], &[65536u32]);
+    three(b"P10", &[-1i32, 0, 0, 0, 0, 0, 0, 0, 0], &[65538u32]);
+    three(
         b"P11",
-        3,
-        3,
         &[0i32, 0, 0, 0, -1, 0, 0, 0, 0],
-        &mut w11,
         &[65537u32, 131076, 196609, 196611, 196613],
     );
-    let mut w12 = [7i32; 46];
-    whole(
+    three(
         b"P12",
-        3,
-        3,
         &[0i32, 0, -1, 0, 0, 0, -1, 0, 0],
-        &mut w12,
         &[65536u32, 65544],
     );
 }
@@ -136,85 +118,51 @@ fn illegal() {
     bad(b"the largest index", &[65537u32, 131071], 1);
 }
 
-// An empty list, lists longer than the count, a chord that opens nothing, and the refusals.
-fn edges() {
+// The first moves of a list on P11: the answer beside what it should be.
+fn played(
+    name: &[u8],
+    work: &mut [i32],
+    list: &[u32],
+    count: usize,
+    number: u64,
+    first: u64,
+    second: u64,
+) {
     let grid = [0i32, 0, 0, 0, -1, 0, 0, 0, 0];
+    let answer = zini::replays::replay(3, 3, &grid, work, list, count);
+    report(name, answer, number, first, second);
+}
+
+// An empty list, lists longer than the count, a chord that opens nothing.
+fn counts() {
+    let most = 18446744073709551615;
     let mut work = [7i32; 46];
     let list = [65537u32, 131076, 196609, 196611, 196613, 4294967295];
-    let none = [0u32; 0];
-    report(
-        b"an empty list",
-        zini::replays::replay(3, 3, &grid, &mut work, &none, 0),
-        0,
-        0,
-        8,
-    );
-    trials::print_area(&work);
-    report(
-        b"the first 3 of 6",
-        zini::replays::replay(3, 3, &grid, &mut work, &list, 3),
-        0,
-        3,
-        3,
-    );
-    report(
-        b"5 of 6",
-        zini::replays::replay(3, 3, &grid, &mut work, &list, 5),
-        0,
-        5,
-        0,
-    );
-    report(
-        b"6 of 6",
-        zini::replays::replay(3, 3, &grid, &mut work, &list, 6),
-        7,
-        5,
-        0,
-    );
-    report(
-        b"7 of 6",
-        zini::replays::replay(3, 3, &grid, &mut work, &list, 7),
-        4,
-        0,
-        0,
-    );
-    report(
-        b"most of 6",
-        zini::replays::replay(3, 3, &grid, &mut work, &list, 18446744073709551615),
-        4,
-        0,
-        0,
-    );
     let again = [65537u32, 131076, 196609, 196609];
-    report(
-        b"a chord that opens nothing",
-        zini::replays::replay(3, 3, &grid, &mut work, &again, 4),
-        0,
-        4,
-        3,
-    );
-    report(
-        b"256 rows",
-        zini::replays::replay(256, 3, &grid, &mut work, &list, 7),
-        1,
-        0,
-        0,
-    );
-    report(
-        b"a value too many",
-        zini::replays::replay(2, 4, &grid, &mut work, &list, 7),
-        2,
-        0,
-        0,
-    );
+    let none = [0u32; 0];
+    played(b"an empty list", &mut work, &none, 0, 0, 0, 8);
+    trials::print_area(&work);
+    played(b"the first 3 of 6", &mut work, &list, 3, 0, 3, 3);
+    played(b"5 of 6", &mut work, &list, 5, 0, 5, 0);
+    played(b"6 of 6", &mut work, &list, 6, 7, 5, 0);
+    played(b"7 of 6", &mut work, &list, 7, 4, 0, 0);
+    played(b"most of 6", &mut work, &list, most, 4, 0, 0);
+    played(b"a chord that opens nothing", &mut work, &again, 4, 0, 4, 3);
+}
+
+// A board of nine values that is refused before its list is looked at.
+fn refused(name: &[u8], rows: usize, columns: usize, work: &mut [i32], number: u64) {
+    let answer = zini::replays::replay(rows, columns, &[0i32; 9], work, &[0u32; 6], 7);
+    report(name, answer, number, 0, 0);
+}
+
+// The refusals, the first check first.
+fn refusals() {
+    let mut work = [7i32; 46];
+    refused(b"256 rows", 256, 3, &mut work, 1);
+    refused(b"a value too many", 2, 4, &mut work, 2);
     let mut short = [7i32; 44];
-    report(
-        b"a number too few",
-        zini::replays::replay(3, 3, &grid, &mut short, &list, 7),
-        3,
-        0,
-        0,
-    );
+    refused(b"a number too few", 3, 3, &mut short, 3);
     trials::print_area(&short);
 }
 
@@ -222,5 +170,6 @@ fn main() {
     first_six();
     last_six();
     illegal();
-    edges();
+    counts();
+    refusals();
 }
