@@ -165,31 +165,19 @@ pub(crate) fn copied(
 ) -> usize
     ensures { λ r. ⌜ ((vs ws : List ℤ) → length vs ≡ board → length ws ≡ area → r ≡ copiedIf (firstGiven (replayChecks (gridOf rows columns vs) ws room words count)) count) ⌝ }
 {
-    if rows == 0 {
-        return 0;
+    let checked = checks::check_lengths(rows, columns, board, area);
+    match checked {
+        Checked::Refused(_) => 0,
+        Checked::Fine => {
+            if room < count {
+                return 0;
+            }
+            if words < count {
+                return 0;
+            }
+            count
+        }
     }
-    if 255 < rows {
-        return 0;
-    }
-    if columns == 0 {
-        return 0;
-    }
-    if 255 < columns {
-        return 0;
-    }
-    if board != rows * columns {
-        return 0;
-    }
-    if area < 5 * (rows * columns) {
-        return 0;
-    }
-    if room < count {
-        return 0;
-    }
-    if words < count {
-        return 0;
-    }
-    count
 }
 
 // Replay for a run of so many records.

@@ -2,10 +2,14 @@
 use Prim.Native.Nat.{ℕ}
 use mathlib.Core.Path.{_≡_, refl, sym, _∙_}
 use mathlib.Core.Bool.{cond}
+use mathlib.Core.List.{List}
 use mathlib.Core.Option.{Option, none, some}
 use mathlib.Mathlib.Logic.Function.Defs.{LeftInverse·injective}
 use lib.Dec.{eqb}
-use Rattle.game.specs.Calls.{numberOf}
+use lib.IntN.{pos, ℤ}
+use lib.ListN.{length, length-replicate, replicate}
+use Rattle.area.specs.Numbers.{gridOf}
+use Rattle.game.specs.Calls.{firstGiven, gridChecks, numberOf}
 use Rattle.game.specs.Calls as Game
 use Rattle.checks.specs.Refusals.{refusalOf}
 use Rattle.checks.specs.declared.Refusal.{Refusal}
@@ -33,3 +37,14 @@ checked-once o r r′ e e′ = LeftInverse·injective checkedBy refusalOf back r
     back (Checks.Refused Trace) = refl
     back (Checks.Refused Rounds) = refl
     back (Checks.Refused Draws) = refl
+
+-- the checks by lengths: there are a grid and a work area of any lengths
+pub lengths-once : (rows columns board area : ℕ) (r r′ : Checked)
+    → ((vs ws : List ℤ) → length vs ≡ board → length ws ≡ area → refusalOf r ≡ firstGiven (gridChecks (gridOf rows columns vs) ws))
+    → ((vs ws : List ℤ) → length vs ≡ board → length ws ≡ area → refusalOf r′ ≡ firstGiven (gridChecks (gridOf rows columns vs) ws)) → r ≡ r′
+lengths-once rows columns board area r r′ k k′ =
+    let vs = replicate board (pos 0) in
+    let ws = replicate area (pos 0) in
+    let long = length-replicate board (pos 0) in
+    let wide = length-replicate area (pos 0) in
+    checked-once (firstGiven (gridChecks (gridOf rows columns vs) ws)) r r′ (k vs ws long wide) (k′ vs ws long wide)

@@ -1,6 +1,8 @@
 // The checks of every call, in their order, and the refusals' numbers.
 ghost use mathlib.Core.Path.{_≡_};
-ghost use mathlib.Core.List.{_++_};
+ghost use mathlib.Core.List.{List, _++_};
+ghost use lib.IntN.{ℤ};
+ghost use lib.ListN.{length};
 ghost use Rattle.game.specs.Calls.{firstGiven, gridChecks, numberOf};
 ghost use Rattle.area.specs.Numbers.{gridOf};
 ghost use Rattle.checks.specs.Refusals.{refusalOf, below, listed, named};
@@ -35,9 +37,9 @@ pub fn number_of(refusal: Refusal) -> u8
     }
 }
 
-// SHAPE, BOARD, WORK.
-pub fn check(rows: usize, columns: usize, grid: &[i32], work: &[i32]) -> Checked
-    ensures { λ r. ⌜ refusalOf r ≡ firstGiven (gridChecks (gridOf rows columns (now (grid .entry))) (now (work .entry))) ⌝ }
+// SHAPE, BOARD, WORK, by the lengths of the grid and the work area.
+pub fn check_lengths(rows: usize, columns: usize, board: usize, area: usize) -> Checked
+    ensures { λ r. ⌜ ((vs ws : List ℤ) → length vs ≡ board → length ws ≡ area → refusalOf r ≡ firstGiven (gridChecks (gridOf rows columns vs) ws)) ⌝ }
 {
     if rows == 0 {
         return Checked::Refused(Refusal::Shape);
@@ -51,13 +53,20 @@ pub fn check(rows: usize, columns: usize, grid: &[i32], work: &[i32]) -> Checked
     if 255 < columns {
         return Checked::Refused(Refusal::Shape);
     }
-    if grid.len() != rows * columns {
+    if board != rows * columns {
         return Checked::Refused(Refusal::Board);
     }
-    if work.len() < 5 * (rows * columns) {
+    if area < 5 * (rows * columns) {
         return Checked::Refused(Refusal::Work);
     }
     Checked::Fine
+}
+
+// SHAPE, BOARD, WORK.
+pub fn check(rows: usize, columns: usize, grid: &[i32], work: &[i32]) -> Checked
+    ensures { λ r. ⌜ refusalOf r ≡ firstGiven (gridChecks (gridOf rows columns (now (grid .entry))) (now (work .entry))) ⌝ }
+{
+    check_lengths(rows, columns, grid.len(), work.len())
 }
 
 // The checks of every call, then one more: a value below its least.

@@ -1,73 +1,14 @@
--- `checks::check`: the tests in their order. Assumes nothing.
-use native.Mathlib.Omega.{arith}
+-- `checks::check`: by the lengths of the grid and the work area. Assumes nothing.
+use mathlib.Core.Path.{refl}
 use borrow.Author.Needs.{needs}
-use Rattle.area.specs.Numbers.{gridOf}
-use Rattle.area.proofs.Cells.{cells-few}
-use Rattle.checks.proofs.Verdict.{no-rows, many-rows, no-columns, many-columns, other-board, short-work, all-fine}
 use Rattle.checks.proofs.check.Statement.{statement}
 use Rattle.checks.proofs.check.Tie as tie
 
+check-lengths-requires : tie.Need-check-lengths-requires
+check-lengths-requires c κs = search needs
+
 returns : tie.Need-returns
-returns c =
-    let a = c .before .args in
-    no-rows (gridOf (a .rows) (a .columns) (a .grid .now)) (a .work .now) (c .if1 .taken)
-
-returns-2 : tie.Need-returns-2
-returns-2 c =
-    let a = c .before .before .args in
-    many-rows (gridOf (a .rows) (a .columns) (a .grid .now)) (a .work .now) (c .before .if1 .left) (c .if2 .taken)
-
-returns-3 : tie.Need-returns-3
-returns-3 c =
-    let a = c .before .before .before .args in
-    no-columns (gridOf (a .rows) (a .columns) (a .grid .now)) (a .work .now) (c .before .before .if1 .left) (c .before .if2 .left) (c .if3 .taken)
-
-returns-4 : tie.Need-returns-4
-returns-4 c =
-    let a = c .before .before .before .before .args in
-    many-columns (gridOf (a .rows) (a .columns) (a .grid .now)) (a .work .now) (c .before .before .before .if1 .left) (c .before .before .if2 .left) (c .before .if3 .left) (c .if4 .taken)
-
-mul-if5 : tie.Need-mul-if5
-mul-if5 c =
-    let a = c .before .before .before .before .args in
-    omega (
-      arith,
-      cells-few (a .rows) (a .columns)
-          (record { some-rows = omega (arith, c .before .before .before .if1 .left); few-rows = c .before .before .if2 .left; some-columns = omega (arith, c .before .if3 .left); few-columns = c .if4 .left }),
-    )
-
-returns-5 : tie.Need-returns-5
-returns-5 c =
-    let a = c .before .before .before .before .before .args in
-    other-board (gridOf (a .rows) (a .columns) (a .grid .now)) (a .work .now) (c .before .before .before .before .if1 .left) (c .before .before .before .if2 .left) (c .before .before .if3 .left) (c .before .if4 .left) (c .if5 .taken)
-
-mul-if6 : tie.Need-mul-if6
-mul-if6 c = search needs
-
-mul-if6-2 : tie.Need-mul-if6-2
-mul-if6-2 c = search needs
-
-returns-6 : tie.Need-returns-6
-returns-6 c =
-    let a = c .before .before .before .before .before .before .args in
-    short-work (gridOf (a .rows) (a .columns) (a .grid .now)) (a .work .now) (c .before .before .before .before .before .if1 .left) (c .before .before .before .before .if2 .left) (c .before .before .before .if3 .left) (c .before .before .if4 .left) (c .before .if5 .left) (c .if6 .taken)
-
-returns-7 : tie.Need-returns-7
-returns-7 c =
-    let a = c .before .before .before .before .before .before .args in
-    all-fine (gridOf (a .rows) (a .columns) (a .grid .now)) (a .work .now) (c .before .before .before .before .before .if1 .left) (c .before .before .before .before .if2 .left) (c .before .before .before .if3 .left) (c .before .before .if4 .left) (c .before .if5 .left) (c .if6 .left)
+returns c = let a = c .before .args in c .check-lengths .ensures (a .grid .now) (a .work .now) refl refl
 
 pub check-spec : {M : Type 1} → statement M
-check-spec =
-    tie.close
-    (tie.spec
-    returns
-    returns-2
-    returns-3
-    returns-4
-    mul-if5
-    returns-5
-    mul-if6
-    mul-if6-2
-    returns-6
-    returns-7)
+check-spec = tie.close (tie.spec check-lengths-requires returns)
