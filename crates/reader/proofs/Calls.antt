@@ -1,24 +1,25 @@
 -- What the calls wrote is what is to be printed, wherever the input is cut into blocks: each block tells of its own bytes, and cuts join. Assumes nothing.
 use Prim.Native.Nat.{ℕ, _*_, _≤_}
 use native.Mathlib.Omega.{arith}
+use native.Mathlib.Decide.{ℕ-discrete}
 use mathlib.Core.Path.{_≡_, refl, ap, subst, sym, _∙_}
 use mathlib.Core.List.{List, [], _∷_, _++_, append-assoc}
 use mathlib.Core.Option.{Option, none, some}
 use lib.ListN.{drop, getD, length, length-take, take}
 use lib.Seq.{take-at}
-use Rattle.game.specs.Lists.{concat-map}
+use Rattle.game.specs.Lists.{Each, concat-map}
 use Rattle.game.specs.Calls.{Answer, Refusal, gives}
 use Rattle.game.proofs.Members.{concat-map-append}
 use Rattle.reader.specs.Prices.{answerLine}
 use Rattle.reader.specs.Blocks.{Cut, Desk, blockCall, cutFrom, deskAfter, endCall, lastLine, printed, unlessDesk}
-use Rattle.reader.specs.Bytes.{deskOf}
+use Rattle.reader.specs.Bytes.{blockRead, byteRead, deskOf}
 use Rattle.reader.specs.Answers.{KeptDesk}
 use Rattle.reader.specs.Runs.{Runs, ends, goes, joined}
 use Rattle.reader.proofs.After.{block-desk}
 use Rattle.reader.proofs.Cuts.{cut-joins}
 use Rattle.reader.proofs.Desks.{Keeps, Told, block-answers, saidAt}
 use Rattle.reader.proofs.Kept.{answer-kept}
-use Rattle.reader.proofs.Verdict.{fine, given, room-given}
+use Rattle.reader.proofs.Verdict.{block-kept, end-answered, end-empty, fine, given, room-given}
 
 -- ---- a call that is not refused
 
@@ -70,6 +71,13 @@ never-refused block begun held out count k h f =
     ap (λ (o : Option Refusal). unlessDesk o held out (deskAfter (cutFrom (take count held) block) held out) .answer .number)
     (sym (fine held count out (length block) h (omega (arith, k .counted, length-take 517 begun)) f))
 
+-- nor at the end of input, with room for one answer
+pub end-never-refused : (begun held out : List ℕ) (count : ℕ) → Keeps begun held count → 517 ≤ length held → 15 ≤ length out → endCall held count out .answer .number ≡ 0
+unfolding endCall
+end-never-refused begun held out count k h r =
+    ap (λ (o : Option Refusal). unlessDesk o held out (deskAfter (record { ended = lastLine (take count held); goes-on = [] }) held out) .answer .number)
+    (sym (fine held count out 1 h (omega (arith, k .counted, length-take 517 begun)) r))
+
 -- ---- all the calls
 
 -- the lines of a cut that nothing follows
@@ -97,6 +105,30 @@ runs-from begun k (goes block blocks held out held′ out′ later count kept wr
 pub calls-print : (blocks : List (List ℕ)) (held said : List ℕ) → Runs blocks held 0 said → said ≡ printed (joined blocks)
 unfolding printed
 calls-print blocks held said r = runs-from [] (record { kept = refl; counted = refl }) r
+
+-- with room the calls go on to the end, each lent what the one before left
+runs-on : (blocks : List (List ℕ)) (begun held out : List ℕ) (count : ℕ) → Keeps begun held count → 517 ≤ length held → 15 ≤ length out → Each (Fits out) blocks
+    → (said : List ℕ) × Runs blocks held count said
+runs-on [] begun held out count k h r f =
+    let passed = fine held count out 1 h (omega (arith, k .counted, length-take 517 begun)) r in
+    let d = byteRead (deskOf held count out) 10 in
+    elim (ℕ-discrete count 0) [
+      | yes z ↦ (take 0 out, ends held out held out count 0 0 (end-empty held count out passed z))
+      | no z ↦ (take (d .written) (d .out), ends held out (d .held) (d .out) count (d .count) (d .written) (end-answered held count out d passed z refl))
+    ]
+runs-on (b ∷ bs) begun held out count k h r (f, fits) =
+    let d = blockRead (deskOf held count out) b in
+    let p = block-kept b held count out d (fine held count out (length b) h (omega (arith, k .counted, length-take 517 begun)) f) refl in
+    let t = block-told b begun held out (d .held) (d .out) count (d .count) (d .written) k p in
+    let later =
+    runs-on bs (cutFrom begun b .goes-on) (d .held) (d .out) (d .count) (t .keeps) (omega (arith, t .held-whole)) (omega (arith, t .out-whole)) (subst (λ (n : ℕ). Each (λ b. 15 * length b ≤ n) bs) (sym (t .out-whole)) fits) in
+    (take (d .written) (d .out) ++ later .0, goes b bs held out (d .held) (d .out) (later .0) count (d .count) (d .written) p (later .1))
+
+-- so every line of the input is answered, wherever it is cut into blocks
+pub session-prints : (blocks : List (List ℕ)) (held out : List ℕ) → 517 ≤ length held → 15 ≤ length out → Each (Fits out) blocks → Runs blocks held 0 (printed (joined blocks))
+session-prints blocks held out h r fits =
+    let q = runs-on blocks [] held out 0 (record { kept = refl; counted = refl }) h r fits in
+    subst (λ (said : List ℕ). Runs blocks held 0 said) (calls-print blocks held (q .0) (q .1)) (q .1)
 
 -- two ways of cutting one input print the same
 pub cuts-print-alike : (blocks blocks′ : List (List ℕ)) (held held′ said said′ : List ℕ) → Runs blocks held 0 said → Runs blocks′ held′ 0 said′ → joined blocks ≡ joined blocks′ → said ≡ said′
