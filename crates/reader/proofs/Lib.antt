@@ -8,5 +8,5 @@ pub mod Case
 pub mod Figures
 pub mod Boards
 pub mod Lines
-pub mod Calls
+pub mod Sessions
 pub mod Once

@@ -4,5 +4,5 @@ pub mod Prices
 pub mod Blocks
 pub mod Bytes
 pub mod Answers
-pub mod Runs
+pub mod Sessions
 pub mod WholeCase

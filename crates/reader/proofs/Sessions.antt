@@ -1,0 +1,112 @@
+-- The calls answer every line of the input, wherever it is cut into blocks: each block tells of its own bytes, and cuts join. Assumes nothing.
+use Prim.Native.Nat.{ℕ, _*_, _≤_}
+use native.Mathlib.Omega.{arith}
+use mathlib.Core.Path.{_≡_, refl, ap, subst, sym, _∙_}
+use mathlib.Core.List.{List, [], _∷_, _++_, append-assoc, append-nil}
+use mathlib.Core.Option.{Option, none}
+use lib.ListN.{drop, getD, length, length-take, take}
+use lib.Seq.{take-at}
+use Rattle.game.specs.Lists.{Each, concat-map}
+use Rattle.game.specs.Calls.{Refusal}
+use Rattle.game.proofs.Members.{concat-map-append}
+use Rattle.reader.specs.Prices.{answerLine}
+use Rattle.reader.specs.Blocks.{Cut, Desk, DeskOutcome, blockCall, cutFrom, deskAfter, endCall, lastLine, printed, unlessDesk}
+use Rattle.reader.specs.Bytes.{Room, deskOf}
+use Rattle.reader.specs.Sessions.{AllAnswered, Fits, calls, joined, toPrint}
+use Rattle.reader.proofs.After.{block-desk}
+use Rattle.reader.proofs.Cuts.{cut-joins}
+use Rattle.reader.proofs.Desks.{Keeps, Told, block-answers}
+use Rattle.reader.proofs.Kept.{answer-kept}
+use Rattle.reader.proofs.Verdict.{fine}
+
+-- ---- one call
+
+module _ (begun held : List ℕ) (count : ℕ) (keeps : Keeps begun held count) (held-room : 517 ≤ length held) where
+  -- a call with room is not refused
+  pub few : count ≤ 517
+  few = omega (arith, keeps .counted, length-take 517 begun)
+
+  -- what a block of bytes comes to
+  abbrev pub blockDesk : List ℕ → List ℕ → Desk
+  blockDesk block out = deskAfter (cutFrom (take count held) block) held out
+
+  pub block-comes : (block out : List ℕ) → Fits out block → unlessDesk none held out (blockDesk block out) ≡ blockCall block held count out
+  unfolding blockCall
+  block-comes block out f = ap (λ (o : Option Refusal). unlessDesk o held out (blockDesk block out)) (fine held count out (length block) held-room few f)
+
+  -- the lines that ended in the block are to be printed, and the line that goes on is kept
+  pub block-tells : (block out : List ℕ) → Fits out block → Told (cutFrom begun block) (deskOf held count out) (blockDesk block out)
+  block-tells block out f =
+      subst (λ (d : Desk). Told (cutFrom begun block) (deskOf held count out) d) (block-desk block held count out (record { held-room = held-room; few = few; out-room = omega arith }))
+      (block-answers block begun (deskOf held count out) keeps held-room (omega arith))
+
+  -- what the end of input comes to
+  abbrev pub endDesk : List ℕ → Desk
+  endDesk out = deskAfter (record { ended = lastLine (take count held); goes-on = [] }) held out
+
+  pub end-comes : (out : List ℕ) → 15 ≤ length out → unlessDesk none held out (endDesk out) ≡ endCall held count out
+  unfolding endCall
+  end-comes out r = ap (λ (o : Option Refusal). unlessDesk o held out (endDesk out)) (fine held count out 1 held-room few r)
+
+  -- what is kept of the last line has its answer
+  pub last-answer : concat-map answerLine (lastLine (take count held)) ≡ concat-map answerLine (lastLine begun)
+  last-answer = go begun (take count held) (keeps .kept)
+    where
+      go : (line kept : List ℕ) → kept ≡ take 517 line → concat-map answerLine (lastLine kept) ≡ concat-map answerLine (lastLine line)
+      go [] kept e = ap (λ (l : List ℕ). concat-map answerLine (lastLine l)) e
+      go (b ∷ bs) kept e = ap (λ (l : List ℕ). concat-map answerLine (lastLine l)) e ∙ ap (λ (l : List ℕ). l ++ []) (answer-kept (b ∷ bs))
+
+-- answers with what stood past them: the answers are to be printed
+pub said-first : (lines : List (List ℕ)) (out : List ℕ) → let said = concat-map answerLine lines in take (length said) (said ++ drop (length said) out) ≡ said
+said-first lines out = let said = concat-map answerLine lines in take-at said (drop (length said) out) (length said) refl
+
+-- ---- all the calls
+
+-- the lines of a cut that nothing follows
+abbrev allLines : Cut → List (List ℕ)
+allLines c = c .ended ++ lastLine (c .goes-on)
+
+-- a block's answers, and those of the blocks after it
+blocks-join : (b : List ℕ) (bs : List (List ℕ)) (begun later : List ℕ) → later ≡ concat-map answerLine (allLines (cutFrom (cutFrom begun b .goes-on) (joined bs)))
+    → concat-map answerLine (cutFrom begun b .ended) ++ later ≡ concat-map answerLine (allLines (cutFrom begun (joined (b ∷ bs))))
+blocks-join b bs begun later e =
+    let c = cutFrom begun b in
+    let c′ = cutFrom (c .goes-on) (joined bs) in
+    ap (λ (l : List ℕ). concat-map answerLine (c .ended) ++ l) e
+    ∙ sym (concat-map-append answerLine (c .ended) (allLines c′))
+    ∙ ap (concat-map answerLine) (sym (append-assoc (c .ended) (c′ .ended) (lastLine (c′ .goes-on))))
+    ∙ ap (λ (x : Cut). concat-map answerLine (allLines x)) (sym (cut-joins begun b (joined bs)))
+
+-- none of the calls is refused, and they print the answers to these lines
+pub record Answers (lines : List (List ℕ)) (outcomes : List DeskOutcome) : Type 0 where
+  pub passed : Each (λ (o : DeskOutcome). o .answer .number ≡ 0) outcomes
+  pub said : concat-map toPrint outcomes ≡ concat-map answerLine lines
+
+answers-from : (blocks : List (List ℕ)) (begun held out : List ℕ) (count : ℕ) → Keeps begun held count → 517 ≤ length held → 15 ≤ length out → Each (Fits out) blocks
+    → Answers (allLines (cutFrom begun (joined blocks))) (calls blocks held count out)
+answers-from [] begun held out count k h r fits =
+    subst (λ (o : DeskOutcome). Answers (lastLine begun) (o ∷ [])) (end-comes begun held count k h out r)
+    (record {
+      passed = (refl, tt);
+      said = append-nil _ ∙ said-first (lastLine (take count held)) out ∙ last-answer begun held count k h;
+    })
+answers-from (b ∷ bs) begun held out count k h r (f, fits) =
+    let d = blockDesk begun held count k h b out in
+    let t = block-tells begun held count k h b out f in
+    let room : length (d .out) ≡ length out = t .out-whole in
+    let rest =
+    answers-from bs (cutFrom begun b .goes-on) (d .held) (d .out) (d .count) (t .keeps) (omega (arith, t .held-whole)) (omega (arith, room))
+    (subst (λ (n : ℕ). Each (λ (b : List ℕ). 15 * length b ≤ n) bs) (sym room) fits) in
+    subst (λ (o : DeskOutcome). Answers (allLines (cutFrom begun (joined (b ∷ bs)))) (o ∷ calls bs (o .held) (getD (o .answer .values) 0 0) (o .out)))
+    (block-comes begun held count k h b out f)
+    (record {
+      passed = (refl, rest .passed);
+      said = ap (λ (l : List ℕ). l ++ concat-map toPrint (calls bs (d .held) (d .count) (d .out))) (t .says) ∙ blocks-join b bs begun (concat-map toPrint (calls bs (d .held) (d .count) (d .out))) (rest .said);
+    })
+
+-- for every input, wherever it is cut into blocks, with room for 517 bytes of a line and for the answers
+pub reader-answers : (blocks : List (List ℕ)) (held out : List ℕ) → 517 ≤ length held → 15 ≤ length out → Each (Fits out) blocks → AllAnswered (joined blocks) (calls blocks held 0 out)
+unfolding printed
+reader-answers blocks held out h r fits =
+    let a = answers-from blocks [] held out 0 (record { kept = refl; counted = refl }) h r fits in
+    record { none-refused = a .passed; prints = a .said }
