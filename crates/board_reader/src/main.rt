@@ -1,86 +1,220 @@
 // The board reader: board lines on standard input, one price line printed for each.
+use libc::STDERR_FILENO;
 use libc::STDIN_FILENO;
 use libc::STDOUT_FILENO;
 use reader::Answered;
+ghost use Prim.Native.Nat.{_*_, _≤_};
+ghost use mathlib.Core.Path.{_≡_};
+ghost use mathlib.Core.Bool.{true};
+ghost use lib.Dec.{ltb};
+ghost use lib.ListN.{length};
+ghost use Rattle.board_reader.specs.Turns.{Answers, Handed, Sofar, Turns, answersTo, failedBy, gotOf, nothingKept, wentBy};
 
-// What reading a block came to: the bytes kept of the line that goes on; the end of input; or it cannot go on.
-enum Turn {
-    Goes(usize),
-    Ends,
-    Stops,
+// What a read came to: so many bytes, the end of input, an interruption, or a failure.
+enum Got {
+    Bytes(usize),
+    End,
+    Interrupted,
+    Failed,
 }
 
-// Prints the first bytes of a run, and answers whether they are written.
-fn print(out: &[u8], written: usize) -> bool {
-    if out.len() < written {
-        return false;
+// What is kept of the line that goes on: its first bytes, and how many they are.
+struct Kept {
+    bytes: [u8; 517],
+    count: usize,
+}
+
+// How a turn went: the input goes on, it has ended, it cannot be read, or the answers cannot be written.
+enum Went {
+    On,
+    Ended,
+    Unread,
+    Unwritten,
+}
+
+// What a turn came to: what is kept then, and how it went.
+struct Turn {
+    kept: Kept,
+    went: Went,
+}
+
+// How it went by whether the write took the answers, and whether the input ends.
+fn went_by(written: bool, ends: bool) -> Went
+    ensures { λ r. ⌜ r ≡ wentBy «written» «ends» ⌝ }
+{
+    if !written {
+        return Went::Unwritten;
     }
-    io::write_all(STDOUT_FILENO, &out[..written])
+    if ends {
+        return Went::Ended;
+    }
+    Went::On
 }
 
-// Answers a block, and prints the answers to the lines that ended in it.
-fn answer_some(block: &[u8], held: &mut [u8], count: usize, out: &mut [u8]) -> Turn {
-    let answered = reader::block::answer_block(block, held, count, out);
+// Hands answers to the write, and tells how that went. What was kept before the block, the block, and whether the input ends say which answers they have to be.
+fn print(answers: &[u8], kept: Kept, block: &[u8], ends: bool) -> Went
+    requires { ⌜ now answers ≡ answersTo kept (now block) «ends» ⌝ }
+    ensures { λ r. ⌜ Handed «ends» r ⌝ }
+{
+    went_by(io::write_all(STDOUT_FILENO, answers), ends)
+}
+
+// Answers the lines that end in a block, read on from what is kept, and prints the answers.
+fn answer_some(block: &[u8], kept: Kept, out: &mut [u8]) -> Turn
+    requires { ⌜ Sofar kept ⌝ }
+    requires { ⌜ 15 * length (now block) ≤ length (now out) ⌝ }
+    ensures { λ r. ⌜ Answers kept (now (block .entry)) r ⌝ }
+{
+    let mut bytes = kept.bytes;
+    let answered = reader::block::answer_block(block, &mut bytes, kept.count, out);
     match answered {
-        Answered::Refused(_) => Turn::Stops,
-        Answered::Kept(kept, written) => {
-            if print(out, written) {
-                return Turn::Goes(kept);
+        Answered::Refused(_) => Turn {
+            kept,
+            went: Went::Unwritten,
+        },
+        Answered::Kept(count, written) => {
+            let went = print(&out[..written], kept, block, false);
+            Turn {
+                kept: Kept { bytes, count },
+                went,
             }
-            Turn::Stops
         }
     }
+}
+
+// What a read that failed came to, with `error` as errno.
+fn failed(error: i32) -> Got
+    ensures { λ r. ⌜ r ≡ failedBy error ⌝ }
+{
+    if error == libc::EINTR {
+        return Got::Interrupted;
+    }
+    Got::Failed
+}
+
+// What a read into a block came to that answered `got`, with `error` as errno.
+fn taken(got: isize, error: i32, block: &[u8]) -> Got
+    ensures { λ r. ⌜ r ≡ gotOf got error (length (now (block .entry))) ⌝ }
+{
+    if got < 0 {
+        return failed(error);
+    }
+    let count = io::count(got, block);
+    if count == 0 {
+        return Got::End;
+    }
+    Got::Bytes(count)
 }
 
 // Reads once, and answers what came at once.
-fn read_some(block: &mut [u8], held: &mut [u8], count: usize, out: &mut [u8]) -> Turn {
+fn read_some(block: &mut [u8], kept: Kept, out: &mut [u8]) -> Turn
+    requires { ⌜ Sofar kept ⌝ }
+    requires { ⌜ 15 * length (now block) ≤ length (now out) ⌝ }
+    ensures { λ r. ⌜ Turns kept (now (block .exit)) r ⌝ }
+{
     let got = libc::read(STDIN_FILENO, block);
-    if got < 0 {
-        return Turn::Stops;
+    let error = os::errno();
+    let came = taken(got, error, block);
+    match came {
+        Got::Bytes(n) => answer_some(&block[..n], kept, out),
+        Got::End => Turn {
+            kept,
+            went: Went::Ended,
+        },
+        Got::Interrupted => Turn {
+            kept,
+            went: Went::On,
+        },
+        Got::Failed => Turn {
+            kept,
+            went: Went::Unread,
+        },
     }
-    if got == 0 {
-        return Turn::Ends;
-    }
-    let n = io::count(got, block);
-    answer_some(&block[..n], held, count, out)
 }
 
 // Prints the answer to a line without its line feed, if there is one.
-fn print_last(held: &[u8], count: usize, out: &mut [u8]) {
-    let answered = reader::block::answer_end(held, count, out);
+fn print_last(kept: Kept, out: &mut [u8]) -> Went
+    requires { ⌜ Sofar kept ⌝ }
+    requires { ⌜ 15 ≤ length (now out) ⌝ }
+    ensures { λ r. ⌜ Handed true r ⌝ }
+{
+    let bytes = kept.bytes;
+    let answered = reader::block::answer_end(&bytes, kept.count, out);
     match answered {
-        Answered::Refused(_) => (),
-        Answered::Kept(_, written) => {
-            print(out, written);
-        }
+        Answered::Refused(_) => Went::Unwritten,
+        Answered::Kept(_, written) => print(&out[..written], kept, &[0u8; 0], true),
     }
 }
 
-// Reads to the end of input. A proved loop has to end, so it counts its turns down, from a number that no run uses up.
-fn read_all(block: &mut [u8], held: &mut [u8], out: &mut [u8]) {
-    let mut count = 0;
+// What is kept before anything has been read.
+fn nothing_kept() -> Kept
+    ensures { λ r. ⌜ r ≡ nothingKept ⌝ }
+{
+    Kept {
+        bytes: [0; 517],
+        count: 0,
+    }
+}
+
+// Reads to the end of input, and tells how that went. A proved loop has to end, so it counts its turns down, from a number that no run uses up.
+fn read_all(block: &mut [u8], out: &mut [u8]) -> Went
+    requires { ⌜ 15 * length (now block) ≤ length (now out) ⌝ }
+    requires { ⌜ 15 ≤ length (now out) ⌝ }
+{
+    let mut kept = nothing_kept();
     let mut turns = u64::MAX;
     while turns > 0 {
-        let turn = read_some(block, held, count, out);
-        match turn {
-            Turn::Stops => {
-                return;
+        let turn = read_some(block, kept, out);
+        let went = turn.went;
+        kept = turn.kept;
+        match went {
+            Went::Unread => {
+                return Went::Unread;
             }
-            Turn::Ends => {
-                print_last(held, count, out);
-                return;
+            Went::Unwritten => {
+                return Went::Unwritten;
             }
-            Turn::Goes(kept) => {
-                count = kept;
+            Went::Ended => {
+                return print_last(kept, out);
+            }
+            Went::On => {
+                turns -= 1;
             }
         }
-        turns -= 1;
     }
+    Went::Unread
+}
+
+// Says on standard error what failed, if something did.
+fn tell(went: Went) {
+    match went {
+        Went::Unread => os::fail(b"board_reader: reading standard input"),
+        Went::Unwritten => os::fail(b"board_reader: writing standard output"),
+        Went::Ended | Went::On => (),
+    }
+}
+
+// Whether the program was started with more than its own name.
+fn has_arguments(count: usize) -> bool
+    ensures { λ r. ⌜ r ≡ ltb 1 count ⌝ }
+{
+    1 < count
+}
+
+// Reads and answers, with the memory that takes.
+fn answer_input() {
+    let mut block = [0u8; 4096];
+    let mut out = [0u8; 61440];
+    tell(read_all(&mut block, &mut out));
 }
 
 fn main() {
-    let mut block = [0u8; 4096];
-    let mut held = [0u8; 517];
-    let mut out = [0u8; 61440];
-    read_all(&mut block, &mut held, &mut out);
+    if has_arguments(os::arg_count()) {
+        io::write_all(
+            STDERR_FILENO,
+            b"usage: board_reader < FILE\nboard lines on standard input, a price line on standard output for each; it takes no arguments\n",
+        );
+        return;
+    }
+    answer_input();
 }

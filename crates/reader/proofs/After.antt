@@ -5,7 +5,7 @@ use mathlib.Core.Path.{_≡_, refl, ap, sym, _∙_}
 use mathlib.Core.Bool.{Bool, false, true}
 use mathlib.Core.List.{List, [], _∷_, _++_}
 use lib.Dec.{eqb, ltb}
-use lib.ListN.{drop, length, length-append, length-set, set, take, take-append-drop}
+use lib.ListN.{drop, length, length-append, length-set, length-take, set, take, take-append-drop}
 use lib.Seq.{drop-set-lt, length-take-le}
 use borrow.Author.Tests.{ltb-false, ltb-true}
 use Rattle.game.specs.Lists.{concat-map}
@@ -25,7 +25,7 @@ kept-there line held held₀ count k e =
     ∙ ap (λ (l : List ℕ). l ++ drop count held) (sym (k .kept)) ∙ take-append-drop count held
 
 -- what is kept after a cut
-abbrev heldBy : List ℕ → Cut → List ℕ
+abbrev pub heldBy : List ℕ → Cut → List ℕ
 heldBy held cut = heldAfter held (cut .ended) (cut .goes-on)
 
 -- what reading the rest of a block keeps
@@ -68,6 +68,13 @@ held-after (b ∷ bs) line held₀ d k h e = go (eqb b 10) (held-after bs)
         rest [] (d .held) (fed d) (next-line (d .held)) h refl
         ∙ ap (λ (x : List ℕ). heldBy x (cutFrom [] bs)) (sym (kept-there line (d .held) held₀ (d .count) k e))
     go false rest = plain-held b bs line held₀ d k h e rest (ltb (d .count) 517) refl
+
+-- what a block leaves is what it leaves after the whole line that is kept of
+pub held-reads : (block line held₀ held : List ℕ) (count : ℕ) → Keeps line held count → 517 ≤ length held → drop count held₀ ≡ drop count held
+    → heldBy held (cutFrom (take count held) block) ≡ heldBy held₀ (cutFrom line block)
+held-reads block line held₀ held count k h e =
+    sym (held-after block (take count held) held (deskOf held count []) (own-line held count h (omega (arith, k .counted, length-take 517 line))) h refl)
+    ∙ held-after block line held₀ (deskOf held count []) k h e
 
 -- ---- a block, and the end of input
 

@@ -4,16 +4,17 @@ use native.Mathlib.Omega.{arith}
 use mathlib.Core.Path.{_≡_, refl, ap, subst, sym, _∙_}
 use mathlib.Core.List.{List, [], _∷_, _++_, append-assoc, append-nil}
 use mathlib.Core.Option.{Option, none}
-use lib.ListN.{drop, getD, length, length-take, take}
-use lib.Seq.{take-at}
+use lib.ListN.{drop, getD, length, length-append, length-drop, length-replicate, length-take, replicate, take}
+use lib.Seq.{drop-at, take-at}
 use Rattle.game.specs.Lists.{Each, concat-map}
-use Rattle.game.specs.Calls.{Refusal}
+use Rattle.game.specs.Calls.{Answer, Refusal, gives, refuses}
 use Rattle.game.proofs.Members.{concat-map-append}
 use Rattle.reader.specs.Prices.{answerLine}
-use Rattle.reader.specs.Blocks.{Cut, Desk, DeskOutcome, blockCall, cutFrom, deskAfter, endCall, lastLine, printed, unlessDesk}
+use Rattle.reader.specs.Blocks.{Cut, Desk, DeskOutcome, blockCall, cutFrom, deskAfter, endCall, heldAfter, keptOver, lastLine, printed, unlessDesk}
 use Rattle.reader.specs.Bytes.{Room, deskOf}
-use Rattle.reader.specs.Sessions.{AllAnswered, Fits, calls, joined, toPrint}
-use Rattle.reader.proofs.After.{block-desk}
+use Rattle.reader.specs.Sessions.{AllAnswered, Fits, KeptOf, calls, joined, toPrint}
+use Rattle.reader.specs.Answers.{KeptDesk}
+use Rattle.reader.proofs.After.{block-desk, held-reads, heldBy}
 use Rattle.reader.proofs.Cuts.{cut-joins}
 use Rattle.reader.proofs.Desks.{Keeps, Told, block-answers}
 use Rattle.reader.proofs.Kept.{answer-kept}
@@ -110,3 +111,79 @@ unfolding printed
 reader-answers blocks held out h r fits =
     let a = answers-from blocks [] held out 0 (record { kept = refl; counted = refl }) h r fits in
     record { none-refused = a .passed; prints = a .said }
+
+-- ---- what a call left, by its promise
+
+-- the desk that a call left
+abbrev pub left : List ℕ → ℕ → List ℕ → ℕ → Desk
+left held kept out written = record { held = held; count = kept; out = out; written = written }
+
+-- a call whose checks passed left the desk that it is promised
+pub left-passed : (held out : List ℕ) (d : Desk) (o : DeskOutcome) → unlessDesk none held out d ≡ o → (held′ out′ : List ℕ) (kept written : ℕ) → KeptDesk o (gives (kept ∷ written ∷ [])) held′ out′ → left held′ kept out′ written ≡ d
+left-passed held out d o e held′ out′ kept written k =
+    let q = subst (λ (p : DeskOutcome). KeptDesk p (gives (kept ∷ written ∷ [])) held′ out′) (sym e) k in
+    let same-kept : kept ≡ d .count = ap (λ (a : Answer). getD (a .values) 0 0) (q .answers) in
+    let same-written : written ≡ d .written = ap (λ (a : Answer). getD (a .values) 1 0) (q .answers) in
+    λ i. left (q .keeps i) (same-kept i) (q .prints i) (same-written i)
+
+-- and was not refused
+pub passed-not-refused : (held out : List ℕ) (d : Desk) (o : DeskOutcome) → unlessDesk none held out d ≡ o → (held′ out′ : List ℕ) (f : Refusal) → KeptDesk o (refuses f) held′ out′ → ⊥
+passed-not-refused held out d o e held′ out′ f k = let z : _≡_ {A = ℕ} 0 2 = ap (λ (a : Answer). length (a .values)) (k .answers ∙ ap (λ (p : DeskOutcome). p .answer) (sym e)) in omega arith
+
+-- ---- what is kept from block to block
+
+-- what lines that ended leave, and then the line that goes on
+held-then : (held : List ℕ) (ended : List (List ℕ)) (line : List ℕ) → heldAfter held ended line ≡ keptOver (heldAfter held ended []) line
+held-then held [] line = refl
+held-then held (e ∷ es) line = held-then (keptOver held e) es line
+
+-- lines that ended, and then more
+held-joins : (held : List ℕ) (ended more : List (List ℕ)) (line : List ℕ) → heldAfter held (ended ++ more) line ≡ heldAfter (heldAfter held ended []) more line
+held-joins held [] more line = refl
+held-joins held (e ∷ es) more line = held-joins (keptOver held e) es more line
+
+-- a run with room stays as long
+kept-long : (held line : List ℕ) → 517 ≤ length held → length (keptOver held line) ≡ length held
+kept-long held line h =
+    omega (
+      arith,
+      length-append (take 517 line) (drop (length (take 517 line)) held),
+      length-drop (length (take 517 line)) held,
+      length-take 517 line,
+    )
+
+held-long : (held : List ℕ) (ended : List (List ℕ)) (line : List ℕ) → 517 ≤ length held → length (heldAfter held ended line) ≡ length held
+held-long held [] line h = kept-long held line h
+held-long held (e ∷ es) line h = held-long (keptOver held e) es line (omega (arith, kept-long held e h)) ∙ kept-long held e h
+
+module _ (input before held : List ℕ) (count : ℕ) (k : KeptOf input before held count) (room : 517 ≤ length before) where
+  -- the lines of the input so far
+  abbrev sofar : Cut
+  sofar = cutFrom [] input
+
+  -- the run as the lines that ended left it
+  abbrev under : List ℕ
+  under = heldAfter before (sofar .ended) []
+
+  over : held ≡ take 517 (sofar .goes-on) ++ drop count under
+  over = k .held-is ∙ held-then before (sofar .ended) (sofar .goes-on) ∙ ap (λ (n : ℕ). take 517 (sofar .goes-on) ++ drop n under) (sym (k .count-is))
+
+  pub kept-room : length held ≡ length before
+  kept-room = ap length (k .held-is) ∙ held-long before (sofar .ended) (sofar .goes-on) room
+
+  pub kept-keeps : Keeps (sofar .goes-on) held count
+  kept-keeps = record { kept = ap (take count) over ∙ take-at (take 517 (sofar .goes-on)) (drop count under) count (sym (k .count-is)); counted = k .count-is }
+
+  past : drop count under ≡ drop count held
+  past = sym (ap (drop count) over ∙ drop-at (take 517 (sofar .goes-on)) (drop count under) count (sym (k .count-is)))
+
+  -- another block read: what is kept is what the longer input comes to
+  pub kept-on : (block : List ℕ) → KeptOf (input ++ block) before (heldBy held (cutFrom (take count held) block)) (length (take 517 (cutFrom (take count held) block .goes-on)))
+  kept-on block =
+      let longer : 517 ≤ length held = omega (arith, kept-room) in
+      let cut = cutFrom (sofar .goes-on) block in
+      let joins = sym (cut-joins [] input block) in
+      record {
+        held-is = held-reads block (sofar .goes-on) under held count kept-keeps longer past ∙ sym (held-joins before (sofar .ended) (cut .ended) (cut .goes-on)) ∙ ap (heldBy before) joins;
+        count-is = block-tells (sofar .goes-on) held count kept-keeps longer block (replicate (15 * length block) 0) (omega (arith, length-replicate {A = ℕ} (15 * length block) 0)) .keeps .counted ∙ ap (λ (c : Cut). length (take 517 (c .goes-on))) joins;
+      }

@@ -4,7 +4,7 @@ use mathlib.Core.Path.{_≡_}
 use mathlib.Core.List.{List, [], _∷_}
 use lib.ListN.{getD, length, take}
 use Rattle.game.specs.Lists.{Each, concat-map}
-use Rattle.reader.specs.Blocks.{DeskOutcome, blockCall, endCall, printed}
+use Rattle.reader.specs.Blocks.{DeskOutcome, blockCall, cutFrom, deskAfter, endCall, printed}
 
 -- the input that blocks come to
 abbrev pub joined : List (List ℕ) → List ℕ
@@ -27,3 +27,8 @@ Fits out block = 15 * length block ≤ length out
 pub record AllAnswered (input : List ℕ) (outcomes : List DeskOutcome) : Type 0 where
   pub none-refused : Each (λ (o : DeskOutcome). o .answer .number ≡ 0) outcomes
   pub prints : concat-map toPrint outcomes ≡ printed input
+
+-- what is kept of the line that goes on, once an input has been read, in a run that held other bytes before
+pub record KeptOf (input before held : List ℕ) (count : ℕ) : Type 0 where
+  pub held-is : held ≡ deskAfter (cutFrom [] input) before [] .held
+  pub count-is : count ≡ deskAfter (cutFrom [] input) before [] .count

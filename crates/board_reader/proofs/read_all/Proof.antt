@@ -1,22 +1,35 @@
--- `board_reader::read_all` is safe and ends: the turns that are left fall. Assumes nothing.
+-- `board_reader::read_all`: there are blocks such that what is kept is what they come to, and the turns that are left fall. Assumes nothing.
+use Prim.Native.Nat.{ℕ}
 use native.Mathlib.Omega.{arith}
-use mathlib.Core.Path.{_≡_, refl}
+use mathlib.Core.Path.{_≡_, refl, subst, sym}
 use lib.ListN.{length}
 use borrow.Author.Needs.{needs}
+use Rattle.board_reader.specs.Turns.{Sofar}
+use Rattle.board_reader.proofs.Turning.{nothing-sofar, turn-sofar}
 use Rattle.board_reader.proofs.read_all.Statement.{statement}
 use Rattle.board_reader.proofs.read_all.Tie as tie
 
 abbrev Inv-loop : tie.InvT-loop
-Inv-loop block₀ held₀ out₀ count₀ turns₀ block held out count turns = (length block ≡ length block₀) × (length held ≡ length held₀) × (length out ≡ length out₀)
+Inv-loop block₀ out₀ kept₀ turns₀ block out kept turns = Sofar kept × (length block ≡ length block₀) × (length out ≡ length out₀)
 
 abbrev μ-loop : tie.MeasureT-loop
-μ-loop block₀ held₀ out₀ count₀ turns₀ block held out count turns = turns
+μ-loop block₀ out₀ kept₀ turns₀ block out kept turns = turns
+
+nothing-kept-requires : tie.Need-nothing-kept-requires Inv-loop μ-loop
+nothing-kept-requires c κs = tt
 
 loop-holds : tie.Need-loop-holds Inv-loop μ-loop
-loop-holds c = (refl, refl, refl)
+loop-holds c = (subst Sofar (sym (c .nothing-kept .ensures)) nothing-sofar, refl, refl)
 
 read-some-requires : tie.Need-read-some-requires Inv-loop μ-loop
-read-some-requires c κs = tt
+read-some-requires c κs =
+    let s = c .before .before .before .before .before .before .before in
+    let l = c .before .before .before .loop in
+    (l .inv .0, omega (arith, s .pre .0, l .inv .1, l .inv .2))
+
+-- what is kept after the turn
+sofar : (r : tie.After-read-some Inv-loop μ-loop) → Sofar (r .read-some .result .kept)
+sofar r = let l = r .before .before .before .before .loop in turn-sofar (l .kept) (l .inv .0) (r .read-some .last .0) (r .read-some .result) (r .read-some .ensures)
 
 enum-told : tie.Need-enum-told Inv-loop μ-loop
 enum-told c = search needs
@@ -27,20 +40,28 @@ same-length c = search needs
 same-length-2 : tie.Need-same-length-2 Inv-loop μ-loop
 same-length-2 c = search needs
 
-same-length-3 : tie.Need-same-length-3 Inv-loop μ-loop
-same-length-3 c = search needs
-
 returns : tie.Need-returns Inv-loop μ-loop
 returns c = tt
 
 enum-told-2 : tie.Need-enum-told-2 Inv-loop μ-loop
 enum-told-2 c = search needs
 
-print-last-requires : tie.Need-print-last-requires Inv-loop μ-loop
-print-last-requires c κs = tt
+same-length-3 : tie.Need-same-length-3 Inv-loop μ-loop
+same-length-3 c = search needs
 
 same-length-4 : tie.Need-same-length-4 Inv-loop μ-loop
 same-length-4 c = search needs
+
+returns-2 : tie.Need-returns-2 Inv-loop μ-loop
+returns-2 c = tt
+
+enum-told-3 : tie.Need-enum-told-3 Inv-loop μ-loop
+enum-told-3 c = search needs
+
+print-last-requires : tie.Need-print-last-requires Inv-loop μ-loop
+print-last-requires c κs =
+    let r = c .before .before .before .before .before .before .before .before in
+    (sofar r, omega (arith, r .before .before .before .before .before .before .before .before .pre .1, r .before .before .before .before .loop .inv .2, r .read-some .kept .1 .1 .0))
 
 same-length-5 : tie.Need-same-length-5 Inv-loop μ-loop
 same-length-5 c = search needs
@@ -48,11 +69,11 @@ same-length-5 c = search needs
 same-length-6 : tie.Need-same-length-6 Inv-loop μ-loop
 same-length-6 c = search needs
 
-returns-2 : tie.Need-returns-2 Inv-loop μ-loop
-returns-2 c = tt
+returns-3 : tie.Need-returns-3 Inv-loop μ-loop
+returns-3 c = tt
 
-enum-known-turn : tie.Need-enum-known-turn Inv-loop μ-loop
-enum-known-turn c = search needs
+enum-told-4 : tie.Need-enum-told-4 Inv-loop μ-loop
+enum-told-4 c = search needs
 
 sub-turns : tie.Need-sub-turns Inv-loop μ-loop
 sub-turns c = omega arith
@@ -61,7 +82,10 @@ loop-less : tie.Need-loop-less Inv-loop μ-loop
 loop-less c = omega arith
 
 loop-again : tie.Need-loop-again Inv-loop μ-loop
-loop-again c = search needs
+loop-again c =
+    let r = c .before .before .before .before .before .before .before in
+    let l = r .before .before .before .before .loop in
+    (sofar r, omega (arith, l .inv .1, r .read-some .kept .0), omega (arith, l .inv .2, r .read-some .kept .1 .1 .0))
 
 same-length-7 : tie.Need-same-length-7 Inv-loop μ-loop
 same-length-7 c = search needs
@@ -69,11 +93,8 @@ same-length-7 c = search needs
 same-length-8 : tie.Need-same-length-8 Inv-loop μ-loop
 same-length-8 c = search needs
 
-same-length-9 : tie.Need-same-length-9 Inv-loop μ-loop
-same-length-9 c = search needs
-
-returns-3 : tie.Need-returns-3 Inv-loop μ-loop
-returns-3 c = tt
+returns-4 : tie.Need-returns-4 Inv-loop μ-loop
+returns-4 c = tt
 
 pub read-all-spec : {M : Type 1} → statement M
 read-all-spec =
@@ -81,24 +102,26 @@ read-all-spec =
     (tie.spec
     Inv-loop
     μ-loop
+    nothing-kept-requires
     loop-holds
     read-some-requires
     enum-told
     same-length
     same-length-2
-    same-length-3
     returns
     enum-told-2
-    print-last-requires
+    same-length-3
     same-length-4
+    returns-2
+    enum-told-3
+    print-last-requires
     same-length-5
     same-length-6
-    returns-2
-    enum-known-turn
+    returns-3
+    enum-told-4
     sub-turns
     loop-less
     loop-again
     same-length-7
     same-length-8
-    same-length-9
-    returns-3)
+    returns-4)
