@@ -110,6 +110,11 @@ impl<'a> Lent<'a> {
         }
     }
 
+    /// The five numbers of each cell, as the call before left them.
+    pub fn work(&self) -> &[i32] {
+        &self.work
+    }
+
     pub fn three_bv(&mut self) -> Answer {
         let mut units = 0;
         let number = call!(lavgerin_three_bv, self, [], [&mut units]);
