@@ -1,7 +1,6 @@
 //! Holds ours beside the Rust on many boards, all three ways, clicks and cells, and stops at the first difference.
 mod boards;
 mod original;
-#[cfg_attr(not(target_arch = "x86_64"), path = "afar.rs")]
 mod ours;
 
 use boards::{Board, Dice};
