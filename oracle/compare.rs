@@ -1,9 +1,10 @@
-//! Holds ours beside the Rust on many boards, all three ways, and stops at the first difference.
+//! Holds ours beside the Rust on many boards, all three ways, clicks and cells, and stops at the first difference.
 mod boards;
 mod original;
 mod ours;
 
 use boards::{Board, Dice};
+use original::Played;
 use original::safe_board; // where the Rust looks for it
 use ours::{Answer, Lent};
 
@@ -19,11 +20,8 @@ struct Compared {
 }
 
 /// Ends at a difference, with the board.
-fn same(board: &Board, what: &str, ours: Answer, expected: Answer) {
-    if ours == expected {
-        return;
-    }
-    println!("{what}: ours answers {ours:?}, expected {expected:?}");
+fn differs(board: &Board, told: String) -> ! {
+    println!("{told}");
     println!("{} rows, {} columns:", board.rows, board.columns);
     for row in board.by_rows() {
         println!("{row:?}");
@@ -31,27 +29,62 @@ fn same(board: &Board, what: &str, ours: Answer, expected: Answer) {
     std::process::exit(1);
 }
 
-/// A random search beside the Rust's; answers the bytes used, if they were enough.
+/// Ends where the answers differ.
+fn same(board: &Board, what: &str, ours: Answer, expected: Answer) {
+    if ours != expected {
+        differs(
+            board,
+            format!("{what}: ours answers {ours:?}, expected {expected:?}"),
+        );
+    }
+}
+
+/// Ends where a cell's labels, premium, state or last number differ.
+fn same_cells(board: &Board, what: &str, ours: &[i32], expected: &[i32]) {
+    if ours == expected {
+        return;
+    }
+    let mut cells = ours.chunks(5).zip(expected.chunks(5)).enumerate();
+    let (index, (ours, expected)) = cells
+        .find(|(_, (ours, expected))| ours != expected)
+        .expect("work areas of one length");
+    differs(
+        board,
+        format!("{what}, cell {index}: ours has {ours:?}, expected {expected:?}"),
+    );
+}
+
+/// A round's clicks and cells beside the Rust's, and its list replayed.
+fn same_round(board: &Board, what: &str, lent: &mut Lent, ours: Answer, rust: &Played, used: u64) {
+    let clicks = rust.clicks;
+    same(board, what, ours, (0, clicks, used));
+    same_cells(board, what, lent.work(), &rust.cells);
+    let what = format!("replay of {what}");
+    same(board, &what, lent.replay(clicks), (0, clicks, 0));
+    same_cells(board, &what, lent.work(), &rust.cells);
+}
+
+/// A random search beside the Rust's, with the cells of its last round; answers the bytes used, if they were enough.
 fn search(total: &mut Compared, board: &Board, draws: &[u8], rounds: usize) -> Option<u64> {
-    let rust = original::random_search(board, draws, rounds);
-    let expected = rust.map_or((DRAWS, 0, 0), |(clicks, used)| (0, clicks, used));
     let what = format!("random search, {rounds} rounds, draws {draws:?}");
     let mut lent = Lent::new(board);
-    same(board, &what, lent.random_search(draws, rounds), expected);
-    if rounds == 1 {
-        same(board, &what, lent.random_round(draws), expected);
-        if let Some((clicks, _)) = rust {
-            same(
-                board,
-                "replay of the random round",
-                lent.replay(clicks),
-                (0, clicks, 0),
-            );
-        }
-    }
+    let ours = lent.random_search(draws, rounds);
     total.searches += 1;
-    total.dry += rust.is_none() as usize;
-    rust.map(|(_, used)| used)
+    let Some((rust, used)) = original::searched(board, draws, rounds) else {
+        same(board, &what, ours, (DRAWS, 0, 0));
+        if rounds == 1 {
+            same(board, &what, lent.random_round(draws), (DRAWS, 0, 0));
+        }
+        total.dry += 1;
+        return None;
+    };
+    same(board, &what, ours, (0, rust.clicks, used));
+    same_cells(board, &what, lent.work(), &rust.cells);
+    if rounds == 1 {
+        let ours = lent.random_round(draws);
+        same_round(board, "random round", &mut lent, ours, &rust, used);
+    }
+    Some(used)
 }
 
 /// Boards above so many cells are played with fewer rounds and draws: a round takes the Rust seconds there.
@@ -60,29 +93,14 @@ const LARGE: usize = 4096;
 /// A board all three ways: with more draws than are needed, with fewer, and unless it is large with just enough and with one byte too few.
 fn compare(total: &mut Compared, dice: &mut Dice, board: &Board, rounds: usize) {
     let mut lent = Lent::new(board);
-    let greedy = original::greedy(board);
-    same(board, "greedy", lent.greedy(), (0, greedy, 0));
-    same(
-        board,
-        "replay of greedy",
-        lent.replay(greedy),
-        (0, greedy, 0),
-    );
-    let openings_first = original::openings_first(board);
-    same(
-        board,
-        "openings-first",
-        lent.openings_first(),
-        (0, openings_first, 0),
-    );
-    same(
-        board,
-        "replay of openings-first",
-        lent.replay(openings_first),
-        (0, openings_first, 0),
-    );
+    let greedy = original::played(board, false);
+    let ours = lent.greedy();
+    same_round(board, "greedy", &mut lent, ours, &greedy, 0);
+    let openings_first = original::played(board, true);
+    let ours = lent.openings_first();
+    same_round(board, "openings-first", &mut lent, ours, &openings_first, 0);
     let (number, units, _) = lent.three_bv();
-    let most = greedy.max(openings_first).max(units);
+    let most = greedy.clicks.max(openings_first.clicks).max(units);
     same(
         board,
         "3BV, at least the clicks",
@@ -185,6 +203,22 @@ fn league(total: &mut Compared, dice: &mut Dice) {
     }
 }
 
+/// Searches of up to a hundred rounds: sides up to 12, then league boards with the hundred.
+fn searches(total: &mut Compared, dice: &mut Dice) {
+    for _ in 0..1000 {
+        let (rows, columns) = (dice.from_to(1, 12), dice.from_to(1, 12));
+        let percent = dice.from_to(0, 40);
+        let board = varied(dice, rows, columns, percent);
+        let rounds = dice.from_to(4, 100);
+        compare(total, dice, &board, rounds);
+    }
+    for _ in 0..40 {
+        let percent = dice.from_to(10, 30);
+        let board = Board::plain(dice, 16, 30, percent);
+        compare(total, dice, &board, 100);
+    }
+}
+
 /// 255 by 255, from no mines to nothing else.
 fn largest(total: &mut Compared, dice: &mut Dice) {
     for percent in [0, 1, 2, 5, 10, 15, 20, 30, 90, 99, 100] {
@@ -225,6 +259,9 @@ fn run() {
         shapes(total, &mut dice, 40, 3000)
     });
     part(&mut whole, "16 by 30", |total| league(total, &mut dice));
+    part(&mut whole, "searches of up to 100 rounds", |total| {
+        searches(total, &mut dice)
+    });
     part(&mut whole, "sides up to 255", |total| {
         shapes(total, &mut dice, 255, 48)
     });
@@ -235,7 +272,7 @@ fn run() {
         dry,
     } = whole;
     println!(
-        "{boards} boards compared, greedy, openings-first and {searches} random searches, {dry} of them dry: no difference"
+        "{boards} boards compared, clicks and cells of greedy, openings-first and {searches} random searches, {dry} of them dry: no difference"
     );
 }
 

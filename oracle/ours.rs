@@ -1,102 +1,28 @@
-//! Ours, through the C names.
+//! Ours, by the C names: linked with the archive, or afar, in a program of its own, where the processor is none that the archive is for.
 use crate::boards::Board;
 
-#[link(name = "lavgerin", kind = "static")]
-unsafe extern "C" {
-    fn lavgerin_three_bv(
-        rows: usize,
-        columns: usize,
-        grid: *const i32,
-        grid_length: usize,
-        work: *mut i32,
-        work_length: usize,
-        units: &mut u64,
-    ) -> u8;
-    fn lavgerin_greedy(
-        rows: usize,
-        columns: usize,
-        grid: *const i32,
-        grid_length: usize,
-        work: *mut i32,
-        work_length: usize,
-        list: *mut u32,
-        list_length: usize,
-        clicks: &mut u64,
-    ) -> u8;
-    fn lavgerin_openings_first(
-        rows: usize,
-        columns: usize,
-        grid: *const i32,
-        grid_length: usize,
-        work: *mut i32,
-        work_length: usize,
-        list: *mut u32,
-        list_length: usize,
-        clicks: &mut u64,
-    ) -> u8;
-    fn lavgerin_random_round(
-        rows: usize,
-        columns: usize,
-        grid: *const i32,
-        grid_length: usize,
-        work: *mut i32,
-        work_length: usize,
-        list: *mut u32,
-        list_length: usize,
-        draws: *const u8,
-        draws_length: usize,
-        clicks: &mut u64,
-        used: &mut u64,
-    ) -> u8;
-    fn lavgerin_random_search(
-        rows: usize,
-        columns: usize,
-        grid: *const i32,
-        grid_length: usize,
-        work: *mut i32,
-        work_length: usize,
-        draws: *const u8,
-        draws_length: usize,
-        rounds: usize,
-        clicks: &mut u64,
-        used: &mut u64,
-    ) -> u8;
-    fn lavgerin_replay(
-        rows: usize,
-        columns: usize,
-        grid: *const i32,
-        grid_length: usize,
-        work: *mut i32,
-        work_length: usize,
-        list: *const u32,
-        list_length: usize,
-        count: usize,
-        made: &mut u64,
-        closed: &mut u64,
-    ) -> u8;
-}
+#[cfg_attr(afar, path = "afar.rs")]
+#[cfg_attr(not(afar), path = "linked.rs")]
+mod names;
 
 /// What a call returned, and its two answers, 0 where it has none.
 pub type Answer = (u8, u64, u64);
+
+/// The calls; oracle/calls.c knows them by their places here.
+enum Call {
+    ThreeBv,
+    Greedy,
+    OpeningsFirst,
+    RandomRound,
+    RandomSearch,
+    Replay,
+}
 
 /// A board and the memory lent for it.
 pub struct Lent<'a> {
     board: &'a Board,
     work: Vec<i32>,
     list: Vec<u32>,
-}
-
-/// A call: the board and the work area first, then what else it takes, then its answers.
-macro_rules! call {
-    ($name:ident, $lent:expr, [$($more:expr),*], [$($answer:expr),*]) => {
-        // SAFETY: each pointer is of a vector with the length beside it, and none of them overlap.
-        unsafe {
-            $name(
-                $lent.board.rows, $lent.board.columns, $lent.board.values.as_ptr(), $lent.board.values.len(),
-                $lent.work.as_mut_ptr(), $lent.work.len(), $($more,)* $($answer),*
-            )
-        }
-    };
 }
 
 impl<'a> Lent<'a> {
@@ -110,70 +36,33 @@ impl<'a> Lent<'a> {
         }
     }
 
+    /// The five numbers of each cell, as the call before left them.
+    pub fn work(&self) -> &[i32] {
+        &self.work
+    }
+
     pub fn three_bv(&mut self) -> Answer {
-        let mut units = 0;
-        let number = call!(lavgerin_three_bv, self, [], [&mut units]);
-        (number, units, 0)
+        names::call(self, Call::ThreeBv, &[], 0)
     }
 
     pub fn greedy(&mut self) -> Answer {
-        let mut clicks = 0;
-        let number = call!(
-            lavgerin_greedy,
-            self,
-            [self.list.as_mut_ptr(), self.list.len()],
-            [&mut clicks]
-        );
-        (number, clicks, 0)
+        names::call(self, Call::Greedy, &[], 0)
     }
 
     pub fn openings_first(&mut self) -> Answer {
-        let mut clicks = 0;
-        let number = call!(
-            lavgerin_openings_first,
-            self,
-            [self.list.as_mut_ptr(), self.list.len()],
-            [&mut clicks]
-        );
-        (number, clicks, 0)
+        names::call(self, Call::OpeningsFirst, &[], 0)
     }
 
     pub fn random_round(&mut self, draws: &[u8]) -> Answer {
-        let (mut clicks, mut used) = (0, 0);
-        let number = call!(
-            lavgerin_random_round,
-            self,
-            [
-                self.list.as_mut_ptr(),
-                self.list.len(),
-                draws.as_ptr(),
-                draws.len()
-            ],
-            [&mut clicks, &mut used]
-        );
-        (number, clicks, used)
+        names::call(self, Call::RandomRound, draws, 0)
     }
 
     pub fn random_search(&mut self, draws: &[u8], rounds: usize) -> Answer {
-        let (mut clicks, mut used) = (0, 0);
-        let number = call!(
-            lavgerin_random_search,
-            self,
-            [draws.as_ptr(), draws.len(), rounds],
-            [&mut clicks, &mut used]
-        );
-        (number, clicks, used)
+        names::call(self, Call::RandomSearch, draws, rounds)
     }
 
     /// Replays the first moves of the list that the call before wrote.
     pub fn replay(&mut self, count: u64) -> Answer {
-        let (mut made, mut closed) = (0, 0);
-        let number = call!(
-            lavgerin_replay,
-            self,
-            [self.list.as_ptr(), self.list.len(), count as usize],
-            [&mut made, &mut closed]
-        );
-        (number, made, closed)
+        names::call(self, Call::Replay, &[], count as usize)
     }
 }

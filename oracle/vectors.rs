@@ -2,6 +2,7 @@
 //!
 //! A number is another seed; a second one asks for every grid up to 4 by 4 first, and then for so many times as many boards.
 mod boards;
+#[allow(dead_code)]
 mod original;
 
 use boards::{Board, Dice};
