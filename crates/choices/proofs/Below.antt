@@ -1,4 +1,4 @@
--- No closed unit below a place, one cell after the other; what the search has found when it ends. Assumes nothing.
+-- No closed unit below a place, one cell after the other; a cell and its column; what the search has found when it ends. Assumes nothing.
 use Prim.Native.Nat.{ℕ, _*_, _+_, _<_}
 use native.Mathlib.Omega.{arith}
 use native.Mathlib.Nat.{mul-comm}
@@ -14,11 +14,11 @@ use Rattle.choices.specs.declared.Found.{Found}
 use Rattle.choices.specs.declared.Found.the-variants.{At, Nothing}
 use Rattle.choices.specs.Picks.{foundColumn, foundFirst}
 use Rattle.choices.specs.Tests.{NoUnitBelow, unitAt}
-use Rattle.game.specs.Grid.{Grid, columnOf, index}
+use Rattle.game.specs.Grid.{Grid, columnOf, index, size}
 use Rattle.game.specs.Lists.{keep, range}
 use Rattle.game.specs.Position.{Position}
 use Rattle.game.specs.Rounds.{unitCells}
-use Rattle.game.proofs.Squares.{index-column}
+use Rattle.game.proofs.Squares.{index-column, index-lt}
 use Rattle.marks.proofs.Held.{held-numbers}
 use Rattle.choices.proofs.Held.{units-there}
 use Rattle.choices.proofs.Passing.{found-at, found-none}
@@ -34,6 +34,14 @@ one-more w k m n e r = record { none = go }
         ]
 
 -- ---- what is found
+
+-- the cell in a row of a column
+pub in-column : (rows columns : ℕ) (g : Grid) → g .rows ≡ rows → g .columns ≡ columns → (row c : ℕ) → row < rows → c < columns
+    → (c * rows + row < size g) × (columnOf g (c * rows + row) ≡ c)
+in-column rows columns g r q row c h k =
+    let l : row < g .rows = omega arith in
+    let e : index g row c ≡ c * rows + row = ap (λ (n : ℕ). c * n + row) r in
+    (subst (λ (n : ℕ). n < size g) e (index-lt g row c l (omega arith)), sym (ap (columnOf g) e) ∙ index-column g row c l)
 
 -- the cell is the first closed unit, and the column is its own
 abbrev pub IsLowest : ℕ → ℕ → List ℤ → Found → ℕ → Type 0
@@ -62,8 +70,5 @@ module _ (rows columns : ℕ) (w : List ℤ) where
       → IsLowest rows columns w (At (column * rows + row)) column
   at-lowest column row h k u n g s old t = (
     found-at (unitAt w) (rows * columns) (column * rows + row) (cell-below rows columns row column k h) (subst T u tt) (n .none) ∙ sym (ap foundFirst (all-cells g s old t)),
-    sym (ap (columnOf g) same ∙ index-column g row column (omega (arith, t .rows-are))),
+    sym (in-column rows columns g (t .rows-are) (t .columns-are) row column k h .1),
   )
-    where
-      same : column * rows + row ≡ index g row column
-      same = ap (λ (r : ℕ). column * r + row) (sym (t .rows-are))

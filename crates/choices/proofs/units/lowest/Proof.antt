@@ -1,8 +1,7 @@
 -- `choices::units::lowest`: no cell passed is a closed unit; the search ends past the last column, or at the first one. Assumes nothing.
 use Prim.Native.Nat.{_+_, _-_, _*_, _≤_, _<_}
 use native.Mathlib.Omega.{arith}
-use native.Mathlib.Nat.{add-zero, suc-mul}
-use native.Mathlib.Numerals.{add-one}
+use native.Mathlib.Nat.{add-zero}
 use mathlib.Core.Path.{_≡_, refl, sym, _∙_}
 use Rattle.area.proofs.Cells.{cell-below, cells-few}
 use Rattle.choices.specs.declared.Found.the-variants.{Nothing}
@@ -71,11 +70,7 @@ grid-less : tie.Need-grid-less Inv-loop μ-loop Inv-grid μ-grid
 grid-less c = omega arith
 
 grid-again : tie.Need-grid-again Inv-loop μ-loop Inv-grid μ-grid
-grid-again c =
-    let a = c .before .before .before .before .args in
-    let x = c .before .before .before .grid .column in
-    let e : (x + 1) * a .rows ≡ x * a .rows + c .before .loop .row = rw (add-one, suc-mul) (omega arith) in
-    (omega arith, c .before .loop .inv .2, rw e (c .before .loop .inv .3))
+grid-again c = (omega arith, c .before .loop .inv .2, record { none = λ j h t. c .before .loop .inv .3 .none j (omega arith) t })
 
 returns : tie.Need-returns Inv-loop μ-loop Inv-grid μ-grid
 returns c =

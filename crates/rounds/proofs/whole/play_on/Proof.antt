@@ -68,8 +68,8 @@ loop-again c =
       midway-goes-on (a .opened-only) (a .rows) (a .columns) (a .work .now) (a .list .now) (a .state) (l .loop .work) (l .loop .list) (l .loop .current) (l .loop .inv .4)
           (x .last .0) (x .last .1 .1 .1 .0) (x .result .state) (λ g s old st h e. x .ensures g s old st h e .made) (n .if1 .taken),
       q .kept,
-      low .0,
-      low .1,
+      omega (arith, low .0),
+      record { none = λ j h t. low .1 .none j (omega arith) t },
     )
 
 same-length : tie.Need-same-length Inv-loop μ-loop
