@@ -1,44 +1,74 @@
--- No closed unit below a place, one cell after the other or column after column. Assumes nothing.
-use Prim.Native.Nat.{ℕ, _*_, _+_, _-_, _<_, _≤_}
+-- No closed unit below a place, one cell after the other; a cell and its column; what the search has found when it ends. Assumes nothing.
+use Prim.Native.Nat.{ℕ, _*_, _+_, _<_}
 use native.Mathlib.Omega.{arith}
-use native.Mathlib.Decide.{decLt, ℕ-discrete}
-use native.Mathlib.Nat.{suc-mul}
-use native.Mathlib.Numerals.{add-one}
-use mathlib.Core.Path.{_≡_, subst}
-use mathlib.Core.Bool.{false}
+use native.Mathlib.Nat.{mul-comm}
+use native.Mathlib.Decide.{ℕ-discrete}
+use mathlib.Core.Path.{_∙_, _≡_, ap, ap₂, subst, sym}
+use mathlib.Core.Bool.{false, true}
 use mathlib.Core.List.{List}
 use lib.Dec.{T}
 use lib.IntN.{ℤ}
-use Rattle.game.specs.Lists.{range}
-use Rattle.game.proofs.Members.{range-has, some-yes}
-use Rattle.choices.specs.Tests.{NoUnitBelow, columnHasUnit, unitAt}
+use Rattle.area.specs.Stages.{Stands}
+use Rattle.area.proofs.Cells.{cell-below}
+use Rattle.choices.specs.declared.Found.{Found}
+use Rattle.choices.specs.declared.Found.the-variants.{At, Nothing}
+use Rattle.choices.specs.Picks.{foundColumn, foundFirst}
+use Rattle.choices.specs.Tests.{NoUnitBelow, unitAt}
+use Rattle.game.specs.Grid.{Grid, columnOf, index, size}
+use Rattle.game.specs.Lists.{keep, range}
+use Rattle.game.specs.Position.{Position}
+use Rattle.game.specs.Rounds.{unitCells}
+use Rattle.game.proofs.Squares.{index-column, index-lt}
+use Rattle.marks.proofs.Held.{held-numbers}
+use Rattle.choices.proofs.Held.{units-there}
+use Rattle.choices.proofs.Passing.{found-at, found-none}
 
--- no cell below a place is a closed unit
-abbrev pub NoneBelow : List ℤ → ℕ → Type 0
-NoneBelow w k = (j : ℕ) → j < k → T (unitAt w j) → ⊥
-
-pub one-more : (w : List ℤ) (k m : ℕ) → NoneBelow w k → unitAt w k ≡ false → m ≡ k + 1 → NoneBelow w m
-one-more w k m n e r j h t =
-    elim (ℕ-discrete j k) [
-      | yes q ↦ subst T e (rw q at t)
-      | no q ↦ n j (omega arith) t
-    ]
-
--- a column more that has none
-pub column-more : (w : List ℤ) (rows column : ℕ) → NoUnitBelow w (column * rows) → columnHasUnit w rows column ≡ false → NoUnitBelow w ((column + 1) * rows)
-column-more w rows column n e = record { none = go }
+pub one-more : (w : List ℤ) (k m : ℕ) → NoUnitBelow w k → unitAt w k ≡ false → m ≡ k + 1 → NoUnitBelow w m
+one-more w k m n e r = record { none = go }
   where
-    next : (column + 1) * rows ≡ column * rows + rows
-    next = rw (add-one, suc-mul)
-
-    there : (j : ℕ) → column * rows ≤ j → j ≡ column * rows + (j - column * rows)
-    there j l = omega arith
-
-    go : NoneBelow w ((column + 1) * rows)
+    go : (j : ℕ) → j < m → T (unitAt w j) → ⊥
     go j h t =
-        elim (decLt j (column * rows)) [
-          | yes l ↦ n .none j l t
-          | no l ↦ subst T e
-              (some-yes (λ row. unitAt w (column * rows + row)) (j - column * rows) (range 0 rows) (range-has 0 rows (j - column * rows) (omega arith) (omega (arith, next)))
-              (subst (λ (i : ℕ). T (unitAt w i)) (there j (omega arith)) t))
+        elim (ℕ-discrete j k) [
+          | yes q ↦ subst T e (rw q at t)
+          | no q ↦ n .none j (omega arith) t
         ]
+
+-- ---- what is found
+
+-- the cell in a row of a column
+pub in-column : (rows columns : ℕ) (g : Grid) → g .rows ≡ rows → g .columns ≡ columns → (row c : ℕ) → row < rows → c < columns
+    → (c * rows + row < size g) × (columnOf g (c * rows + row) ≡ c)
+in-column rows columns g r q row c h k =
+    let l : row < g .rows = omega arith in
+    let e : index g row c ≡ c * rows + row = ap (λ (n : ℕ). c * n + row) r in
+    (subst (λ (n : ℕ). n < size g) e (index-lt g row c l (omega arith)), sym (ap (columnOf g) e) ∙ index-column g row c l)
+
+-- the cell is the first closed unit, and the column is its own
+abbrev pub IsLowest : ℕ → ℕ → List ℤ → Found → ℕ → Type 0
+IsLowest rows columns w found column =
+    (g : Grid) (s : Position) (old : List ℤ) → Stands rows columns g s old w → (found ≡ foundFirst (unitCells g s)) × (column ≡ foundColumn g found)
+
+module _ (rows columns : ℕ) (w : List ℤ) where
+  -- the cells that were searched are those of the grid
+  all-cells : (g : Grid) (s : Position) (old : List ℤ) → Stands rows columns g s old w → unitCells g s ≡ keep (unitAt w) (range 0 (rows * columns))
+  all-cells g s old t =
+      units-there g s w (held-numbers rows columns g s old w t)
+      ∙ ap (λ (k : ℕ). keep (unitAt w) (range 0 k)) (ap₂ _*_ (t .rows-are) (t .columns-are))
+
+  -- past the last column
+  pub nothing-lowest : (found : Found) (column : ℕ) → found ≡ Nothing → column ≡ columns → NoUnitBelow w (column * rows) → IsLowest rows columns w found column
+  nothing-lowest found column e q n g s old t = (
+    e ∙ found-none (unitAt w) (rows * columns) (λ j h. n .none j (omega (arith, size))) ∙ sym (ap foundFirst (all-cells g s old t)),
+    q ∙ sym (t .columns-are) ∙ sym (ap (foundColumn g) e),
+  )
+    where
+      size : column * rows ≡ rows * columns
+      size = ap (λ (k : ℕ). k * rows) q ∙ mul-comm columns rows
+
+  -- at the first closed unit
+  pub at-lowest : (column row : ℕ) → column < columns → row < rows → true ≡ unitAt w (column * rows + row) → NoUnitBelow w (column * rows + row)
+      → IsLowest rows columns w (At (column * rows + row)) column
+  at-lowest column row h k u n g s old t = (
+    found-at (unitAt w) (rows * columns) (column * rows + row) (cell-below rows columns row column k h) (subst T u tt) (n .none) ∙ sym (ap foundFirst (all-cells g s old t)),
+    sym (in-column rows columns g (t .rows-are) (t .columns-are) row column k h .1),
+  )

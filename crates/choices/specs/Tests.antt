@@ -4,7 +4,6 @@ use mathlib.Core.Bool.{Bool, not, _&&_, _||_}
 use mathlib.Core.List.{List}
 use lib.Dec.{T, eqb}
 use lib.IntN.{ℤ}
-use Rattle.game.specs.Lists.{range, some-of}
 use Rattle.area.specs.Numbers.{numberAt}
 
 -- a step may look at the cell: it is opened, unless closed cells count too
@@ -19,10 +18,6 @@ topAt openedOnly top w i = lookedAt openedOnly w i && eqb (numberAt w (5 * i + 2
 abbrev pub unitAt : List ℤ → ℕ → Bool
 unitAt w i =
     eqb (numberAt w (5 * i + 3)) 0 && not (eqb (numberAt w (5 * i + 4)) 0) && (eqb (numberAt w (5 * i + 4)) 1 || eqb (numberAt w (5 * i)) 0)
-
--- such a cell stands in the column
-abbrev pub columnHasUnit : List ℤ → ℕ → ℕ → Bool
-columnHasUnit w rows column = some-of (λ row. unitAt w (column * rows + row)) (range 0 rows)
 
 -- no closed unit has an index below k
 pub record NoUnitBelow (w : List ℤ) (k : ℕ) : Type 0 where

@@ -9,6 +9,12 @@ pub enum Found {
     Nothing,
 }
 
+// The lowest cell that a search by columns finds, and its column; past the last column if it finds nothing.
+pub struct Lowest {
+    pub found: Found,
+    pub column: usize,
+}
+
 // The highest raised premium so far, and the first column that has it.
 pub struct Best {
     pub top: usize,

@@ -13,6 +13,7 @@ use Rattle.area.specs.Numbers.{numberAt}
 use Rattle.area.specs.Stages.{Stands, raised}
 use Rattle.choices.specs.Tests.{lookedAt}
 use Rattle.choices.specs.Tops.{columnTop, columnUnits}
+use Rattle.choices.proofs.Below.{in-column}
 use Rattle.choices.proofs.Columns.{column-low}
 use Rattle.marks.proofs.Held.{held-numbers}
 use Rattle.choices.proofs.Tops.{none-reaches}
@@ -24,7 +25,7 @@ use Rattle.game.specs.Rounds.{topCells}
 use Rattle.game.proofs.Counts.{count-mono}
 use Rattle.game.proofs.Reveal.{Revealed, opens, revealed, stays, sweeps}
 use Rattle.game.proofs.Truth.{and-both, and-left, and-right}
-use Rattle.rounds.proofs.Quiet.{in-column, same-cost, same-openings, same-units}
+use Rattle.rounds.proofs.Quiet.{same-cost, same-openings, same-units}
 
 module _ (g : Grid) (s : Position) (i : ℕ) (is-safe : T (safe g i)) (shut : T (closed s i)) (numbered : T (zeroCell g i) → ⊥) where
   -- it alone is opened

@@ -16,8 +16,9 @@ use Rattle.game.specs.Moves.{left}
 use Rattle.game.specs.Position.{Position, closed}
 use Rattle.game.specs.Rounds.{choice, movesAt, stepOf, topCells}
 use Rattle.moves.specs.Promises.{Made}
-use Rattle.rounds.specs.Promises.{MadeKept, StepKept}
+use Rattle.rounds.specs.Promises.{MadeKept, StepKept, columnAfter}
 use Rattle.moves.specs.declared.State.{State}
+use Rattle.rounds.specs.declared.Stepped.{Stepped}
 use Rattle.rounds.proofs.Clicks.{click-low, click-units}
 use Rattle.rounds.proofs.Quiet.{click-at, moves-at, quiet-column, quiet-units}
 
@@ -87,8 +88,8 @@ module _ (rows columns : ℕ) (g : Grid) (s : Position) (old w w′ : List ℤ) 
       units c b q true e = quiet-units g s i inside (left i ∷ []) (click-at g i) rows columns old w w′ st (m .stands) c b (q .still (subst T (sym e) tt))
       units c b q false e = click-units g s i is-safe shut (numbered e) rows columns old w w′ st (m .stands) c b (q .other)
 
--- a step whose moves were made
-pub step-kept : (openedOnly : Bool) (rows columns : ℕ) (g : Grid) (s : Position) (old : List ℤ) (list : List ℕ) (w : List ℤ) (tops : List ℕ) (t : State) (w′ : List ℤ) (list′ tops′ : List ℕ) (t′ : State)
-    → MadeKept openedOnly rows columns g s old (stepOf g s (choice openedOnly g s) 0 .moves) list w tops t w′ list′ tops′ t′ → Kept openedOnly w rows columns tops
-    → StepKept openedOnly rows columns g s old list t w′ list′ tops′ t′
-step-kept openedOnly rows columns g s old list w tops t w′ list′ tops′ t′ m k = record { made = m .made; kept = m .kept k }
+-- a step whose moves were made, and the column that it hands on
+pub step-kept : (openedOnly : Bool) (rows columns : ℕ) (g : Grid) (s : Position) (old : List ℤ) (list : List ℕ) (w : List ℤ) (tops : List ℕ) (t : State) (from : ℕ) (w′ : List ℤ) (list′ tops′ : List ℕ) (r : Stepped)
+    → MadeKept openedOnly rows columns g s old (stepOf g s (choice openedOnly g s) 0 .moves) list w tops t w′ list′ tops′ (r .state) × (r .from ≡ columnAfter g (choice openedOnly g s) from)
+    → Kept openedOnly w rows columns tops → StepKept openedOnly rows columns g s old list t from w′ list′ tops′ r
+step-kept openedOnly rows columns g s old list w tops t from w′ list′ tops′ r m k = record { made = m .0 .made; kept = m .0 .kept k; column = m .1 }

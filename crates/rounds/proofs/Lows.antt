@@ -1,7 +1,8 @@
--- What is closed after moves was closed before, so the lowest closed unit never moves back. Assumes nothing.
-use Prim.Native.Nat.{ℕ, _*_, _<_, _≤_}
+-- What is closed after moves was closed before, so the lowest closed unit never moves back, and the column that a step hands on has none before it. Assumes nothing.
+use Prim.Native.Nat.{ℕ, _*_, _+_, _<_, _≤_}
 use native.Mathlib.Omega.{arith}
 use native.Mathlib.Decide.{decLt, ℕ-discrete}
+use native.Mathlib.Nat.{mul-le-mul-right}
 use mathlib.Core.Path.{_∙_, _≡_, ap, ap₂, refl, subst, sym}
 use mathlib.Core.Bool.{Bool, _&&_, _||_, cond, false, true}
 use mathlib.Core.List.{List, [], _∷_}
@@ -11,16 +12,22 @@ use lib.ListN.{getD, length, set}
 use lib.Seq.{getD-set-other, getD-set-same, set-out}
 use Rattle.area.specs.Stages.{Stands}
 use Rattle.choices.specs.Tests.{NoUnitBelow, unitAt}
-use Rattle.game.specs.Grid.{Grid, safe, size, square, zeroCell}
+use Rattle.game.specs.Grid.{Grid, cells, columnOf, rowOf, safe, size, square, zeroCell}
 use Rattle.game.specs.Lists.{fold}
 use Rattle.game.specs.Moves.{Move, after, chord, flag, left, play, reveal}
 use Rattle.game.specs.Openings.{holds, joinedTo, unlabelled}
-use Rattle.game.specs.Position.{Position, closed}
-use Rattle.game.specs.Rounds.{closedUnitCell}
+use Rattle.game.specs.Position.{Position, closed, closedSafe}
+use Rattle.game.specs.Rounds.{Choice, choice, chords, clicks, closedUnitCell, stepOf, topCells, unitCells, width}
 use Rattle.choices.proofs.Held.{unit-there}
+use Rattle.choices.proofs.Passing.{first-there}
 use Rattle.marks.proofs.Held.{held-numbers}
+use Rattle.game.proofs.Choices.{never-stuck}
+use Rattle.game.proofs.Members.{getD-has, keep-has}
+use Rattle.game.proofs.Played.{reached-played}
 use Rattle.game.proofs.Reveal.{Revealed, getD-sweep, opens, revealed, stays, sweeps}
+use Rattle.game.proofs.Squares.{cells→, column-lt, index-of}
 use Rattle.game.proofs.Truth.{and-both, and-left, and-right}
+use Rattle.rounds.specs.Promises.{columnAfter}
 
 module _ (g : Grid) (j : ℕ) (inside : j < size g) where
   -- a cell that is put to another state than closed
@@ -71,3 +78,35 @@ low-stays rows columns g s old w w′ ms k st st′ h n = record { none = on }
         n .none j b (subst T (unit-there g s w (held-numbers rows columns g s old w st) j ins)
         (and-both (safe g j && closed s j) (zeroCell g j || unlabelled g j) (and-both (safe g j) (closed s j) (and-left (safe g j) (closed (after g s ms) j) f) c)
         (and-right (safe g j && closed (after g s ms) j) (zeroCell g j || unlabelled g j) u)))
+
+-- ---- the column that is handed on
+
+-- that of the first closed unit lies on the grid, and there is none before it
+first-low : (rows columns : ℕ) (g : Grid) (s : Position) (old w : List ℤ) → Stands rows columns g s old w → 1 ≤ length (unitCells g s)
+    → (columnOf g (getD (unitCells g s) 0 0) ≤ columns) × NoUnitBelow w (columnOf g (getD (unitCells g s) 0 0) * rows)
+unfolding unitCells
+first-low rows columns g s old w st h =
+    let i = getD (unitCells g s) 0 0 in
+    let u = keep-has (closedUnitCell g s) i (cells g) (getD-has (unitCells g s) 0 h) in
+    let first = first-there (closedUnitCell g s) 0 (size g) i (omega arith) (cells→ g i (u .0)) (u .1) in
+    let low : columnOf g i * rows + rowOf g i ≡ i = ap (λ (k : ℕ). columnOf g i * k + rowOf g i) (sym (st .rows-are)) ∙ index-of g i in (
+      omega (arith, column-lt g i (first .1), st .columns-are),
+      record {
+        none = λ j l t. first .3 j (omega arith) (omega (arith, low))
+            (subst T (sym (unit-there g s w (held-numbers rows columns g s old w st) j (omega (arith, low, first .1)))) t);
+      },
+    )
+
+-- the column lies on the grid after the step too, and no closed unit comes back before it
+pub low-goes-on : (openedOnly : Bool) (rows columns : ℕ) (g : Grid) (s : Position) (old w w′ : List ℤ) (from to : ℕ) → Stands rows columns g s old w
+    → Stands rows columns g (after g s (stepOf g s (choice openedOnly g s) 0 .moves)) old w′ → 1 ≤ closedSafe g s → to ≡ columnAfter g (choice openedOnly g s) from
+    → (from ≤ columns) × NoUnitBelow w (from * rows) → (to ≤ columns) × NoUnitBelow w′ (to * rows)
+unfolding choice
+low-goes-on openedOnly rows columns g s old w w′ from to st st′ h e n =
+    let k : (to ≤ columns) × NoUnitBelow w (to * rows) = rw e (go (topCells openedOnly g s) (never-stuck openedOnly g s (reached-played g s (st .reached)) h)) in
+    (k .0, low-stays rows columns g s old w w′ (stepOf g s (choice openedOnly g s) 0 .moves) (to * rows) st st′ (omega (arith, mul-le-mul-right rows (k .0))) (k .1))
+  where
+    go : (ts : List ℕ) → 1 ≤ width (elim ts as (λ _. Choice) [ [] ↦ clicks (unitCells g s) | x ∷ xs ↦ chords (x ∷ xs) ])
+        → let c = columnAfter g (elim ts as (λ _. Choice) [ [] ↦ clicks (unitCells g s) | x ∷ xs ↦ chords (x ∷ xs) ]) from in (c ≤ columns) × NoUnitBelow w (c * rows)
+    go [] l = first-low rows columns g s old w st l
+    go (x ∷ xs) l = n

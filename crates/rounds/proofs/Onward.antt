@@ -47,14 +47,14 @@ underway-stands rows columns w t u =
 module _ (openedOnly : Bool) (rows columns : ℕ) (w : List ℤ) (list : List ℕ) (t : State) (w′ : List ℤ) (list′ : List ℕ) (t′ : State)
     (q : Stepping openedOnly rows columns w list t w′ list′ t′) (h : 0 < t .closed) where
   -- what a step from here is
-  record Stepped (g : Grid) (s : Position) (old : List ℤ) : Type 0 where
+  record Fitted (g : Grid) (s : Position) (old : List ℤ) : Type 0 where
     some-closed : 1 ≤ closedSafe g s
     played : Played g s
     fits : Fits g s (stepOf g s (choice openedOnly g s) 0)
     made : Made rows columns g s old (stepOf g s (choice openedOnly g s) 0 .moves) list t w′ list′ t′
 
-  stepped : (g : Grid) (s : Position) (old : List ℤ) → Stands rows columns g s old w → t .closed ≡ closedSafe g s → Stepped g s old
-  stepped g s old st e =
+  fitted : (g : Grid) (s : Position) (old : List ℤ) → Stands rows columns g s old w → t .closed ≡ closedSafe g s → Fitted g s old
+  fitted g s old st e =
       let f = reached-played g s (st .reached) in
       let k : 1 ≤ closedSafe g s = omega arith in
       record { some-closed = k; played = f; fits = choice-fits openedOnly g s 0 (never-stuck openedOnly g s f k); made = q g s old st k e }
@@ -65,7 +65,7 @@ module _ (openedOnly : Bool) (rows columns : ℕ) (w : List ℤ) (list : List �
         let o = u .going in
         let g = o .grid in
         let s = o .position in
-        let a = stepped g s (o .old) (o .stands) (o .counts) in
+        let a = fitted g s (o .old) (o .stands) (o .counts) in
         let p = stepOf g s (choice openedOnly g s) 0 in
         record {
           going = record { grid = g; position = afterStep g s p; old = o .old; stands = a .made .stands; counts = a .made .left-closed };
@@ -77,7 +77,7 @@ module _ (openedOnly : Bool) (rows columns : ℕ) (w : List ℤ) (list : List �
         let o = u .going in
         let g = o .grid in
         let s = o .position in
-        let a = stepped g s (o .old) (o .stands) (o .counts) in
+        let a = fitted g s (o .old) (o .stands) (o .counts) in
         omega (arith, o .counts, a .made .left-closed, step-falls g s (stepOf g s (choice openedOnly g s) 0) (a .played) (a .fits))
 
 -- ---- the steps by their definition
@@ -133,8 +133,8 @@ module _ (openedOnly : Bool) (rows columns : ℕ) (w : List ℤ) (list : List �
             x : Step
             x = stepOf g p (choice openedOnly g p) 0
 
-            a : Stepped openedOnly rows columns v l u w′ list′ t′ q h g p old
-            a = stepped openedOnly rows columns v l u w′ list′ t′ q h g p old (o .made .stands) (o .made .left-closed)
+            a : Fitted openedOnly rows columns v l u w′ list′ t′ q h g p old
+            a = fitted openedOnly rows columns v l u w′ list′ t′ q h g p old (o .made .stands) (o .made .left-closed)
 
             go : (k : ℕ) → closedUnits g p ≤ k → movesOf (stepsFrom n openedOnly g s) ≡ o .done ++ movesOf (stepsFrom k openedOnly g p)
                 → Partway openedOnly rows columns g s old n list t w′ list′ t′

@@ -14,12 +14,13 @@ use Rattle.area.specs.Stages.{Stands, raised}
 use Rattle.choices.specs.Tests.{unitAt}
 use Rattle.choices.specs.Tops.{columnTop, columnUnits, topWith}
 use Rattle.marks.specs.Marks.{Far, Still}
-use Rattle.game.specs.Grid.{Grid, columnOf, index, mine, safe, size, square, zeroCell}
+use Rattle.game.specs.Grid.{Grid, columnOf, mine, safe, size, square, zeroCell}
 use Rattle.game.specs.Lists.{Each, bit, count, fold, has, keep, range}
 use Rattle.game.specs.Moves.{Move, after, chord, flag, left, play, reveal, sweep}
 use Rattle.game.specs.Openings.{holds, joinedTo, openings, unlabelled}
 use Rattle.game.specs.Position.{Position, cellUnit, closed, cost, flagged, gain, openingClosed, unflagged}
 use Rattle.game.specs.Rounds.{movesAt}
+use Rattle.choices.proofs.Below.{in-column}
 use Rattle.choices.proofs.Held.{unit-there}
 use Rattle.marks.proofs.Held.{held-numbers}
 use Rattle.game.proofs.Chains.{joined-trans}
@@ -27,7 +28,7 @@ use Rattle.game.proofs.Counts.{count-each, count-ext, each-map}
 use Rattle.game.proofs.Members.{all-ext, first-of, fold-inv, has-range, keep-has, rest-of, some-yes, yes-some}
 use Rattle.game.proofs.Openings.{Full, good, →joinedTo}
 use Rattle.game.proofs.Reveal.{Revealed, getD-sweep, held-joined, mine-off, opens, revealed, stays, sweeps, unlabelled-off, zero-safe}
-use Rattle.game.proofs.Squares.{in-own-square, index-column, index-lt, square→}
+use Rattle.game.proofs.Squares.{in-own-square, square→}
 use Rattle.game.proofs.Truth.{and-left, and-under, no→false}
 use Rattle.game.proofs.Zeros.{Zero}
 
@@ -153,14 +154,6 @@ module _ (g : Grid) (s s′ : Position) (j : ℕ) where
       (ap (λ (x : ℕ). bit (eqb x 0)) own)
 
 -- ---- a column whose cells keep their states keeps its closed units
-
--- the cell in a row of a column
-pub in-column : (rows columns : ℕ) (g : Grid) → g .rows ≡ rows → g .columns ≡ columns → (row c : ℕ) → row < rows → c < columns
-    → (c * rows + row < size g) × (columnOf g (c * rows + row) ≡ c)
-in-column rows columns g r q row c h k =
-    let l : row < g .rows = omega arith in
-    let e : index g row c ≡ c * rows + row = ap (λ (n : ℕ). c * n + row) r in
-    (subst (λ (n : ℕ). n < size g) e (index-lt g row c l (omega arith)), sym (ap (columnOf g) e) ∙ index-column g row c l)
 
 pub same-units : (rows columns : ℕ) (g : Grid) (s s′ : Position) (old w w′ : List ℤ) → Stands rows columns g s old w → Stands rows columns g s′ old w′ → (c : ℕ) → c < columns
     → ((j : ℕ) → j < size g → columnOf g j ≡ c → getD s′ j 0 ≡ getD s j 0) → columnUnits w′ rows c ≡ columnUnits w rows c

@@ -11,7 +11,7 @@ use Rattle.choices.specs.declared.Found.{Found}
 use Rattle.choices.specs.declared.Found.the-variants.{At, Nothing}
 use Rattle.area.specs.Stages.{Standing, Stands}
 use Rattle.choices.specs.Picks.{foundFirst}
-use Rattle.game.specs.Grid.{Grid, safe, zeroCell}
+use Rattle.game.specs.Grid.{Grid, columnOf, safe, zeroCell}
 use Rattle.game.specs.Lists.{has}
 use Rattle.game.specs.Moves.{Move, left}
 use Rattle.game.specs.Position.{Position, closed, closedSafe}
@@ -20,6 +20,7 @@ use Rattle.game.proofs.Choices.{looked→, never-stuck, premium-pays, top→, u
 use Rattle.game.proofs.Legal.{zero-poor}
 use Rattle.game.proofs.Members.{has-head}
 use Rattle.game.proofs.Played.{Played}
+use Rattle.rounds.specs.Promises.{columnAfter}
 
 -- what was found is the first
 found-has : (xs : List ℕ) (r : Found) (i : ℕ) → r ≡ At i → r ≡ foundFirst xs → T (has i xs) × (getD xs 0 0 ≡ i)
@@ -54,25 +55,26 @@ module _ (rows columns : ℕ) (w : List ℤ) (r : Found) where
       let t = top→ openedOnly g s i (found-has (topCells openedOnly g s) r i e (f g s (h .old) (h .stands)) .0) in
       omega (arith, looked→ openedOnly g s i (t .is-looked) .0)
 
-  -- what holds of the moves made, P, holds of the moves of the definition
-  module _ (g : Grid) (s : Position) (P : List Move → Type 0) where
+  -- what holds of the moves made and of the column handed on, P, holds of those of the definition
+  module _ (g : Grid) (s : Position) (P : List Move → ℕ → Type 0) where
     -- ---- one L
 
-    pub unit-taken : (i : ℕ) → r ≡ At i → r ≡ foundFirst (unitCells g s) → (T (safe g i) → T (closed s i) → P (left i ∷ []))
-        → P (left (getD (unitCells g s) 0 0) ∷ [])
+    pub unit-taken : (i : ℕ) → r ≡ At i → r ≡ foundFirst (unitCells g s) → (T (safe g i) → T (closed s i) → P (left i ∷ []) (columnOf g i))
+        → P (left (getD (unitCells g s) 0 0) ∷ []) (columnOf g (getD (unitCells g s) 0 0))
     unit-taken i e f q =
         let h = found-has (unitCells g s) r i e f in
         let u = unit→ g s i (h .0) in
         rw (h .1) (q (u .is-safe) (u .is-closed))
 
-    pub unit-missing : r ≡ Nothing → r ≡ foundFirst (unitCells g s) → 1 ≤ length (unitCells g s) → P (left (getD (unitCells g s) 0 0) ∷ [])
+    pub unit-missing : r ≡ Nothing → r ≡ foundFirst (unitCells g s) → 1 ≤ length (unitCells g s)
+        → P (left (getD (unitCells g s) 0 0) ∷ []) (columnOf g (getD (unitCells g s) 0 0))
     unit-missing e f h = absurd (omega (arith, ap (λ (xs : List ℕ). length xs) (found-none (unitCells g s) r e f)))
 
     -- ---- a step
 
-    module _ (openedOnly : Bool) (f : r ≡ foundFirst (topCells openedOnly g s)) where
-      pub top-taken : (i : ℕ) → r ≡ At i → (T (safe g i) → (T (zeroCell g i) → ⊥) → P (movesAt g s i))
-          → P (stepOf g s (choice openedOnly g s) 0 .moves)
+    module _ (openedOnly : Bool) (from : ℕ) (f : r ≡ foundFirst (topCells openedOnly g s)) where
+      pub top-taken : (i : ℕ) → r ≡ At i → (T (safe g i) → (T (zeroCell g i) → ⊥) → P (movesAt g s i) from)
+          → P (stepOf g s (choice openedOnly g s) 0 .moves) (columnAfter g (choice openedOnly g s) from)
       unfolding choice
       top-taken i e q =
           let v = top→ openedOnly g s i (found-has (topCells openedOnly g s) r i e f .0) in
@@ -80,14 +82,15 @@ module _ (rows columns : ℕ) (w : List ℤ) (r : Found) where
           go (topCells openedOnly g s) (found-has (topCells openedOnly g s) r i e f)
           (q (k .1) (λ u. let p = zero-poor g s i (record { inside = k .0; none = u }) in let c = premium-pays g s i (v .reaches) in absurd (omega arith)))
         where
-          go : (ts : List ℕ) → T (has i ts) × (getD ts 0 0 ≡ i) → P (movesAt g s i)
-              → P (stepOf g s (elim ts [ [] ↦ clicks (unitCells g s) | x ∷ xs ↦ chords (x ∷ xs) ]) 0 .moves)
+          go : (ts : List ℕ) → T (has i ts) × (getD ts 0 0 ≡ i) → P (movesAt g s i) from
+              → let c = elim ts as (λ _. Choice) [ [] ↦ clicks (unitCells g s) | x ∷ xs ↦ chords (x ∷ xs) ] in
+              P (stepOf g s c 0 .moves) (columnAfter g c from)
           go [] h m = absurd (h .0)
           go (x ∷ xs) h m = rw (h .1) m
 
       pub click-taken : Played g s → 1 ≤ closedSafe g s → r ≡ Nothing
-          → (1 ≤ length (unitCells g s) → topCells openedOnly g s ≡ [] → P (left (getD (unitCells g s) 0 0) ∷ []))
-          → P (stepOf g s (choice openedOnly g s) 0 .moves)
+          → (1 ≤ length (unitCells g s) → topCells openedOnly g s ≡ [] → P (left (getD (unitCells g s) 0 0) ∷ []) (columnOf g (getD (unitCells g s) 0 0)))
+          → P (stepOf g s (choice openedOnly g s) 0 .moves) (columnAfter g (choice openedOnly g s) from)
       click-taken p h e q =
           let z = found-none (topCells openedOnly g s) r e f in
           let n = no-top g s openedOnly z in

@@ -4,16 +4,17 @@ use mathlib.Core.Path.{_≡_}
 use mathlib.Core.Bool.{Bool, true, false}
 use mathlib.Core.List.{List, []}
 use lib.IntN.{ℤ}
-use lib.ListN.{length}
-use Rattle.game.specs.Grid.{Grid}
+use lib.ListN.{getD, length}
+use Rattle.game.specs.Grid.{Grid, columnOf}
 use Rattle.game.specs.Position.{Position, untouched, closedSafe}
 use Rattle.game.specs.Moves.{Move, after}
 use Rattle.game.specs.Area.{listOf}
-use Rattle.game.specs.Rounds.{Step, choice, firstClicks, greedySteps, openingsFirstSteps, stepOf}
+use Rattle.game.specs.Rounds.{Choice, Step, choice, chords, clicks, firstClicks, greedySteps, openingsFirstSteps, stepOf}
 use Rattle.area.specs.Stages.{Stands}
 use Rattle.choices.specs.Tops.{Kept, UnitsKept}
 use Rattle.moves.specs.Promises.{Made}
 use Rattle.moves.specs.declared.State.{State}
+use Rattle.rounds.specs.declared.Stepped.{Stepped}
 
 -- the moves ms were made from position s on, and what is kept of the columns is right again; so is what was kept of their closed units, but for those now marked
 pub record MadeKept (openedOnly : Bool) (rows columns : ℕ) (g : Grid) (s : Position) (old : List ℤ) (ms : List Move) (list : List ℕ) (w : List ℤ) (tops : List ℕ) (t : State) (w′ : List ℤ) (list′ tops′ : List ℕ) (t′ : State) : Type 0 where
@@ -21,10 +22,16 @@ pub record MadeKept (openedOnly : Bool) (rows columns : ℕ) (g : Grid) (s : Pos
   pub kept : Kept openedOnly w rows columns tops → Kept openedOnly w′ rows columns tops′
   pub units-kept : (units : List ℕ) → UnitsKept w rows columns units units → UnitsKept w′ rows columns tops′ units
 
--- a step by the lowest index was made, and what is kept of the columns is right again
-pub record StepKept (openedOnly : Bool) (rows columns : ℕ) (g : Grid) (s : Position) (old : List ℤ) (list : List ℕ) (t : State) (w′ : List ℤ) (list′ tops′ : List ℕ) (t′ : State) : Type 0 where
-  pub made : Made rows columns g s old (stepOf g s (choice openedOnly g s) 0 .moves) list t w′ list′ t′
+-- the column at which the next search for the lowest closed unit begins: that of the cell of one L, else as before the step
+abbrev pub columnAfter : Grid → Choice → ℕ → ℕ
+columnAfter g (chords is) from = from
+columnAfter g (clicks is) from = columnOf g (getD is 0 0)
+
+-- a step by the lowest index was made, what is kept of the columns is right again, and the column is handed on
+pub record StepKept (openedOnly : Bool) (rows columns : ℕ) (g : Grid) (s : Position) (old : List ℤ) (list : List ℕ) (t : State) (from : ℕ) (w′ : List ℤ) (list′ tops′ : List ℕ) (r : Stepped) : Type 0 where
+  pub made : Made rows columns g s old (stepOf g s (choice openedOnly g s) 0 .moves) list t w′ list′ (r .state)
   pub kept : Kept openedOnly w′ rows columns tops′
+  pub column : r .from ≡ columnAfter g (choice openedOnly g s) from
 
 -- a state that counts the safe cells still closed in a position that the area stands for
 pub record Going (rows columns : ℕ) (w : List ℤ) (t : State) : Type 0 where

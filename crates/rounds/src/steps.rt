@@ -1,4 +1,5 @@
 // One step by the lowest index.
+use crate::Stepped;
 use choices::Found;
 use moves::State;
 use moves::single;
@@ -9,7 +10,7 @@ ghost use Prim.Native.Nat.{_*_, _^_, _<_, _≤_};
 ghost use lib.IntN.{ℤ};
 ghost use lib.ListN.{length, getD};
 ghost use lib.Dec.{T};
-ghost use Rattle.game.specs.Grid.{Grid, safe, zeroCell};
+ghost use Rattle.game.specs.Grid.{Grid, columnOf, safe, zeroCell};
 ghost use Rattle.game.specs.Position.{Position, closed as isClosed, closedSafe};
 ghost use Rattle.game.specs.Moves.{left};
 ghost use Rattle.game.specs.Rounds.{movesAt, topCells, unitCells};
@@ -58,7 +59,7 @@ pub fn act_at(
     single::act(work, rows, columns, list, state, index)
 }
 
-// L on the lowest closed 0-cell or unlabelled safe cell, if there is one, where no premium reaches 0; there is none in the columns before one.
+// L on the lowest closed 0-cell or unlabelled safe cell, if there is one, where no premium reaches 0; there is none in the columns before from. Hands on its column.
 pub fn click_lowest(
     work: &mut [i32],
     rows: usize,
@@ -67,22 +68,30 @@ pub fn click_lowest(
     tops: &mut [u8],
     state: State,
     from: usize,
-) -> State
+) -> Stepped
     requires { ⌜ Shape rows columns ⌝ }
     requires { ⌜ (5 * (rows * columns) ≤ length (now work)) × (state .moves ≤ 2 ^ 45) × (from ≤ columns) × NoUnitBelow (now work) (from * rows) ⌝ }
     requires { ⌜ Standing rows columns (now work) ⌝ }
     ensures { λ r. ⌜ ((openedOnly : Bool) (g : Grid) (s : Position) (old : List ℤ) → Stands rows columns g s old (now (work .entry))
         → 1 ≤ length (unitCells g s) → topCells openedOnly g s ≡ [] → state .closed ≡ closedSafe g s
-        → MadeKept openedOnly rows columns g s old (left (getD (unitCells g s) 0 0) ∷ []) (now (list .entry)) (now (work .entry)) (now (tops .entry)) state (now (work .exit)) (now (list .exit)) (now (tops .exit)) r) ⌝ }
+        → MadeKept openedOnly rows columns g s old (left (getD (unitCells g s) 0 0) ∷ []) (now (list .entry)) (now (work .entry)) (now (tops .entry)) state (now (work .exit)) (now (list .exit)) (now (tops .exit)) (r .state)
+        × (r .from ≡ columnOf g (getD (unitCells g s) 0 0))) ⌝ }
 {
-    let found = choices::units::lowest(work, rows, columns, from);
+    let lowest = choices::units::lowest(work, rows, columns, from);
+    let found = lowest.found;
     match found {
-        Found::At(index) => click_at(work, rows, columns, list, tops, state, index),
-        Found::Nothing => state,
+        Found::At(index) => {
+            let clicked = click_at(work, rows, columns, list, tops, state, index);
+            Stepped {
+                state: clicked,
+                from: lowest.column,
+            }
+        }
+        Found::Nothing => Stepped { state, from },
     }
 }
 
-// A step: the moves at the lowest cell of highest premium, if that is 0 or more; else one L.
+// A step: the moves at the lowest cell of highest premium, if that is 0 or more; else one L. There is no closed unit in the columns before from.
 pub fn step(
     work: &mut [i32],
     rows: usize,
@@ -92,18 +101,24 @@ pub fn step(
     state: State,
     from: usize,
     opened_only: bool,
-) -> State
+) -> Stepped
     requires { ⌜ Shape rows columns ⌝ }
     requires { ⌜ (5 * (rows * columns) ≤ length (now work)) × (state .moves ≤ 2 ^ 45) × (from ≤ columns) × NoUnitBelow (now work) (from * rows) ⌝ }
     requires { ⌜ Kept «opened_only» (now work) rows columns (now tops) ⌝ }
     requires { ⌜ Standing rows columns (now work) ⌝ }
     ensures { λ r. ⌜ ((g : Grid) (s : Position) (old : List ℤ) → Stands rows columns g s old (now (work .entry))
         → 1 ≤ closedSafe g s → state .closed ≡ closedSafe g s
-        → StepKept «opened_only» rows columns g s old (now (list .entry)) state (now (work .exit)) (now (list .exit)) (now (tops .exit)) r) ⌝ }
+        → StepKept «opened_only» rows columns g s old (now (list .entry)) state from (now (work .exit)) (now (list .exit)) (now (tops .exit)) r) ⌝ }
 {
     let found = choices::kept::best(work, rows, columns, tops, opened_only);
     match found {
-        Found::At(index) => act_at(work, rows, columns, list, tops, state, index),
+        Found::At(index) => {
+            let chorded = act_at(work, rows, columns, list, tops, state, index);
+            Stepped {
+                state: chorded,
+                from,
+            }
+        }
         Found::Nothing => click_lowest(work, rows, columns, list, tops, state, from),
     }
 }

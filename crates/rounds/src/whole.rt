@@ -36,8 +36,9 @@ pub fn play_on(
     let mut current = state;
     let mut from = 0;
     while 0 < current.closed {
-        from = choices::units::passed(work, rows, columns, from);
-        current = steps::step(work, rows, columns, list, tops, current, from, opened_only);
+        let stepped = steps::step(work, rows, columns, list, tops, current, from, opened_only);
+        current = stepped.state;
+        from = stepped.from;
     }
     current
 }

@@ -1,58 +1,30 @@
--- `choices::units::lowest`: no cell passed is a closed unit; the search ends past the last cell, or at the first one. Assumes nothing.
-use Prim.Native.Nat.{ℕ, _+_, _-_, _*_, _≤_, _<_}
+-- `choices::units::lowest`: no cell passed is a closed unit; the search ends past the last column, or at the first one. Assumes nothing.
+use Prim.Native.Nat.{_+_, _-_, _*_, _≤_, _<_}
 use native.Mathlib.Omega.{arith}
-use native.Mathlib.Nat.{add-zero, mul-comm, suc-mul}
-use native.Mathlib.Numerals.{add-one}
-use mathlib.Core.Path.{_≡_, refl, ap, sym, subst, _∙_}
-use mathlib.Core.Logic.{⊎-elim}
-use mathlib.Core.List.{List}
-use lib.Dec.{T}
-use lib.IntN.{ℤ}
-use Rattle.game.specs.Grid.{Grid}
-use Rattle.game.specs.Lists.{keep, range}
-use Rattle.game.specs.Position.{Position}
-use Rattle.game.specs.Rounds.{unitCells}
-use Rattle.area.specs.Stages.{Stands}
+use native.Mathlib.Nat.{add-zero}
+use mathlib.Core.Path.{_≡_, refl, sym, _∙_}
 use Rattle.area.proofs.Cells.{cell-below, cells-few}
-use Rattle.choices.specs.Tests.{unitAt}
-use Rattle.choices.specs.Picks.{foundFirst}
-use Rattle.choices.proofs.Passing.{found-at, found-none}
-use Rattle.choices.proofs.Below.{NoneBelow, one-more}
-use Rattle.marks.proofs.Held.{held-numbers}
-use Rattle.choices.proofs.Held.{units-there}
+use Rattle.choices.specs.declared.Found.the-variants.{Nothing}
+use Rattle.choices.specs.Tests.{NoUnitBelow}
+use Rattle.choices.proofs.Below.{at-lowest, nothing-lowest, one-more}
 use Rattle.choices.proofs.units.lowest.Statement.{statement}
 use Rattle.choices.proofs.units.lowest.Tie as tie
 
--- what the search over n cells has when it ends
-record Searched (w : List ℤ) (n at : ℕ) : Type 0 where
-  none : NoneBelow w at
-  there : at < n → T (unitAt w at)
-
--- its cells are those of the grid
-all-cells : (rows columns : ℕ) (g : Grid) (s : Position) (old w : List ℤ) → Stands rows columns g s old w → unitCells g s ≡ keep (unitAt w) (range 0 (columns * rows))
-all-cells rows columns g s old w t =
-    units-there g s w (held-numbers rows columns g s old w t)
-    ∙ ap (λ (k : ℕ). keep (unitAt w) (range 0 k))
-    (ap (λ (r : ℕ). r * g .columns) (t .rows-are) ∙ ap (λ (k : ℕ). rows * k) (t .columns-are) ∙ mul-comm rows columns)
-
 abbrev Inv-loop : tie.InvT-loop
-Inv-loop work rows columns from cells at₀ column row₀ at row =
-    (row ≤ rows) × (column < columns) × (at ≡ cells) × NoneBelow work (column * rows + row)
+Inv-loop work rows columns from found₀ column row₀ found row =
+    (row ≤ rows) × (column < columns) × (found ≡ Nothing) × NoUnitBelow work (column * rows + row)
 
 abbrev μ-loop : tie.MeasureT-loop
-μ-loop work rows columns from cells at₀ column row₀ at row = rows - row
+μ-loop work rows columns from found₀ column row₀ found row = rows - row
 
 abbrev Inv-grid : tie.InvT-grid
-Inv-grid work rows columns from cells at₀ column₀ at column = (column ≤ columns) × (at ≡ cells) × NoneBelow work (column * rows)
+Inv-grid work rows columns from found₀ column₀ found column = (column ≤ columns) × (found ≡ Nothing) × NoUnitBelow work (column * rows)
 
 abbrev μ-grid : tie.MeasureT-grid
-μ-grid work rows columns from cells at₀ column₀ at column = columns - column
-
-mul-cells : tie.Need-mul-cells Inv-loop μ-loop Inv-grid μ-grid
-mul-cells c = omega (arith, cells-few (c .args .rows) (c .args .columns) (c .pre .0))
+μ-grid work rows columns from found₀ column₀ found column = columns - column
 
 grid-holds : tie.Need-grid-holds Inv-loop μ-loop Inv-grid μ-grid
-grid-holds c = (omega arith, refl, c .pre .1 .2 .none)
+grid-holds c = (c .pre .1 .1, refl, c .pre .1 .2)
 
 loop-holds : tie.Need-loop-holds Inv-loop μ-loop Inv-grid μ-grid
 loop-holds c = (omega arith, omega arith, c .before .grid .inv .1, rw add-zero (c .before .grid .inv .2))
@@ -83,12 +55,12 @@ loop-less c = omega arith
 loop-again : tie.Need-loop-again Inv-loop μ-loop Inv-grid μ-grid
 loop-again c =
     let l = c .before .before .before in
-    let a = l .before .before .before .args in
-    let k = l .before .before .grid .column * a .rows + l .loop .row in (
+    let x = l .before .before .grid .column in
+    let a = l .before .before .before .args in (
       omega arith,
       omega arith,
       l .loop .inv .2,
-      one-more (a .work .now) k (l .before .before .grid .column * a .rows + (l .loop .row + 1)) (l .loop .inv .3) (sym (c .before .unit .ensures) ∙ c .if1 .left) (omega arith),
+      one-more (a .work .now) (x * a .rows + l .loop .row) (x * a .rows + (l .loop .row + 1)) (l .loop .inv .3) (sym (c .before .unit .ensures) ∙ c .if1 .left) (omega arith),
     )
 
 add-column : tie.Need-add-column Inv-loop μ-loop Inv-grid μ-grid
@@ -98,48 +70,20 @@ grid-less : tie.Need-grid-less Inv-loop μ-loop Inv-grid μ-grid
 grid-less c = omega arith
 
 grid-again : tie.Need-grid-again Inv-loop μ-loop Inv-grid μ-grid
-grid-again c =
-    let a = c .before .before .before .before .args in
-    let x = c .before .before .before .grid .column in
-    let e : (x + 1) * a .rows ≡ x * a .rows + a .rows = rw (add-one, suc-mul) in
-    (omega arith, c .before .loop .inv .2, λ j h t. c .before .loop .inv .3 j (omega arith) t)
-
--- by either way
-answer : (c : tie.Left-grid Inv-loop μ-loop Inv-grid μ-grid)
-    → let a = c .before .before .args in
-    Searched (a .work .now) (a .columns * a .rows) (c .grid-test .at)
-answer c =
-    let a = c .before .before .args in
-    let w = a .work .now in
-    ⊎-elim
-    (λ u.
-    let e : c .before .grid .column ≡ a .columns = omega (arith, u .0 .left) in
-    let k : c .grid-test .at ≡ a .columns * a .rows = u .1 ∙ c .before .grid .inv .1 in
-    record {
-      none = subst (NoneBelow w) (ap (λ (x : ℕ). x * a .rows) e ∙ sym k) (c .before .grid .inv .2);
-      there = λ h. absurd (omega arith);
-    })
-    (λ u. record {
-      none = subst (NoneBelow w) (sym (u .5)) (u .1 .inv .3);
-      there = λ h. subst (λ (k : ℕ). T (unitAt w k)) (sym (u .5)) (subst T (u .3 .ensures) (subst T (sym (u .4 .taken)) tt));
-    })
-    (c .grid-test .came)
+grid-again c = (omega arith, c .before .loop .inv .2, record { none = λ j h t. c .before .loop .inv .3 .none j (omega arith) t })
 
 returns : tie.Need-returns Inv-loop μ-loop Inv-grid μ-grid
 returns c =
-    λ g s old t.
-    let a = c .before .before .before .args in
-    let q = answer (c .before) in
-    found-at (unitAt (a .work .now)) (a .columns * a .rows) (c .before .grid-test .at) (c .if2 .taken) (q .there (c .if2 .taken)) (q .none)
-    ∙ sym (ap foundFirst (all-cells (a .rows) (a .columns) g s old (a .work .now) t))
+    let l = c .before .grid in
+    let a = c .before .before .args in
+    nothing-lowest (a .rows) (a .columns) (a .work .now) (l .found) (l .column) (l .inv .1) (omega arith) (l .inv .2)
 
 returns-2 : tie.Need-returns-2 Inv-loop μ-loop Inv-grid μ-grid
 returns-2 c =
-    λ g s old t.
-    let a = c .before .before .before .args in
-    let q = answer (c .before) in
-    found-none (unitAt (a .work .now)) (a .columns * a .rows) (λ j h. q .none j (omega arith))
-    ∙ sym (ap foundFirst (all-cells (a .rows) (a .columns) g s old (a .work .now) t))
+    let l = c .before .before .before in
+    let x = l .before .before .grid .column in
+    let a = l .before .before .before .args in
+    at-lowest (a .rows) (a .columns) (a .work .now) x (l .loop .row) (l .loop .inv .1) (omega arith) (sym (c .if1 .taken) ∙ c .before .unit .ensures) (l .loop .inv .3)
 
 pub lowest-spec : {M : Type 1} → statement M
 lowest-spec =
@@ -149,7 +93,6 @@ lowest-spec =
     μ-loop
     Inv-grid
     μ-grid
-    mul-cells
     grid-holds
     loop-holds
     mul-index

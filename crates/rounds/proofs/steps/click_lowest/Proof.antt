@@ -1,6 +1,9 @@
--- `rounds::steps::click_lowest`: the search finds the first closed unit. Assumes nothing.
+-- `rounds::steps::click_lowest`: the search finds the first closed unit, and its column. Assumes nothing.
+use Prim.Native.Nat.{ℕ}
 use native.Mathlib.Omega.{arith}
+use mathlib.Core.Path.{_∙_, _≡_, ap}
 use mathlib.Core.List.{List}
+use Rattle.choices.specs.Picks.{foundColumn}
 use Rattle.game.specs.Moves.{Move}
 use Rattle.rounds.specs.Promises.{MadeKept}
 use Rattle.rounds.proofs.Takes.{unit-inside, unit-missing, unit-taken}
@@ -20,7 +23,8 @@ click-at-requires c κs =
     let m = k .before .before in
     let b = m .before .before .before .before in
     let a = b .args in
-    (b .pre .0, (omega arith, unit-inside (a .rows) (a .columns) (a .work .now) (m .lowest .result) (k .found .given .0 .0) (b .pre .1 .1) (m .lowest .ensures) (k .found .given .1), omega arith))
+    let i = unit-inside (a .rows) (a .columns) (a .work .now) (m .lowest .result .found) (k .found .given .0 .0) (b .pre .1 .1) (λ g s old st. m .lowest .ensures g s old st .0) (k .found .given .1) in
+    (b .pre .0, (omega arith, i, omega arith))
 
 enum-told : tie.Need-enum-told
 enum-told c = search needs
@@ -40,9 +44,12 @@ returns c =
     let k = x .before .before .before .before .before in
     let m = k .before .before in
     let a = m .before .before .before .before .args in
-    λ o g s old st n q e. unit-taken (a .rows) (a .columns) (a .work .now) (m .lowest .result) g s
-    (λ (ms : List Move). MadeKept o (a .rows) (a .columns) g s old ms (a .list .now) (a .work .now) (a .tops .now) (a .state) (x .click-at .last .0) (x .click-at .last .1 .1 .1 .0) (x .click-at .last .1 .1 .1 .1 .0) (x .click-at .result))
-    (k .found .given .0 .0) (k .found .given .1) (m .lowest .ensures g s old st) (λ t u. x .click-at .ensures o g s old st t u q e)
+    let y = x .click-at in
+    λ o g s old st n q e. let f = m .lowest .ensures g s old st in
+    unit-taken (a .rows) (a .columns) (a .work .now) (m .lowest .result .found) g s
+    (λ (ms : List Move) (column : ℕ). MadeKept o (a .rows) (a .columns) g s old ms (a .list .now) (a .work .now) (a .tops .now) (a .state) (y .last .0) (y .last .1 .1 .1 .0) (y .last .1 .1 .1 .1 .0) (y .result)
+    × (m .lowest .result .column ≡ column))
+    (k .found .given .0 .0) (k .found .given .1) (f .0) (λ t u. (y .ensures o g s old st t u q e, f .1 ∙ ap (foundColumn g) (k .found .given .1)))
 
 same-length-4 : tie.Need-same-length-4
 same-length-4 c = search needs
@@ -51,9 +58,10 @@ returns-2 : tie.Need-returns-2
 returns-2 c =
     let m = c .before .before in
     let a = m .before .before .before .before .args in
-    λ o g s old st n q e. unit-missing (a .rows) (a .columns) (a .work .now) (m .lowest .result) g s
-    (λ (ms : List Move). MadeKept o (a .rows) (a .columns) g s old ms (a .list .now) (a .work .now) (a .tops .now) (a .state) (a .work .now) (a .list .now) (a .tops .now) (a .state))
-    (c .enum-told .given .1) (m .lowest .ensures g s old st) n
+    λ o g s old st n q e. unit-missing (a .rows) (a .columns) (a .work .now) (m .lowest .result .found) g s
+    (λ (ms : List Move) (column : ℕ). MadeKept o (a .rows) (a .columns) g s old ms (a .list .now) (a .work .now) (a .tops .now) (a .state) (a .work .now) (a .list .now) (a .tops .now) (a .state)
+    × (a .from ≡ column))
+    (c .enum-told .given .1) (m .lowest .ensures g s old st .0) n
 
 pub click-lowest-spec : {M : Type 1} → statement M
 click-lowest-spec =

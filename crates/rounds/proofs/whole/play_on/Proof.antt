@@ -1,14 +1,13 @@
 -- `rounds::whole::play_on`: the steps so far are those of the definition; fewer safe cells are closed after each; what is kept of the columns stays right. Assumes nothing.
 use Prim.Native.Nat.{_*_, _≤_}
 use native.Mathlib.Omega.{arith}
-use native.Mathlib.Nat.{mul-le-mul-right}
 use mathlib.Core.Path.{_≡_, refl}
 use lib.ListN.{length}
 use borrow.Author.Needs.{needs}
 use Rattle.choices.specs.Tests.{NoUnitBelow}
 use Rattle.choices.specs.Tops.{Kept}
-use Rattle.game.specs.Rounds.{choice, stepOf}
-use Rattle.rounds.proofs.Lows.{low-stays}
+use Rattle.game.specs.Position.{closedSafe}
+use Rattle.rounds.proofs.Lows.{low-goes-on}
 use Rattle.rounds.proofs.Onward.{Midway, Underway, closed-falls, midway-begins, midway-ends, midway-goes-on, underway-begins, underway-goes-on, underway-stands}
 use Rattle.rounds.proofs.whole.play_on.Statement.{statement}
 use Rattle.rounds.proofs.whole.play_on.Tie as tie
@@ -35,48 +34,42 @@ loop-holds c =
       record { none = λ j h t. omega arith },
     )
 
-passed-requires : tie.Need-passed-requires Inv-loop μ-loop
-passed-requires c κs =
-    let l = c .before .before .before in
-    let b = l .before .before .before in
-    (b .pre .0, (omega arith, l .loop .inv .6, l .loop .inv .7))
-
 step-requires : tie.Need-step-requires Inv-loop μ-loop
 step-requires c κs =
-    let p = c .before .before .before in
-    let l = p .before .before .before .before in
+    let l = c .before .before .before .before .before in
     let b = l .before .before .before in
     let a = b .args in
     let u = l .loop .inv .3 in
-    (b .pre .0, ((omega arith, omega (arith, u .few), p .passed .ensures .0, p .passed .ensures .1), (l .loop .inv .5, underway-stands (a .rows) (a .columns) (l .loop .work) (l .loop .current) u)))
+    (b .pre .0, ((omega arith, omega (arith, u .few), l .loop .inv .6, l .loop .inv .7), (l .loop .inv .5, underway-stands (a .rows) (a .columns) (l .loop .work) (l .loop .current) u)))
 
 loop-less : tie.Need-loop-less Inv-loop μ-loop
 loop-less c =
-    let x = c .before .before .before .before .before .step in
-    let n = c .before .before .before .before .before .before .before .before .before .before .before in
+    let x = c .before .before .before .before .before .before .step in
+    let n = c .before .before .before .before .before .before .before .before .before .before in
     let l = n .before .before in
     let a = l .before .before .before .args in
-    closed-falls _ (a .rows) (a .columns) (l .loop .work) (l .loop .list) (l .loop .current) (x .last .0) (x .last .1 .1 .1 .0) (x .result) (λ g s old st h e. x .ensures g s old st h e .made) (n .if1 .taken) (l .loop .inv .3)
+    closed-falls _ (a .rows) (a .columns) (l .loop .work) (l .loop .list) (l .loop .current) (x .last .0) (x .last .1 .1 .1 .0) (x .result .state) (λ g s old st h e. x .ensures g s old st h e .made) (n .if1 .taken) (l .loop .inv .3)
 
 loop-again : tie.Need-loop-again Inv-loop μ-loop
 loop-again c =
-    let x = c .before .before .before .before .before .step in
-    let p = c .before .before .before .before .before .before .before .before .before .passed in
-    let n = c .before .before .before .before .before .before .before .before .before .before .before in
+    let x = c .before .before .before .before .before .before .step in
+    let n = c .before .before .before .before .before .before .before .before .before .before in
     let l = n .before .before in
     let a = l .before .before .before .args in
     let u = l .loop .inv .3 .going in
-    let q = x .ensures (u .grid) (u .position) (u .old) (u .stands) (omega (arith, u .counts, n .if1 .taken)) (u .counts) in (
+    let h : 1 ≤ closedSafe (u .grid) (u .position) = omega (arith, u .counts, n .if1 .taken) in
+    let q = x .ensures (u .grid) (u .position) (u .old) (u .stands) h (u .counts) in
+    let low = low-goes-on (a .opened-only) (a .rows) (a .columns) (u .grid) (u .position) (u .old) (l .loop .work) (x .last .0) (l .loop .from) (x .result .from)
+    (u .stands) (q .made .stands) h (q .column) (l .loop .inv .6, l .loop .inv .7) in (
       search needs,
       search needs,
       search needs,
-      underway-goes-on _ (a .rows) (a .columns) (l .loop .work) (l .loop .list) (l .loop .current) (x .last .0) (x .last .1 .1 .1 .0) (x .result) (λ g s old st h e. x .ensures g s old st h e .made) (n .if1 .taken) (l .loop .inv .3),
+      underway-goes-on _ (a .rows) (a .columns) (l .loop .work) (l .loop .list) (l .loop .current) (x .last .0) (x .last .1 .1 .1 .0) (x .result .state) (λ g s old st h e. x .ensures g s old st h e .made) (n .if1 .taken) (l .loop .inv .3),
       midway-goes-on (a .opened-only) (a .rows) (a .columns) (a .work .now) (a .list .now) (a .state) (l .loop .work) (l .loop .list) (l .loop .current) (l .loop .inv .4)
-          (x .last .0) (x .last .1 .1 .1 .0) (x .result) (λ g s old st h e. x .ensures g s old st h e .made) (n .if1 .taken),
+          (x .last .0) (x .last .1 .1 .1 .0) (x .result .state) (λ g s old st h e. x .ensures g s old st h e .made) (n .if1 .taken),
       q .kept,
-      p .ensures .0,
-      low-stays (a .rows) (a .columns) (u .grid) (u .position) (u .old) (l .loop .work) (x .last .0) (stepOf (u .grid) (u .position) (choice (a .opened-only) (u .grid) (u .position)) 0 .moves)
-          (p .result * a .rows) (u .stands) (q .made .stands) (omega (arith, mul-le-mul-right (a .rows) (p .ensures .0))) (p .ensures .1),
+      omega (arith, low .0),
+      record { none = λ j h t. low .1 .none j (omega arith) t },
     )
 
 same-length : tie.Need-same-length Inv-loop μ-loop
@@ -101,7 +94,6 @@ play-on-spec =
     Inv-loop
     μ-loop
     loop-holds
-    passed-requires
     step-requires
     loop-less
     loop-again
