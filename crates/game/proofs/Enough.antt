@@ -8,15 +8,15 @@ use mathlib.Core.Bool.{Bool, cond, false, true}
 use mathlib.Core.List.{List, [], _++_, _∷_}
 use mathlib.Core.Option.{Option, Option·none-ne-some, none, some}
 use lib.Dec.{T, eqb, leb, le→leb}
-use lib.IntN.{ℤ}
+use lib.IntN.{pos, ℤ}
 use lib.ListN.{length}
 use borrow.Author.Tests.{eq-eqb}
 use Rattle.game.specs.Calls.{Answer, Check, Refusal, draws, drawnRound, drawnSearch, firstGiven, gridChecks, listCheck, numberOf, randomRoundCall, randomSearchCall, refuses, rounds, roundsCheck, unless, unlessListed}
 use Rattle.game.specs.Draws.{Drawn, draw}
-use Rattle.game.specs.Grid.{Grid}
-use Rattle.game.specs.Openings.{threeBV}
-use Rattle.game.specs.Position.{Position, closedSafe, untouched}
-use Rattle.game.specs.Rounds.{Choice, Round, Searched, Step, afterStep, before, choice, randomFrom, randomRound, randomSearch, searchFrom, stepOf, width}
+use Rattle.game.specs.Grid.{Grid, mine, number, square}
+use Rattle.game.specs.Openings.{grow, joinedTo, openings, threeBV}
+use Rattle.game.specs.Position.{Position, closedSafe, cost, gain, premium, untouched}
+use Rattle.game.specs.Rounds.{Choice, Round, Searched, Step, afterStep, before, choice, randomFrom, randomRound, randomSearch, searchFrom, stepOf, topCells, unitCells, width}
 use Rattle.game.proofs.Checks.{given-append, given-each, orElse}
 use Rattle.game.proofs.Rounds.{IfSome, by-tests}
 use Rattle.game.proofs.Searches.{first, onward}
@@ -103,6 +103,15 @@ random-few g bytes at r e = subst (RoundBy (at + 4 * threeBV g)) e (from-few (th
 pub random-enough : (g : Grid) (bytes : List ℕ) (at : ℕ) → at + 4 * threeBV g ≤ length bytes → (r : Round) × (randomRound g bytes at ≡ some r)
 unfolding randomRound
 random-enough g bytes at h = from-enough (threeBV g) g bytes (untouched g) at h
+
+-- two safe cells
+abbrev pair : Grid
+pair = record { rows = 1; columns = 2; values = pos 0 ∷ pos 0 ∷ [] }
+
+-- fewer are not enough for every grid: two safe cells are one unit, and with three bytes their round is dry
+pub three-dry : (threeBV pair ≡ 1) × ((a b c : ℕ) → randomRound pair (a ∷ b ∷ c ∷ []) 0 ≡ none)
+unfolding mine square number grow joinedTo openings threeBV gain cost premium closedSafe topCells unitCells choice draw randomRound
+three-dry = (refl, λ a b c. refl)
 
 -- ---- a search
 
