@@ -27,16 +27,19 @@ drawn-from k d = record { place = d .place; next = k + d .next }
 abbrev round-from : ℕ → Round → Round
 round-from k r = record { steps = r .steps; next = k + r .next }
 
+-- the four bytes that a draw reads
 four-dropped : (bytes : List ℕ) (k at : ℕ) → fourBytes bytes (k + at) ≡ fourBytes (drop k bytes) at
 unfolding fourBytes
 four-dropped bytes k at = simp (getD-drop, add-assoc) refl
 
+-- whether four are left
 room-dropped : (bytes : List ℕ) (k at : ℕ) → leb (k + at + 4) (length bytes) ≡ leb (at + 4) (length (drop k bytes))
 room-dropped bytes k at =
     iff (leb (k + at + 4) (length bytes)) (leb (at + 4) (length (drop k bytes)))
     (λ t. le→leb (at + 4) (length (drop k bytes)) (omega (arith, leb→le (k + at + 4) (length bytes) t, length-drop k bytes)))
     (λ t. le→leb (k + at + 4) (length bytes) (omega (arith, leb→le (at + 4) (length (drop k bytes)) t, length-drop k bytes)))
 
+-- a draw from a place on is the draw of the bytes from there on
 draw-dropped : (bytes : List ℕ) (k at n : ℕ) → draw bytes (k + at) n ≡ Option·map (drawn-from k) (draw (drop k bytes) at n)
 unfolding draw
 draw-dropped bytes k at n =
@@ -50,6 +53,7 @@ draw-dropped bytes k at n =
 
 -- ---- a round
 
+-- so many steps from there on
 from-dropped : (n : ℕ) (g : Grid) (bytes : List ℕ) (k : ℕ) (s : Position) (at : ℕ) → randomFrom n g bytes s (k + at) ≡ Option·map (round-from k) (randomFrom n g (drop k bytes) s at)
 from-dropped zero g bytes k s at = refl
 from-dropped (suc n) g bytes k s at =
