@@ -4,6 +4,8 @@ use mathlib.Core.Bool.{Bool, false, true}
 use mathlib.Core.List.{List, [], _++_, _∷_}
 use mathlib.Core.Option.{Option, none, some}
 use Rattle.game.specs.Calls.{Check, Refusal, firstGiven}
+use Rattle.game.specs.Lists.{Each}
+use Rattle.game.proofs.Rounds.{IfSome}
 
 -- the verdict of the first checks, or else of the last
 unfoldable pub orElse : Option Refusal → Option Refusal → Option Refusal
@@ -19,4 +21,13 @@ given-append (c ∷ cs) ds = go (c .given) (given-append cs ds)
         → _≡_ {A = Option Refusal} (elim b [ true ↦ some (c .refusal) | false ↦ firstGiven (cs ++ ds) ])
         (orElse (elim b [ true ↦ some (c .refusal) | false ↦ firstGiven cs ]) (firstGiven ds))
     go true r = refl
+    go false r = r
+
+-- the verdict is the refusal of one of the checks: what holds of each of theirs holds of it
+pub given-each : (P : Refusal → Type 0) (cs : List Check) → Each (λ (c : Check). P (c .refusal)) cs → IfSome P (firstGiven cs)
+given-each P [] h = tt
+given-each P (c ∷ cs) h = go (c .given) (given-each P cs (h .1))
+  where
+    go : (b : Bool) → IfSome P (firstGiven cs) → IfSome P (elim b [ true ↦ some (c .refusal) | false ↦ firstGiven cs ])
+    go true r = h .0
     go false r = r

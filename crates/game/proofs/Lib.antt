@@ -24,3 +24,5 @@ pub mod Table
 pub mod Replays
 pub mod Areas
 pub mod Checks
+pub mod Enough
+pub mod Parts

@@ -1,5 +1,5 @@
 -- Demand 3 for each of the three ways: their steps fit, and they end with all safe cells open. Assumes nothing.
-use Prim.Native.Nat.{ℕ, _%_, _+_, _<_, _≤_, suc, zero}
+use Prim.Native.Nat.{ℕ, _+_, _<_, _≤_, suc, zero}
 use native.Mathlib.Omega.{arith}
 use native.Mathlib.Decide.{decLe}
 use native.Mathlib.Nat.{mod-lt}
@@ -130,6 +130,12 @@ used-on bytes at mid next (inl e) (inr k) = inr (omega (arith, k .0), k .1)
 used-on bytes at mid next (inr h) (inl f) = inr (omega (arith, h .0), omega (arith, h .1))
 used-on bytes at mid next (inr h) (inr k) = inr (omega (arith, h .0, k .0), k .1)
 
+-- something holds of a draw: of the one without bytes, and where enough are left of the one with them
+pub by-tests : (P : Drawn → Type 0) (single room : Bool) {d d′ : Drawn} → P d → (T room → P d′) → IfSome P (cond single (some d) (cond room (some d′) none))
+by-tests P true room h k = h
+by-tests P false true h k = k tt
+by-tests P false false h k = tt
+
 -- a draw takes one of the places that it is among, and reads on in the bytes
 pub record Rolled (bytes : List ℕ) (at n : ℕ) (d : Drawn) : Type 0 where
   pub inside : d .place < n
@@ -137,13 +143,9 @@ pub record Rolled (bytes : List ℕ) (at n : ℕ) (d : Drawn) : Type 0 where
 
 pub rolled : (bytes : List ℕ) (at n : ℕ) → 1 ≤ n → IfSome (Rolled bytes at n) (draw bytes at n)
 unfolding draw
-rolled bytes at n h = go (leb n 1) (leb (at + 4) (length bytes)) refl
-  where
-    go : (b c : Bool) → leb (at + 4) (length bytes) ≡ c
-        → IfSome (Rolled bytes at n) (cond b (some (record { place = 0; next = at })) (cond c (some (record { place = fourBytes bytes at % n; next = at + 4 })) none))
-    go true c e = record { inside = h; uses = inl refl }
-    go false true e = record { inside = mod-lt (fourBytes bytes at) h; uses = inr (omega arith, leb→le (at + 4) (length bytes) (rw e tt)) }
-    go false false e = tt
+rolled bytes at n h =
+    by-tests (Rolled bytes at n) (leb n 1) (leb (at + 4) (length bytes)) (record { inside = h; uses = inl refl })
+    (λ t. record { inside = mod-lt (fourBytes bytes at) h; uses = inr (omega arith, omega (arith, leb→le (at + 4) (length bytes) t)) })
 
 -- what a random round is, if its draws suffice
 pub record Rounded (g : Grid) (bytes : List ℕ) (s : Position) (at n : ℕ) (r : Round) : Type 0 where

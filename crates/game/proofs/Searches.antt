@@ -16,14 +16,14 @@ use Rattle.game.specs.Rounds.{Round, Searched, movesOf, randomRound, ran
 use Rattle.game.proofs.Rounds.{IfSome, Used, random-sound, random-uses}
 
 -- what a round leaves for those after it
-abbrev left-by : ℕ → Round → Searched
+abbrev pub left-by : ℕ → Round → Searched
 left-by least e = record { least = least; next = e .next; moves = movesOf (e .steps) }
 
 -- what the first round leaves, and one after others
-abbrev first : Round → Searched
+abbrev pub first : Round → Searched
 first e = left-by (length (movesOf (e .steps))) e
 
-abbrev onward : Searched → Round → Searched
+abbrev pub onward : Searched → Round → Searched
 onward b e = left-by (min (b .least) (length (movesOf (e .steps)))) e
 
 -- ---- each round is sound

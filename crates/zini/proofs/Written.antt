@@ -1,12 +1,13 @@
 -- What greedy, openings-first and a random round answered and wrote, and each round of a search, meets demand 3. Assumes nothing.
-use Prim.Native.Nat.{ℕ, _≤_}
+use Prim.Native.Nat.{ℕ, _+_, _≤_, min}
 use native.Mathlib.Omega.{arith}
-use mathlib.Core.Path.{_≡_, ap, refl, sym, _∙_}
+use mathlib.Core.Path.{_≡_, ap, ap₂, refl, sym, _∙_}
 use mathlib.Core.Bool.{Bool}
 use mathlib.Core.List.{List, [], _∷_, _++_, map}
 use mathlib.Core.Option.{Option, none, some}
 use lib.IntN.{ℤ}
 use lib.ListN.{drop, getD, length, length-map, take}
+use borrow.Author.Tests.{ne-eqb}
 use Rattle.game.specs.Grid.{Grid, size}
 use Rattle.game.specs.Area.{listOf}
 use Rattle.game.specs.Moves.{replayFrom, word}
@@ -14,6 +15,7 @@ use Rattle.game.specs.Position.{untouched}
 use Rattle.game.specs.Rounds.{Round, Searched, Step, greedySteps, movesOf, openingsFirstSteps, randomRound, randomSearch}
 use Rattle.game.specs.Demands.{Sound, SoundSearch}
 use Rattle.game.specs.Calls.{Answer, ListOutcome, Refusal, board, draws, drawnRound, drawnSearch, firstGiven, frame, gives, greedyCall, gridChecks, listCheck, move, numberOf, openingsFirstCall, playedRound, Outcome, randomRoundCall, randomSearchCall, rounds, roundsCheck, shape, size-over, trace, unless, unlessListed, work}
+use Rattle.game.proofs.Parts.{joined, search-parts}
 use Rattle.game.proofs.Replays.{round-replays}
 use Rattle.game.proofs.Rounds.{greedy-sound, openings-first-sound, random-sound}
 use Rattle.game.proofs.Searches.{search-sound}
@@ -106,3 +108,31 @@ search-told g w w′ bytes n clicks used k =
           used-are = ap (λ (a : Answer). getD (a .values) 1 0) (k .answers);
           sound = d r refl;
         }
+
+-- two searches, the second with the bytes that the first left, answer together what one search of all their rounds answers
+pub searches-join : (g : Grid) (w w′ v v′ : List ℤ) (bytes : List ℕ) (m n clicks used clicks′ used′ : ℕ)
+    → Kept (randomSearchCall g w bytes m) (gives (clicks ∷ used ∷ [])) w′ → Kept (randomSearchCall g v (drop used bytes) n) (gives (clicks′ ∷ used′ ∷ [])) v′
+    → randomSearchCall g w bytes (m + n) .answer ≡ gives (min clicks clicks′ ∷ (used + used′) ∷ [])
+unfolding randomSearchCall
+searches-join g w w′ v v′ bytes m n clicks used clicks′ used′ k k′ =
+    ap (λ (o : Option Refusal). unless o w (drawnSearch g (randomSearch g bytes (m + n)) w) .answer) (given-as (m + n) m (omega (arith, a .sound .as-many)) (omega (arith, a .sound .as-many)) ∙ fine .0)
+    ∙ ap (λ (o : Option Searched). drawnSearch g o w .answer) whole
+    ∙ ap₂ (λ (c u : ℕ). gives (c ∷ u ∷ [])) (ap₂ min (sym (a .clicks-are)) (sym (b .clicks-are))) (ap₂ _+_ (sym (a .used-are)) (sym (b .used-are)))
+  where
+    a : Told g bytes m clicks used
+    a = search-told g w w′ bytes m clicks used k
+
+    b : Told g (drop used bytes) n clicks′ used′
+    b = search-told g v v′ (drop used bytes) n clicks′ used′ k′
+
+    fine : (firstGiven (gridChecks g w ++ roundsCheck m ∷ []) ≡ none) × Kept (drawnSearch g (randomSearch g bytes m) w) (gives (clicks ∷ used ∷ [])) w′
+    fine = not-turned-down (firstGiven (gridChecks g w ++ roundsCheck m ∷ [])) w w′ (drawnSearch g (randomSearch g bytes m) w) (clicks ∷ used ∷ []) k
+
+    given-as : (i j : ℕ) → 1 ≤ i → 1 ≤ j → firstGiven (gridChecks g w ++ roundsCheck i ∷ []) ≡ firstGiven (gridChecks g w ++ roundsCheck j ∷ [])
+    given-as i j h l =
+        ap (λ (x : Bool). firstGiven (gridChecks g w ++ record { given = x; refusal = rounds } ∷ [])) (ne-eqb i 0 (λ e. omega arith) ∙ sym (ne-eqb j 0 (λ e. omega arith)))
+
+    whole : randomSearch g bytes (m + n) ≡ some (joined (a .came-to) (b .came-to))
+    whole =
+        search-parts g bytes m n (a .came-to) (b .came-to) (omega (arith, a .sound .as-many)) (omega (arith, b .sound .as-many)) (a .searched)
+        (ap (λ (i : ℕ). randomSearch g (drop i bytes) n) (sym (a .used-are)) ∙ b .searched)
