@@ -12,8 +12,17 @@
  * stands there is left alone, except that replay writes the bad move's place to *made on LAVGERIN_MOVE.
  * The refusals from LAVGERIN_SHAPE to LAVGERIN_ROUNDS change nothing lent.
  *
- * Any numbers and lengths may be passed. Every pointer must be valid for its length, and none may be NULL, also where
- * the length is 0. What a function writes must not overlap anything else that is passed. */
+ * Any numbers and lengths may be passed. A length counts elements, not bytes. Every pointer must be valid for its
+ * length, and none may be NULL, also where the length is 0. What a function writes must not overlap anything else that
+ * is passed.
+ *
+ * A call takes less than 64 KiB of stack: at most 50,000 bytes were measured up to 512 cells, where functions call each
+ * other, and less than 2 KiB above that.
+ *
+ * A random round uses at most 4 x 3BV draw bytes, so a search with 4 x 3BV x rounds bytes never returns LAVGERIN_DRAWS.
+ * A long search can be split: each call is lent the bytes from where the one before ended, by *used, and the least of
+ * the answers counts. To keep the moves too, play single rounds so, and copy the list whenever *clicks is below the
+ * least so far: examples/search.c. */
 #ifndef LAVGERIN_H
 #define LAVGERIN_H
 

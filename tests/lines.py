@@ -3,7 +3,9 @@
     python3 tests/lines.py price < BOARDS > PRICES    what the board reader prints for an input
     python3 tests/lines.py make > crates/line_trials/stdin
     python3 tests/lines.py trials < crates/line_trials/stdin > crates/line_trials/stdout
-"""
+
+For a wrong byte count a stored move line is FRAME before SHAPE is looked at, a board line after it: document 01 gives
+board lines that order, and a stored line has only 'malformed'. The smallest line that shows it is 000100."""
 import random
 import sys
 
@@ -241,10 +243,12 @@ def check_sum(text):
 
 
 P7 = b"0202000100010002000000030001"
+BOTH = b"000100"  # no rows and a wrong byte count: a board line tells SHAPE, a stored line FRAME
 
 
 def moves_trials():
     """What the stored lines come to."""
+    assert price(BOTH)[0] == SHAPE and read_moves(BOTH, 4)[0] == FRAME
     out = []
 
     def told(numbers, after=""):
@@ -259,7 +263,7 @@ def moves_trials():
         read(P7[:n], 4)
     for room in (2, 3):
         read(P7, room)
-    for line in (b"0002", b"0200", b"00FF00010001", b"FFFF", b"FFFFFFFFFFFF00000000", b"0101\n", b"010100000a00"):
+    for line in (b"0002", b"0200", b"00FF00010001", b"FFFF", b"FFFFFFFFFFFF00000000", b"0101\n", b"010100000a00", BOTH):
         read(line, 4)
     moves = [65537, 131072, 196609, 4294967295]
     for rows, columns, count, room in (
@@ -284,10 +288,18 @@ def trials(text):
     return prices + sums + moves_trials()
 
 
-if __name__ == "__main__":
-    if sys.argv[1] == "make":
+def main():
+    words = sys.argv[1:]
+    if words == ["make"]:
         make()
-    elif sys.argv[1] == "price":
+    elif words == ["price"]:
         sys.stdout.buffer.write(priced(sys.stdin.buffer.read()))
-    else:
+    elif words == ["trials"]:
         sys.stdout.buffer.write(trials(sys.stdin.buffer.read()))
+    else:
+        print(__doc__, file=sys.stderr)
+        sys.exit(2)
+
+
+if __name__ == "__main__":
+    main()

@@ -154,9 +154,9 @@ static void boards(void) {
     ran("boards");
 }
 
-/* Random rounds and searches of the scope's examples, draws on both sides of enough. */
+/* Random rounds and searches of the scope's examples, draws on both sides of enough, and 4 x 3BV bytes a round. */
 static void draws(void) {
-    static const uint8_t noughts[24] = {0}, seven[8] = {7}, five[4] = {5};
+    static const uint8_t noughts[96] = {0}, seven[8] = {7}, five[4] = {5};
     static const uint32_t by_seven[5] = {L(7), F(4), C(7), L(1), C(1)}, by_five[3] = {L(3), F(0), C(3)};
     EQUAL(rolled(P11, noughts, 12), 0);
     EQUAL(first, 5);
@@ -180,6 +180,7 @@ static void draws(void) {
     EQUAL(searched(P11, noughts, 12, 1), 0);
     EQUAL(second, 12);
     refused(searched(P11, noughts, 24, 0), LAVGERIN_ROUNDS);
+    for (size_t k = 0; k < 12; k++) EQUAL(searched(&P[k], noughts, 3 * 4 * P[k].units, 3), 0);
     ran("draws");
 }
 

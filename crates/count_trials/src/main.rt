@@ -148,6 +148,11 @@ fn short_work() {
 }
 
 fn main() {
+    if trials::usage(
+        b"usage: count_trials  counts 3BV of boards of its own, prints the answers, and takes no argument\n",
+    ) {
+        return;
+    }
     first_eight();
     last_four();
     other_values();

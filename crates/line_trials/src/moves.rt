@@ -56,7 +56,7 @@ fn read_cuts(line: &[u8]) {
     }
 }
 
-// Lines read: P7's cut at every place and whole, with too little room and just enough, and the sides' edges.
+// Lines read: P7's cut at every place and whole, with too little room and just enough, the sides' edges, and no rows with a wrong byte count.
 pub fn read_all() {
     let stored = b"0202000100010002000000030001";
     read_cuts(stored);
@@ -70,6 +70,7 @@ pub fn read_all() {
     read_line(b"FFFFFFFFFFFF00000000", 4);
     read_line(b"0101\n", 4);
     read_line(b"010100000a00", 4);
+    read_line(b"000100", 4);
 }
 
 // Prints a number, how many digits, and the run.

@@ -63,6 +63,10 @@ only-of g i n r h nb y t e =
     let c = s .1 in
     nb .found y (s .0) (omega (arith, c .north, c .south, c .west, c .east)) (omega (arith, c .north, c .south, c .west, c .east))
 
+-- a square has nine cells
+few-turns : (g : Grid) (i y : ℕ) → i < size g → T (has y (square g i)) → turn g i y < 9
+few-turns g i y h t = let c = square→ g i y h t .1 in omega (arith, c .north, c .south, c .west, c .east)
+
 module _ (g : Grid) (op : ℕ) (o : 1 ≤ op) where
   -- nothing to do
   pub opened-not : (w : List ℤ) (i : ℕ) → (Fresh (size g) w i → ⊥) → Opened g (kindOf w) op i w w
@@ -77,12 +81,12 @@ module _ (g : Grid) (op : ℕ) (o : 1 ≤ op) where
         clear = λ c. c;
       }
 
-  pub visited-none : (w : List ℤ) (i n : ℕ) → i < size g → 9 ≤ n → Visited g (kindOf w) op i n w w
-  visited-none w i n h l =
+  pub visited-none : (w : List ℤ) (i : ℕ) → Visited g (kindOf w) op i 0 w w
+  visited-none w i =
       record {
         change = refl-change g (kindOf w) op o i w;
         closed = λ x h e a b. absurd (omega arith);
-        ahead = λ y t a. absurd (let c = square→ g i y h t .1 in omega (arith, c .north, c .south, c .west, c .east));
+        passed = λ y t a. absurd (omega arith);
         clear = λ c. c;
       }
 
@@ -113,37 +117,38 @@ module _ (g : Grid) (op : ℕ) (o : 1 ≤ op) where
         clear = λ f. p .clear (λ x a d. b .waits x ∙ f x a d);
       }
 
-  -- one neighbour, and then those after it
-  pub visited-more : (w w2 w3 : List ℤ) (i n : ℕ) → i < size g → Stepped i n w w2 → Visited g (kindOf w2) op i (n + 1) w2 w3 → Visited g (kindOf w) op i n w w3
-  visited-more w w2 w3 i n h s v1 =
+  -- some neighbours, and then one more
+  pub visited-more : (w w2 w3 : List ℤ) (i n : ℕ) → i < size g → Visited g (kindOf w) op i n w w2 → Stepped i n w2 w3 → Visited g (kindOf w) op i (n + 1) w w3
+  visited-more w w2 w3 i n h v s =
       let k = kindOf w in
-      let v : Visited g k op i (n + 1) w2 w3 = subst (λ (m : ℕ → ℕ). Visited g m op i (n + 1) w2 w3) (kinds-stay g k op o i w w2 (s .change)) v1 in
+      let e : kindOf w2 ≡ k = kinds-stay g k op o i w w2 (v .change) in
+      let c : Change g k op i w2 w3 = subst (λ (m : ℕ → ℕ). Change g m op i w2 w3) e (s .change) in
       record {
-        change = trans-change g k op o i w w2 w3 (s .change) (v .change);
-        closed = closed-then g k op o i i w w2 w3 (s .change) (s .closed) (v .change) (v .closed);
-        ahead = λ y t a.
+        change = trans-change g k op o i w w2 w3 (v .change) c;
+        closed = closed-then g k op o i i w w2 w3 (v .change) (v .closed) c (subst (λ (m : ℕ → ℕ). Closed g m op w2 w3) e (s .closed));
+        passed = λ y t a.
             let hy = square→ g i y h t .0 in
             elim (ℕ-discrete (turn g i y) n) [
-              | yes e ↦ side-then g k op o i w w2 w3 y hy (s .side y t e) (v .change)
-              | no f ↦ then-side g k op o i w w2 w3 y hy (s .change) (v .ahead y t (omega arith))
+              | yes q ↦ then-side g k op o i w w2 w3 y hy (v .change) (subst (λ (m : ℕ → ℕ). Side m op w2 w3 y) e (s .side y t q))
+              | no f ↦ side-then g k op o i w w2 w3 y hy (v .passed y t (omega arith)) c
             ];
-        clear = λ f. v .clear (s .clear f);
+        clear = λ f. s .clear (v .clear f);
       }
 
   -- the cell itself, and then all its neighbours
   pub opened-all : (w w1 w2 : List ℤ) (i : ℕ) → 5 * size g ≤ length w → Fresh (size g) w i → w1 ≡ marked w i op
-      → Visited g (kindOf w1) op i 0 w1 w2 → Opened g (kindOf w) op i w w2
+      → Visited g (kindOf w1) op i 9 w1 w2 → Opened g (kindOf w) op i w w2
   opened-all w w1 w2 i room f q v1 =
       let k = kindOf w in
       let h = f .inside in
       let m : Change g k op i w w1 = rw q (mark-change g k op o i i w i h room (λ _. f .unlabelled) (here h (f .zero-cell)) (in-own-square g i h)) in
-      let v : Visited g k op i 0 w1 w2 = subst (λ (m : ℕ → ℕ). Visited g m op i 0 w1 w2) (kinds-stay g k op o i w w1 m) v1 in
+      let v : Visited g k op i 9 w1 w2 = subst (λ (m : ℕ → ℕ). Visited g m op i 9 w1 w2) (kinds-stay g k op o i w w1 m) v1 in
       record {
         change = trans-change g k op o i w w1 w2 m (v .change);
         closed = λ x hx ex u l y t.
             let hy = square→ g x y hx t .0 in
             then-side g k op o i w w1 w2 y hy m (elim (ℕ-discrete x i) [
-              | yes e ↦ v .ahead y (subst (λ (z : ℕ). T (has y (square g z))) e t) (omega arith)
+              | yes e ↦ let t1 = subst (λ (z : ℕ). T (has y (square g z))) e t in v .passed y t1 (few-turns g i y h t1)
               | no d ↦ v .closed x hx ex (rw q (ap natural (marked-other w i op (5 * x) (λ r. d (omega arith)) (λ r. omega arith)) ∙ u)) l y t
             ]);
         self = λ _ _. stays g k op o i w1 w2 (v .change) i h

@@ -72,11 +72,11 @@ pub record Opened (g : Grid) (k : ℕ → ℕ) (op i : ℕ) (w w′ : List ℤ) 
 abbrev pub turn : Grid → ℕ → ℕ → ℕ
 turn g i y = 3 * (rowOf g y + 1 - rowOf g i) + (columnOf g y + 1 - columnOf g i)
 
--- after visiting the neighbours of i from number n on
+-- after visiting the first n neighbours of i
 pub record Visited (g : Grid) (k : ℕ → ℕ) (op i n : ℕ) (w w′ : List ℤ) : Type 0 where
   pub change : Change g k op i w w′
   pub closed : Closed g k op w w′
-  pub ahead : (y : ℕ) → T (has y (square g i)) → n ≤ turn g i y → Side k op w w′ y
+  pub passed : (y : ℕ) → T (has y (square g i)) → turn g i y < n → Side k op w w′ y
   pub clear : ClearFrom g 0 w → ClearFrom g 0 w′
 
 -- after a cell was looked at as the lowest of the next opening: r openings in place of n

@@ -18,23 +18,21 @@ pub fn label_cell(work: &mut [i32], rows: usize, columns: usize, op: usize, inde
         return;
     }
     mark(work, index, op);
-    visit(work, rows, columns, op, index, 0);
+    visit(work, rows, columns, op, index);
 }
 
-// Visits the neighbours of a 0-cell from number k on: one of number 1 or more gets the label, a 0-cell without label is labelled in turn.
-pub fn visit(work: &mut [i32], rows: usize, columns: usize, op: usize, index: usize, k: usize)
+// Visits the neighbours of a 0-cell in turn: one of number 1 or more gets the label, a 0-cell without label is labelled in turn.
+pub fn visit(work: &mut [i32], rows: usize, columns: usize, op: usize, index: usize)
     requires { ⌜ Ready rows columns op (now work) ⌝ }
     requires { ⌜ index < rows * columns ⌝ }
     requires { ⌜ kindOf (now work) index ≡ 1 ⌝ }
     requires { ⌜ rows * columns ≤ 512 ⌝ }
-    ensures { λ _. ⌜ Visited (shaped rows columns) (kindOf (now (work .entry))) op index k
+    ensures { λ _. ⌜ Visited (shaped rows columns) (kindOf (now (work .entry))) op index 9
         (now (work .entry)) (now (work .exit)) ⌝ }
 {
-    if k >= 9 {
-        return;
+    for k in 0..9 {
+        let at = area::near(rows, columns, index, k / 3, k % 3);
+        border(work, rows * columns, at, op);
+        label_cell(work, rows, columns, op, at);
     }
-    let at = area::near(rows, columns, index, k / 3, k % 3);
-    border(work, rows * columns, at, op);
-    label_cell(work, rows, columns, op, at);
-    visit(work, rows, columns, op, index, k + 1);
 }

@@ -144,6 +144,11 @@ fn refusals() {
 }
 
 fn main() {
+    if trials::usage(
+        b"usage: price_trials  prices boards of its own by greedy and openings-first, prints the answers, and takes no argument\n",
+    ) {
+        return;
+    }
     first_six();
     last_six();
     refusals();

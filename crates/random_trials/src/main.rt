@@ -141,6 +141,11 @@ fn refusals() {
 }
 
 fn main() {
+    if trials::usage(
+        b"usage: random_trials  plays random rounds and searches on boards of its own, prints the answers, and takes no argument\n",
+    ) {
+        return;
+    }
     examples();
     searches();
     refusals();

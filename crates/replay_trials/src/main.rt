@@ -167,6 +167,11 @@ fn refusals() {
 }
 
 fn main() {
+    if trials::usage(
+        b"usage: replay_trials  replays move lists of its own, prints the answers, and takes no argument\n",
+    ) {
+        return;
+    }
     first_six();
     last_six();
     illegal();

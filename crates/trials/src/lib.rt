@@ -1,5 +1,14 @@
 // What the trial programs share: boards with mines laid out, and answers printed beside what they should be.
 
+// Whether the program was started with an argument, which none of them takes: then the text is on standard error.
+pub fn usage(text: &[u8]) -> bool {
+    if os::arg_count() < 2 {
+        return false;
+    }
+    io::write_all(libc::STDERR_FILENO, text);
+    true
+}
+
 // An answer: its number, 0 for success, and its two values, 0 for none.
 pub struct Plain {
     pub number: u64,

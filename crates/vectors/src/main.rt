@@ -321,7 +321,7 @@ fn is_end(seen: Seen) -> bool {
 }
 
 // Every line: no input has a million of them.
-fn main() {
+fn replay_all() {
     let mut boards: u64 = 0;
     let mut wrong: u64 = 0;
     while boards < 1000000 {
@@ -333,4 +333,13 @@ fn main() {
         boards += 1;
     }
     report(boards, wrong);
+}
+
+fn main() {
+    if trials::usage(
+        b"usage: vectors < ANSWERS  compares the Rust's stored answers from standard input with ours, and takes no argument\n",
+    ) {
+        return;
+    }
+    replay_all();
 }

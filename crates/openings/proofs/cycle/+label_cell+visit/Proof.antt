@@ -1,15 +1,18 @@
--- The cycle of `label_cell` and `visit`. `label_cell` labels a 0-cell before it visits its neighbours, so the 0-cells without label times 10, plus the neighbours left, fall.
+-- The cycle of `label_cell` and `visit`. `label_cell` labels a 0-cell before it visits its neighbours, so the 0-cells without label fall from cell to cell; in `visit` the neighbours left fall.
 -- Assumes nothing.
 use borrow.Author.Needs.{needs}
-use Prim.Native.Nat.{ℕ, _+_, _-_, _*_, _<_}
+use Prim.Native.Nat.{ℕ, _+_, _-_, _*_, _<_, _≤_}
 use native.Mathlib.Omega.{arith}
-use mathlib.Core.Path.{_≡_, _∙_}
-use Rattle.openings.specs.Marks.{freeOf, kindOf, marked, shaped}
+use mathlib.Core.Path.{_≡_, _∙_, subst}
+use mathlib.Core.List.{List}
+use lib.IntN.{ℤ}
+use Rattle.openings.specs.Marks.{Ready, freeOf, kindOf, marked, shaped}
+use Rattle.openings.specs.Spread.{Visited}
 use Rattle.area.proofs.Cells.{cells-few}
 use Rattle.openings.proofs.Edges.{fresh-no, fresh-yes, marked-kind}
 use Rattle.openings.proofs.Changes.{kind-stays}
 use Rattle.openings.proofs.Frees.{free-le, free-marked}
-use Rattle.openings.proofs.Visits.{Stepped, border-free, opened-all, opened-not, ready-again, stepped, visited-more, visited-none}
+use Rattle.openings.proofs.Visits.{border-free, opened-all, opened-not, ready-again, stepped, visited-more, visited-none}
 use borrow.Fn.Kinds.{In}
 use borrow.Fn.PlainCycle.{Measures, is, falls, and}
 use Rattle.openings.proofs.cycle.label_cell.Reads as label-cell
@@ -26,10 +29,10 @@ use Rattle.openings.proofs.cycle.+label_cell+visit.{statement}
 use Rattle.openings.proofs.cycle.+label_cell+visit.Tie.{close}
 
 abbrev μ-label-cell : Measures 1 label-cell-kinds.ps ℕ
-μ-label-cell κs a = freeOf (a .1 .0 * a .1 .1 .0) (a .0 .now) * 10
+μ-label-cell κs a = freeOf (a .1 .0 * a .1 .1 .0) (a .0 .now) * 2
 
 abbrev μ-visit : Measures 1 visit-kinds.ps ℕ
-μ-visit κs a = freeOf (a .1 .0 * a .1 .1 .0) (a .0 .now) * 10 + (9 - a .1 .1 .1 .1 .1 .0)
+μ-visit κs a = freeOf (a .1 .0 * a .1 .1 .0) (a .0 .now) * 2 + 1
 
 abbrev label-cell-at : ℕ → In 1 label-cell-kinds.ps
 label-cell-at t =
@@ -149,39 +152,31 @@ label-cell-returns-2 t c =
     opened-all (shaped (a .rows) (a .columns)) (a .op) (s .pre .1 .0 .some-label) w (c .before .before .before .before .mark .last .0) (c .before .visit .last .0) (a .index) (s .pre .1 .0 .room) f
     (c .before .before .before .before .mark .ensures) (c .before .visit .ensures)
 
--- what one neighbour has come to once `label_cell` is back
-met : (t : ℕ) (c : visit-lts.After-label-cell (
-  near-reads.Asked,
-  near-reads.Learnt,
-  border-reads.Asked,
-  border-reads.Learnt,
-  label-cell-below t,
-  label-cell.Post,
-  visit-below t,
-  visit.Post,
-) (visit-at t) visit.Post)
-    → Stepped (shaped (c .before .before .before .before .before .before .before .args .rows) (c .before .before .before .before .before .before .before .args .columns)) (c .before .before .before .before .before .before .before .args .op) (c .before .before .before .before .before .before .before .pre .1 .0 .some-label)
-    (c .before .before .before .before .before .before .before .args .index) (c .before .before .before .before .before .before .before .args .k) (c .before .before .before .before .before .before .before .args .work .now) (c .label-cell .last .0)
-met t c =
-    let s = c .before .before .before .before .before .before .before in
-    let a = s .args in
-    stepped (shaped (a .rows) (a .columns)) (a .op) (s .pre .1 .0 .some-label) (a .work .now) (c .before .before .before .border .last .0) (c .label-cell .last .0) (a .index) (a .k) (c .before .before .before .before .before .near .result)
-    (s .pre .1 .1 .0) (s .pre .1 .1 .1 .0) (c .before .before .before .before .before .before .if1 .left) (s .pre .1 .0 .room) (c .before .before .before .before .before .near .ensures) (c .before .before .before .border .ensures) (c .label-cell .ensures)
+abbrev visit-Inv-loop : visit-lts.InvT-loop
+visit-Inv-loop work₀ rows columns op index k₀ work k =
+    (k ≤ 9) × Visited (shaped rows columns) (kindOf work₀) op index k work₀ work
 
-visit-returns : (t : ℕ) → visit-lts.Need-returns (
+abbrev visit-μ-loop : visit-lts.MeasureT-loop
+visit-μ-loop work₀ rows columns op index k₀ work k = 9 - k
+
+-- neighbours that were visited leave what the next one asks
+still-ready : {rows columns op i k : ℕ} (w w1 : List ℤ) → Ready rows columns op w → Visited (shaped rows columns) (kindOf w) op i k w w1 → Ready rows columns op w1
+still-ready w w1 r v = ready-again w w1 r (v .change .long)
+
+still-zero : {rows columns op i k : ℕ} (w w1 : List ℤ) → Ready rows columns op w → Visited (shaped rows columns) (kindOf w) op i k w w1 → kindOf w i ≡ 1 → kindOf w1 i ≡ 1
+still-zero {rows = rows} {columns = columns} {op = op} {i = i} w w1 r v e = kind-stays (shaped rows columns) (kindOf w) op (r .some-label) i w w1 (v .change) i ∙ e
+
+visit-loop-holds : (t : ℕ) → visit-lts.Need-loop-holds (
   near-reads.Asked,
   near-reads.Learnt,
   border-reads.Asked,
   border-reads.Learnt,
   label-cell-below t,
   label-cell.Post,
-  visit-below t,
-  visit.Post,
-) (visit-at t) visit.Post
-visit-returns t c =
-    let s = c .before in
-    let a = s .args in
-    visited-none (shaped (a .rows) (a .columns)) (a .op) (s .pre .1 .0 .some-label) (a .work .now) (a .index) (a .k) (s .pre .1 .1 .0) (c .if1 .taken)
+) (visit-at t) visit.Post visit-Inv-loop visit-μ-loop
+visit-loop-holds t c =
+    let a = c .args in
+    (omega arith, visited-none (shaped (a .rows) (a .columns)) (a .op) (c .pre .1 .0 .some-label) (a .work .now) (a .index))
 
 visit-near-requires : (t : ℕ) → visit-lts.Need-near-requires (
   near-reads.Asked,
@@ -190,10 +185,10 @@ visit-near-requires : (t : ℕ) → visit-lts.Need-near-requires (
   border-reads.Learnt,
   label-cell-below t,
   label-cell.Post,
-  visit-below t,
-  visit.Post,
-) (visit-at t) visit.Post
-visit-near-requires t c κs = (c .before .pre .1 .0 .shape, (c .before .pre .1 .1 .0, omega arith, omega arith))
+) (visit-at t) visit.Post visit-Inv-loop visit-μ-loop
+visit-near-requires t c κs =
+    let s = c .before .before in
+    (s .pre .1 .0 .shape, (s .pre .1 .1 .0, omega (arith, c .loop-test .taken), omega arith))
 
 visit-mul-border : (t : ℕ) → visit-lts.Need-mul-border (
   near-reads.Asked,
@@ -202,11 +197,9 @@ visit-mul-border : (t : ℕ) → visit-lts.Need-mul-border (
   border-reads.Learnt,
   label-cell-below t,
   label-cell.Post,
-  visit-below t,
-  visit.Post,
-) (visit-at t) visit.Post
+) (visit-at t) visit.Post visit-Inv-loop visit-μ-loop
 visit-mul-border t c =
-    let s = c .before .before .before in
+    let s = c .before .before .before .before in
     omega (arith, cells-few (s .args .rows) (s .args .columns) (s .pre .1 .0 .shape))
 
 visit-border-requires : (t : ℕ) → visit-lts.Need-border-requires (
@@ -216,10 +209,10 @@ visit-border-requires : (t : ℕ) → visit-lts.Need-border-requires (
   border-reads.Learnt,
   label-cell-below t,
   label-cell.Post,
-  visit-below t,
-  visit.Post,
-) (visit-at t) visit.Post
-visit-border-requires t c κs = (c .before .before .before .pre .1 .0 .room, c .before .before .before .pre .1 .0 .fits)
+) (visit-at t) visit.Post visit-Inv-loop visit-μ-loop
+visit-border-requires t c κs =
+    let s = c .before .before .before .before in
+    (omega (arith, s .pre .1 .0 .room, c .before .before .before .loop .inv .1 .change .long), s .pre .1 .0 .fits)
 
 visit-label-cell-requires : (t : ℕ) → visit-lts.Need-label-cell-requires (
   near-reads.Asked,
@@ -228,55 +221,59 @@ visit-label-cell-requires : (t : ℕ) → visit-lts.Need-label-cell-requires (
   border-reads.Learnt,
   label-cell-below t,
   label-cell.Post,
-  visit-below t,
-  visit.Post,
-) (visit-at t) visit.Post
+) (visit-at t) visit.Post visit-Inv-loop visit-μ-loop
 visit-label-cell-requires t c κs =
-    let s = c .before .before .before .before .before .before in
+    let s = c .before .before .before .before .before .before .before in
+    let l = c .before .before .before .before .before .before .loop in
     let a = s .args in
-    let w = a .work .now in
-    let b = c .before .before .border in
-    let less = border-free (shaped (a .rows) (a .columns)) (a .op) (s .pre .1 .0 .some-label) w (b .last .0) (a .index) (a .k) (c .before .before .before .before .near .result) (s .pre .1 .1 .0) (s .pre .1 .1 .1 .0)
-    (c .before .before .before .before .before .if1 .left) (s .pre .1 .0 .room) (c .before .before .before .before .near .ensures) (b .ensures) in
-    (omega (arith, less, s .pre .0, c .before .before .before .before .before .if1 .left), (ready-again w (b .last .0) (s .pre .1 .0) (b .kept .0), s .pre .1 .1 .1 .1))
-
-visit-add-visit : (t : ℕ) → visit-lts.Need-add-visit (
-  near-reads.Asked,
-  near-reads.Learnt,
-  border-reads.Asked,
-  border-reads.Learnt,
-  label-cell-below t,
-  label-cell.Post,
-  visit-below t,
-  visit.Post,
-) (visit-at t) visit.Post
-visit-add-visit t c = omega (arith, c .before .before .before .before .before .before .before .before .if1 .left)
-
-visit-visit-requires : (t : ℕ) → visit-lts.Need-visit-requires (
-  near-reads.Asked,
-  near-reads.Learnt,
-  border-reads.Asked,
-  border-reads.Learnt,
-  label-cell-below t,
-  label-cell.Post,
-  visit-below t,
-  visit.Post,
-) (visit-at t) visit.Post
-visit-visit-requires t c κs =
-    let s = c .before .before .before .before .before .before .before .before .before in
-    let a = s .args in
-    let w = a .work .now in
-    let w2 = c .before .before .label-cell .last .0 in
-    let m = met t (c .before .before) in
-    let o = s .pre .1 .0 .some-label in
     let g = shaped (a .rows) (a .columns) in
-    let less = free-le g (kindOf w) (a .op) o (a .index) w w2 (m .change) in (
-      omega (arith, less, s .pre .0, c .before .before .before .before .before .before .before .before .if1 .left),
-      (
-        ready-again w w2 (s .pre .1 .0) (m .change .long),
-        (s .pre .1 .1 .0, (kind-stays g (kindOf w) (a .op) o (a .index) w w2 (m .change) (a .index) ∙ s .pre .1 .1 .1 .0, s .pre .1 .1 .1 .1)),
-      ),
-    )
+    let b = c .before .before .border in
+    let r = still-ready (a .work .now) (l .work) (s .pre .1 .0) (l .inv .1) in
+    let less = border-free g (a .op) (s .pre .1 .0 .some-label) (l .work) (b .last .0) (a .index) (l .k) (c .before .before .before .before .near .result) (s .pre .1 .1 .0)
+    (still-zero (a .work .now) (l .work) (s .pre .1 .0) (l .inv .1) (s .pre .1 .1 .1 .0)) (omega (arith, c .before .before .before .before .before .loop-test .taken)) (r .room) (c .before .before .before .before .near .ensures) (b .ensures) in
+    let fewer = free-le g (kindOf (a .work .now)) (a .op) (s .pre .1 .0 .some-label) (a .index) (a .work .now) (l .work) (l .inv .1 .change) in
+    (omega (arith, less, fewer, s .pre .0), (ready-again (l .work) (b .last .0) r (b .kept .0), s .pre .1 .1 .1 .1))
+
+visit-add-k : (t : ℕ) → visit-lts.Need-add-k (
+  near-reads.Asked,
+  near-reads.Learnt,
+  border-reads.Asked,
+  border-reads.Learnt,
+  label-cell-below t,
+  label-cell.Post,
+) (visit-at t) visit.Post visit-Inv-loop visit-μ-loop
+visit-add-k t c = omega (arith, c .before .before .before .before .before .before .before .before .loop .inv .0)
+
+visit-loop-less : (t : ℕ) → visit-lts.Need-loop-less (
+  near-reads.Asked,
+  near-reads.Learnt,
+  border-reads.Asked,
+  border-reads.Learnt,
+  label-cell-below t,
+  label-cell.Post,
+) (visit-at t) visit.Post visit-Inv-loop visit-μ-loop
+visit-loop-less t c = omega (arith, c .before .before .before .before .before .before .before .loop-test .taken)
+
+visit-loop-again : (t : ℕ) → visit-lts.Need-loop-again (
+  near-reads.Asked,
+  near-reads.Learnt,
+  border-reads.Asked,
+  border-reads.Learnt,
+  label-cell-below t,
+  label-cell.Post,
+) (visit-at t) visit.Post visit-Inv-loop visit-μ-loop
+visit-loop-again t c =
+    let s = c .before .before .before .before .before .before .before .before .before in
+    let l = c .before .before .before .before .before .before .before .before .loop in
+    let a = s .args in
+    let g = shaped (a .rows) (a .columns) in
+    let o = s .pre .1 .0 .some-label in
+    let w = l .work in
+    let w1 = c .before .before .before .before .border .last .0 in
+    let few : l .k < 9 = omega (arith, c .before .before .before .before .before .before .before .loop-test .taken) in
+    let one = stepped g (a .op) o w w1 (c .before .label-cell .last .0) (a .index) (l .k) (c .before .before .before .before .before .before .near .result) (s .pre .1 .1 .0) (still-zero (a .work .now) w (s .pre .1 .0) (l .inv .1) (s .pre .1 .1 .1 .0)) few
+    (still-ready (a .work .now) w (s .pre .1 .0) (l .inv .1) .room) (c .before .before .before .before .before .before .near .ensures) (c .before .before .before .before .border .ensures) (c .before .label-cell .ensures) in
+    (omega (arith, few), visited-more g (a .op) o (a .work .now) w (c .before .label-cell .last .0) (a .index) (l .k) (s .pre .1 .1 .0) (l .inv .1) one)
 
 visit-same-length : (t : ℕ) → visit-lts.Need-same-length (
   near-reads.Asked,
@@ -285,26 +282,23 @@ visit-same-length : (t : ℕ) → visit-lts.Need-same-length (
   border-reads.Learnt,
   label-cell-below t,
   label-cell.Post,
-  visit-below t,
-  visit.Post,
-) (visit-at t) visit.Post
-visit-same-length t c = c .before .visit .kept .0 ∙ met t (c .before .before .before .before) .change .long
+) (visit-at t) visit.Post visit-Inv-loop visit-μ-loop
+visit-same-length t c = c .before .loop .inv .1 .change .long
 
-visit-returns-2 : (t : ℕ) → visit-lts.Need-returns-2 (
+visit-returns : (t : ℕ) → visit-lts.Need-returns (
   near-reads.Asked,
   near-reads.Learnt,
   border-reads.Asked,
   border-reads.Learnt,
   label-cell-below t,
   label-cell.Post,
-  visit-below t,
-  visit.Post,
-) (visit-at t) visit.Post
-visit-returns-2 t c =
-    let s = c .before .before .before .before .before .before .before .before .before .before .before in
+) (visit-at t) visit.Post visit-Inv-loop visit-μ-loop
+visit-returns t c =
+    let s = c .before .before in
+    let l = c .before .loop in
     let a = s .args in
-    visited-more (shaped (a .rows) (a .columns)) (a .op) (s .pre .1 .0 .some-label) (a .work .now) (c .before .before .before .before .label-cell .last .0) (c .before .visit .last .0) (a .index) (a .k)
-    (s .pre .1 .1 .0) (met t (c .before .before .before .before)) (c .before .visit .ensures)
+    let e : l .k ≡ 9 = omega (arith, l .inv .0, c .loop-test .left) in
+    subst (λ (n : ℕ). Visited (shaped (a .rows) (a .columns)) (kindOf (a .work .now)) (a .op) (a .index) n (a .work .now) (l .work)) e (l .inv .1)
 
 pub +label-cell+visit-spec : {M : Type 1} → statement M
 +label-cell+visit-spec = close μ-label-cell μ-visit (λ t. label-cell-lts.spec (
@@ -332,17 +326,18 @@ pub +label-cell+visit-spec : {M : Type 1} → statement M
       border-reads.Learnt,
       label-cell-below t,
       label-cell.Post,
-      visit-below t,
-      visit.Post,
     )
     (visit-at t)
     visit.Post
-    (visit-returns t)
+    visit-Inv-loop
+    visit-μ-loop
+    (visit-loop-holds t)
     (visit-near-requires t)
     (visit-mul-border t)
     (visit-border-requires t)
     (visit-label-cell-requires t)
-    (visit-add-visit t)
-    (visit-visit-requires t)
+    (visit-add-k t)
+    (visit-loop-less t)
+    (visit-loop-again t)
     (visit-same-length t)
-    (visit-returns-2 t)
+    (visit-returns t)

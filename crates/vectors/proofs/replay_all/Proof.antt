@@ -1,8 +1,8 @@
--- `vectors::main`: the boards are counted up to a bound, and those that differ are among them. Assumes nothing.
+-- `vectors::replay_all`: the boards are counted up to a bound, and those that differ are among them. Assumes nothing.
 use Prim.Native.Nat.{_≤_, _-_}
 use borrow.Author.Needs.{needs}
-use Rattle.vectors.proofs.main.Statement.{statement}
-use Rattle.vectors.proofs.main.Tie as tie
+use Rattle.vectors.proofs.replay_all.Statement.{statement}
+use Rattle.vectors.proofs.replay_all.Tie as tie
 
 abbrev Inv-loop : tie.InvT-loop
 Inv-loop boards₀ wrong₀ boards wrong = (boards ≤ 1000000) × (wrong ≤ boards)
@@ -43,8 +43,8 @@ report-requires c κs = search needs
 returns : tie.Need-returns Inv-loop μ-loop
 returns c = search needs
 
-pub main-spec : {M : Type 1} → statement M
-main-spec =
+pub replay-all-spec : {M : Type 1} → statement M
+replay-all-spec =
     tie.close
     (tie.spec
     Inv-loop
