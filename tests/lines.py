@@ -3,6 +3,8 @@
     python3 tests/lines.py price < BOARDS > PRICES    what the board reader prints for an input
     python3 tests/lines.py make > crates/line_trials/stdin
     python3 tests/lines.py trials < crates/line_trials/stdin > crates/line_trials/stdout
+    python3 tests/lines.py blocks > crates/board_reader/stdin
+    python3 tests/lines.py price < crates/board_reader/stdin > crates/board_reader/stdout
 
 For a wrong byte count a stored move line is FRAME before SHAPE is looked at, a board line after it: document 01 gives
 board lines that order, and a stored line has only 'malformed'. The smallest line that shows it is 000100."""
@@ -234,6 +236,44 @@ def make():
     sys.stdout.buffer.write(b"\n".join(lines))
 
 
+BLOCK = 4096  # bytes that the board reader asks for at a time
+
+
+def sized_line(size):
+    """A board line of so many digits, an even number from 6 to 516."""
+    cells = 4 * (size - 4)
+    rows = next(r for r in range(min(255, cells), 0, -1) if cells % r == 0 and cells // r <= 255 and r * r <= cells)
+    return random_line(rows, cells // rows, cells // 6)
+
+
+def fill_to(text, left):
+    """Board lines added until so many bytes are left of a block."""
+    while True:
+        room = (left_of(text) - left) % BLOCK
+        if room == 0:
+            return text
+        sizes = [s for s in range(6, 129, 2) if room - s - 1 in (0, 7, 9, 11, 13) or room - s - 1 >= 14]
+        text += sized_line(random.choice(sizes)) + b"\n"
+
+
+def left_of(text):
+    return BLOCK - len(text) % BLOCK
+
+
+def blocks():
+    """Board lines over ten blocks, cut in a digit pair, before a line feed, after one, and in a line of several blocks; the last line feed is missing."""
+    random.seed(2)
+    text = fill_to(b"", 33) + sized_line(66) + b"\n"  # cut in a digit pair
+    text = fill_to(text, 120) + sized_line(120) + b"\n"  # cut before a line feed
+    text = fill_to(text, 61) + sized_line(60) + b"\n"  # cut after a line feed
+    text = fill_to(text, 2) + sized_line(516) + b"\n"  # cut after its rows
+    text = fill_to(text, 514) + sized_line(516) + b"\n"  # cut before its last byte
+    text = fill_to(text, 100) + b"0" * (2 * BLOCK + 200) + b"\n"  # a line of several blocks
+    text += b"\n" + b"020201\n" + b"03030800\n"
+    text = fill_to(text, 1) + b"\n" + sized_line(62)
+    sys.stdout.buffer.write(text)
+
+
 def check_sum(text):
     """Each byte and those before it: 31 times the sum so far, and the byte, in 64 bits."""
     total = 0
@@ -292,6 +332,8 @@ def main():
     words = sys.argv[1:]
     if words == ["make"]:
         make()
+    elif words == ["blocks"]:
+        blocks()
     elif words == ["price"]:
         sys.stdout.buffer.write(priced(sys.stdin.buffer.read()))
     elif words == ["trials"]:
