@@ -1,6 +1,7 @@
--- The check of a run, what a call over a run leaves, what stands in it, a slice lent again, and the walk of the two calls without draws.
+-- The check of a run, what a call over a run leaves, what stands in it, replay over records and over words, a slice lent again, and the walk of the two calls without draws.
 pub mod Again
 pub mod Room
 pub mod Runs
 pub mod Once
+pub mod Replays
 mod Walk
