@@ -1,5 +1,4 @@
--- The check of a run, what a call over a run leaves, what stands in it, replay over records and over words, a slice lent again, and the walk of the two calls without draws.
-pub mod Again
+-- The check of a run, what a call over a run leaves, what stands in it, replay over records and over words, and the walk of the two calls without draws.
 pub mod Room
 pub mod Runs
 pub mod Once
