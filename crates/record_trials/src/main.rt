@@ -1,18 +1,15 @@
 // Runs the calls over move records and by a draw reader on P7 and P11, and their refusals: each prints its answer and what was lent.
 use checks::Refusal;
 use draws::Drawn;
-use reads::DrawReader;
 use records::MoveRecord;
 use zini::Priced;
 use zini::Replayed;
 use zini::Rolled;
-ghost use mathlib.Core.Path.{_≡_};
-ghost use lib.ListN.{drop};
-ghost use Rattle.game.specs.Calls.{greedyCall, openingsFirstCall, randomRoundCall, randomSearchCall};
+ghost use Rattle.game.specs.Calls.{greedyCall, openingsFirstCall, randomRoundCall};
 ghost use Rattle.area.specs.Numbers.{gridOf};
-ghost use Rattle.zini.specs.Answers.{Kept, KeptList, pricedAnswer, replayedAnswer, rolledAnswer};
-ghost use Rattle.by_reader.specs.Stands.{standsAt};
+ghost use Rattle.zini.specs.Answers.{pricedAnswer, replayedAnswer, rolledAnswer};
 ghost use Rattle.by_records.specs.Promises.{KeptReplay, KeptRun, within};
+ghost use Rattle.record_trials.specs.Readings.{Twice};
 
 // What greedy or openings-first answers, and the run that was lent.
 pub struct PricedRun {
@@ -103,6 +100,29 @@ fn replay_run(
     ensures { λ r. ⌜ KeptReplay (gridOf rows columns (now (grid .entry))) (now (work .entry)) (now (list .entry)) run count (replayedAnswer r) (now (work .exit)) (now (list .exit)) ⌝ }
 {
     by_records::replay_records(rows, columns, grid, work, list, &run, count)
+}
+
+// A random round and then a random search by one reader, which goes on from where the round left it.
+fn read_twice(
+    rows: usize,
+    columns: usize,
+    grid: &[i32],
+    work: &mut [i32],
+    list: &mut [u32],
+    bytes: &[u8],
+    place: usize,
+    rounds: usize,
+) -> ReadTwice
+    ensures { λ r. ⌜ Twice (gridOf rows columns (now (grid .entry))) (now (work .entry)) (now (list .entry)) (now (bytes .entry)) place rounds (r .round) (r .search) (r .place) (now (work .exit)) (now (list .exit)) ⌝ }
+{
+    let mut reader = reads::reader(bytes, place);
+    let round = by_reader::random_round(rows, columns, grid, work, list, &mut reader);
+    let search = by_reader::random_search(rows, columns, grid, work, &mut reader, rounds);
+    ReadTwice {
+        round,
+        search,
+        place: reader.place,
+    }
 }
 
 // A space and a number.
