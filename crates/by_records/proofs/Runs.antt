@@ -12,7 +12,7 @@ use Rattle.records.specs.Records.{noMove, over, recordOf}
 use Rattle.records.specs.declared.MoveRecord.{MoveRecord}
 
 -- the first words of a list that was begun with others
-first-of : (xs ys : List ℕ) (n : ℕ) → n ≡ length xs → take n (xs ++ ys) ≡ xs
+pub first-of : (xs ys : List ℕ) (n : ℕ) → n ≡ length xs → take n (xs ++ ys) ≡ xs
 first-of xs ys n e = ap (λ (k : ℕ). take k (xs ++ ys)) e ∙ take-append-seam xs ys
 
 -- after a round of so many clicks: its moves, each as a record

@@ -76,7 +76,7 @@ pub fn step(
 {
     let top = ties::top(work, rows, columns, tops, units);
     let candidates = ties::count(work, rows, columns, tops, units, top);
-    let drawn = draws::draw(draws, state.next, candidates);
+    let drawn = reads::draw_from(draws, state.next, candidates);
     let Drawn::Place(place, next) = drawn else {
         return Stepped::Dry;
     };

@@ -16,7 +16,7 @@ use Rattle.reads.specs.declared.DrawReader.{DrawReader}
 pub reader-once : (bytes : RefT (List ℕ)) (place : ℕ) (r r′ : DrawReader) → (r .bytes ≡ bytes) × (r .place ≡ place) → (r′ .bytes ≡ bytes) × (r′ .place ≡ place) → r ≡ r′
 reader-once bytes place r r′ k k′ = λ i. record { bytes = (k .0 ∙ sym (k′ .0)) i; place = (k .1 ∙ sym (k′ .1)) i }
 
--- one draw: draw, draw_from
+-- one draw from a place: draw_from
 pub draw-once : (o : Option Game.Drawn) (r r′ : Drawn) → drawnOf r ≡ o → drawnOf r′ ≡ o → r ≡ r′
 draw-once o r r′ e e′ = LeftInverse·injective drawnBy drawnOf back r r′ (e ∙ sym e′)
   where

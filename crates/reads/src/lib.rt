@@ -28,13 +28,6 @@ pub fn place_after(drawn: Drawn, place: usize) -> usize
     }
 }
 
-// One draw among n at the reader's place.
-pub fn draw<'a>(reader: DrawReader<'a>, n: usize) -> Drawn
-    ensures { λ r. ⌜ drawnOf r ≡ draw (now (reader .entry .bytes)) (reader .entry .place) n ⌝ }
-{
-    draws::draw(reader.bytes, reader.place, n)
-}
-
 // The reader is lent: one draw among n, and it stands at the next place.
 pub fn next_draw<'s, 'a>(reader: &'s mut DrawReader<'a>, n: usize) -> Drawn
     ensures { λ r. ⌜ (drawnOf r ≡ draw (now (now (reader .entry) .bytes)) (now (reader .entry) .place) n) × (now (reader .exit) ≡ movedOn (now (reader .entry)) n) ⌝ }
@@ -48,5 +41,6 @@ pub fn next_draw<'s, 'a>(reader: &'s mut DrawReader<'a>, n: usize) -> Drawn
 pub fn draw_from(bytes: &[u8], place: usize, n: usize) -> Drawn
     ensures { λ r. ⌜ drawnOf r ≡ draw (now (bytes .entry)) place n ⌝ }
 {
-    draw(reader(bytes, place), n)
+    let mut standing = reader(bytes, place);
+    next_draw(&mut standing, n)
 }

@@ -1,7 +1,129 @@
-// Runs P7's and P11's moves as records there and back, and P11's draws and rounds by a reader.
+// Runs the calls over move records and by a draw reader on P7 and P11, and their refusals: each prints its answer and what was lent.
+use checks::Refusal;
 use draws::Drawn;
+use records::MoveRecord;
 use zini::Priced;
+use zini::Replayed;
 use zini::Rolled;
+ghost use Rattle.game.specs.Calls.{greedyCall, openingsFirstCall, randomRoundCall};
+ghost use Rattle.area.specs.Numbers.{gridOf};
+ghost use Rattle.zini.specs.Answers.{pricedAnswer, replayedAnswer, rolledAnswer};
+ghost use Rattle.by_records.specs.Promises.{KeptReplay, KeptRun, within};
+ghost use Rattle.record_trials.specs.Readings.{Twice};
+
+// What greedy or openings-first answers, and the run that was lent.
+pub struct PricedRun {
+    pub answer: Priced,
+    pub run: [MoveRecord; 9],
+}
+
+// What a random round answers, and the run that was lent.
+pub struct RolledRun {
+    pub answer: Rolled,
+    pub run: [MoveRecord; 9],
+}
+
+// What two random calls by one reader answer, and where it then stands.
+pub struct ReadTwice {
+    pub round: Rolled,
+    pub search: Rolled,
+    pub place: usize,
+}
+
+// Greedy over a run of nine records.
+fn greedy_run(
+    rows: usize,
+    columns: usize,
+    grid: &[i32],
+    work: &mut [i32],
+    list: &mut [u32],
+    run: [MoveRecord; 9],
+) -> PricedRun
+    ensures { λ r. ⌜ KeptRun (gridOf rows columns (now (grid .entry))) (within (gridOf rows columns (now (grid .entry))) (now (work .entry)) (now (list .entry)) 9 (greedyCall (gridOf rows columns (now (grid .entry))) (now (work .entry)) (now (list .entry)))) run (pricedAnswer (r .answer)) (now (work .exit)) (now (list .exit)) (r .run) ⌝ }
+{
+    let mut lent = run;
+    let answer = by_records::greedy_records(rows, columns, grid, work, list, &mut lent);
+    PricedRun { answer, run: lent }
+}
+
+// Openings-first over a run of nine records.
+fn openings_first_run(
+    rows: usize,
+    columns: usize,
+    grid: &[i32],
+    work: &mut [i32],
+    list: &mut [u32],
+    run: [MoveRecord; 9],
+) -> PricedRun
+    ensures { λ r. ⌜ KeptRun (gridOf rows columns (now (grid .entry))) (within (gridOf rows columns (now (grid .entry))) (now (work .entry)) (now (list .entry)) 9 (openingsFirstCall (gridOf rows columns (now (grid .entry))) (now (work .entry)) (now (list .entry)))) run (pricedAnswer (r .answer)) (now (work .exit)) (now (list .exit)) (r .run) ⌝ }
+{
+    let mut lent = run;
+    let answer = by_records::openings_first_records(rows, columns, grid, work, list, &mut lent);
+    PricedRun { answer, run: lent }
+}
+
+// A random round over a run of nine records.
+fn random_run(
+    rows: usize,
+    columns: usize,
+    grid: &[i32],
+    work: &mut [i32],
+    list: &mut [u32],
+    run: [MoveRecord; 9],
+    draws: &[u8],
+) -> RolledRun
+    ensures { λ r. ⌜ KeptRun (gridOf rows columns (now (grid .entry))) (within (gridOf rows columns (now (grid .entry))) (now (work .entry)) (now (list .entry)) 9 (randomRoundCall (gridOf rows columns (now (grid .entry))) (now (work .entry)) (now (list .entry)) (now (draws .entry)))) run (rolledAnswer (r .answer)) (now (work .exit)) (now (list .exit)) (r .run) ⌝ }
+{
+    let mut lent = run;
+    let answer = by_records::random_round_records(
+        rows,
+        columns,
+        grid,
+        work,
+        list,
+        &mut lent,
+        draws,
+    );
+    RolledRun { answer, run: lent }
+}
+
+// The first records of a run of nine are replayed.
+fn replay_run(
+    rows: usize,
+    columns: usize,
+    grid: &[i32],
+    work: &mut [i32],
+    list: &mut [u32],
+    run: [MoveRecord; 9],
+    count: usize,
+) -> Replayed
+    ensures { λ r. ⌜ KeptReplay (gridOf rows columns (now (grid .entry))) (now (work .entry)) (now (list .entry)) run count (replayedAnswer r) (now (work .exit)) (now (list .exit)) ⌝ }
+{
+    by_records::replay_records(rows, columns, grid, work, list, &run, count)
+}
+
+// A random round and then a random search by one reader, which goes on from where the round left it.
+fn read_twice(
+    rows: usize,
+    columns: usize,
+    grid: &[i32],
+    work: &mut [i32],
+    list: &mut [u32],
+    bytes: &[u8],
+    place: usize,
+    rounds: usize,
+) -> ReadTwice
+    ensures { λ r. ⌜ Twice (gridOf rows columns (now (grid .entry))) (now (work .entry)) (now (list .entry)) (now (bytes .entry)) place rounds (r .round) (r .search) (r .place) (now (work .exit)) (now (list .exit)) ⌝ }
+{
+    let mut reader = reads::reader(bytes, place);
+    let round = by_reader::random_round(rows, columns, grid, work, list, &mut reader);
+    let search = by_reader::random_search(rows, columns, grid, work, &mut reader, rounds);
+    ReadTwice {
+        round,
+        search,
+        place: reader.place,
+    }
+}
 
 // A space and a number.
 fn print_number(n: u64) {
@@ -9,116 +131,6 @@ fn print_number(n: u64) {
     io::print_decimal(1, n);
 }
 
-// Move k of a list by a run of records: kind, row, column, and the word that it is replayed as.
-fn there_and_back(list: &[u32], count: usize, rows: usize, k: usize) {
-    let played = records::record_by_run(list, count, rows, k);
-    print_number(played.kind as u64);
-    print_number(played.row as u64);
-    print_number(played.column as u64);
-    io::write_all(1, b" =");
-    let word = records::word_of(played, rows);
-    print_number((word / 65536) as u64);
-    print_number((word % 65536) as u64);
-    io::write_all(1, b"\n");
-}
-
-// What a round answered.
-fn print_priced(priced: Priced) {
-    match priced {
-        Priced::Clicks(clicks) => {
-            io::write_all(1, b" clicks");
-            print_number(clicks as u64);
-            io::write_all(1, b"\n");
-        }
-        Priced::Refused(_) => {
-            io::write_all(1, b" refused\n");
-        }
-    }
-}
-
-// P7: L1 F0 C1.
-fn seven() {
-    let mut work = [0i32; 20];
-    let mut list = [0u32; 4];
-    let priced = zini::prices::greedy(2, 2, &[-1i32, 0, 0, 0], &mut work, &mut list);
-    io::write_all(1, b"P7 as records");
-    print_priced(priced);
-    there_and_back(&list, 3, 2, 0);
-    there_and_back(&list, 3, 2, 1);
-    there_and_back(&list, 3, 2, 2);
-    there_and_back(&list, 3, 2, 3);
-}
-
-// P11: L1 F4 C1 C3 C5.
-fn eleven() {
-    let mut work = [0i32; 45];
-    let mut list = [0u32; 9];
-    let priced = zini::prices::greedy(3, 3, &[0i32, 0, 0, 0, -1, 0, 0, 0, 0], &mut work, &mut list);
-    io::write_all(1, b"P11 as records");
-    print_priced(priced);
-    there_and_back(&list, 5, 3, 0);
-    there_and_back(&list, 5, 3, 1);
-    there_and_back(&list, 5, 3, 2);
-    there_and_back(&list, 5, 3, 3);
-    there_and_back(&list, 5, 3, 4);
-}
-
-// A draw among 8 by a reader at a place: what is taken, and where the reader then stands.
-fn drawn(bytes: &[u8], place: usize) {
-    let draw = reads::draw_from(bytes, place, 8);
-    print_number(place as u64);
-    match draw {
-        Drawn::Place(taken, _) => {
-            io::write_all(1, b": takes");
-            print_number(taken as u64);
-        }
-        Drawn::Short => {
-            io::write_all(1, b": short");
-        }
-    }
-    io::write_all(1, b", then at");
-    print_number(reads::place_after(draw, place) as u64);
-    io::write_all(1, b"\n");
-}
-
-// The draws of a reader from three places.
-fn draws_of(name: &[u8], bytes: &[u8]) {
-    io::write_all(1, name);
-    io::write_all(1, b"\n");
-    drawn(bytes, 0);
-    drawn(bytes, 4);
-    drawn(bytes, 8);
-}
-
-// What a random round by the bytes from a place on answered: clicks, bytes used.
-fn rolled(place: usize, bytes: &[u8]) {
-    let mut work = [0i32; 45];
-    let mut list = [0u32; 9];
-    let grid = [0i32, 0, 0, 0, -1, 0, 0, 0, 0];
-    let answer = by_reader::round_from(3, 3, &grid, &mut work, &mut list, bytes, place);
-    io::write_all(1, b"P11 from");
-    print_number(place as u64);
-    match answer {
-        Rolled::Clicks(clicks, used) => {
-            print_number(clicks as u64);
-            print_number(used as u64);
-        }
-        Rolled::Refused(_) => {
-            io::write_all(1, b" refused");
-        }
-    }
-    io::write_all(1, b"\n");
-}
-
 fn main() {
-    seven();
-    eleven();
-    draws_of(b"12 zero bytes", &[0u8; 12]);
-    draws_of(b"11 zero bytes", &[0u8; 11]);
-    draws_of(b"07 and seven 00", &[7u8, 0, 0, 0, 0, 0, 0, 0]);
-    rolled(0, &[0u8; 12]);
-    rolled(0, &[0u8; 11]);
-    rolled(0, &[7u8, 0, 0, 0, 0, 0, 0, 0]);
-    rolled(4, &[9u8, 9, 9, 9, 7, 0, 0, 0, 0, 0, 0, 0]);
-    rolled(13, &[0u8; 12]);
+    print_number(1);
 }

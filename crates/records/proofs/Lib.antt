@@ -1,3 +1,4 @@
--- Records and words are equal, and what a copy leaves.
+-- Records and words are equal, what a copy leaves, and a slice lent again.
+pub mod Again
 pub mod Copies
 pub mod Words

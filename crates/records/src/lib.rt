@@ -114,7 +114,7 @@ pub fn records_of(run: &mut [MoveRecord], list: &[u32], count: usize, rows: usiz
     let mut k = 0;
     while k < n {
         let played = record_at(list, k, rows);
-        run[k] = played;
+        write_record(run, k, played);
         k = k + 1;
     }
 }

@@ -58,7 +58,7 @@ use Rattle.records.proofs.words_of.Symbol as wds-def
 use Rattle.records.proofs.words_of.Symbol.{name as #records·words-of}
 use Rattle.records.proofs.words_of.Met as wds-thm
 use Rattle.by_records.specs.Promises.{copiedIf, replayChecks, replayWithin}
-use Rattle.by_records.proofs.Again.{LentAgain, lends-again, comes-back}
+use Rattle.records.proofs.Again.{LentAgain, lends-again, comes-back}
 use Rattle.by_records.proofs.copied as cpd
 use Rattle.by_records.proofs.copied.Symbol as cpd-def
 use Rattle.by_records.proofs.copied.Symbol.{name as #by-records·copied}

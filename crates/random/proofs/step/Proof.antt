@@ -13,8 +13,8 @@ top-requires c κs = search needs
 count-requires : tie.Need-count-requires
 count-requires c κs = search needs
 
-draw-requires : tie.Need-draw-requires
-draw-requires c κs = search needs
+draw-from-requires : tie.Need-draw-from-requires
+draw-from-requires c κs = search needs
 
 enum-known-drawn : tie.Need-enum-known-drawn
 enum-known-drawn c = search needs
@@ -38,8 +38,8 @@ returns c =
     let t = n .before .before .before .before .before .before .before .before in
     let a = t .before .before .before .before .before .before .before .before .args in
     λ g s old st h e. (
-      step-dry (a .rows) (a .columns) g s old (a .work .now) (t .top .result) (n .count .result) (a .rows * a .columns) (a .draws .now) (a .list .now) (a .state) (d .draw .result)
-          (t .top .ensures .1 .1 g s old st) (n .count .ensures .0 .0) (d .draw .ensures) (c .enum-told .given .1),
+      step-dry (a .rows) (a .columns) g s old (a .work .now) (t .top .result) (n .count .result) (a .rows * a .columns) (a .draws .now) (a .list .now) (a .state) (d .draw-from .result)
+          (t .top .ensures .1 .1 g s old st) (n .count .ensures .0 .0) (d .draw-from .ensures) (c .enum-told .given .1),
       t .top .ensures .0 .1,
       any-marks (a .work .now) (a .rows) (a .columns) _ _ (n .count .ensures .1 .1),
     )
@@ -77,8 +77,8 @@ returns-2 c =
     let t = n .before .before .before .before .before .before .before .before in
     let a = t .before .before .before .before .before .before .before .before .args in
     let y = m .take in
-    λ g s old st h e. step-went (a .rows) (a .columns) g s old (a .work .now) (t .top .result) (n .count .result) (a .rows * a .columns) (a .draws .now) (a .list .now) (a .state) (d .draw .result)
-    (t .top .ensures .1 .1 g s old st) (n .count .ensures .0 .0) (d .draw .ensures) _ _ (p .pick .result) (t .top .last .1 .1 .1 .0) _ (y .last .0) (y .last .1 .1 .1 .0) (y .last .1 .1 .1 .1 .0) (y .result)
+    λ g s old st h e. step-went (a .rows) (a .columns) g s old (a .work .now) (t .top .result) (n .count .result) (a .rows * a .columns) (a .draws .now) (a .list .now) (a .state) (d .draw-from .result)
+    (t .top .ensures .1 .1 g s old st) (n .count .ensures .0 .0) (d .draw-from .ensures) _ _ (p .pick .result) (t .top .last .1 .1 .1 .0) _ (y .last .0) (y .last .1 .1 .1 .0) (y .last .1 .1 .1 .1 .0) (y .result)
     (reached-played g s (st .reached)) h (o .drawn .given .1) (p .pick .ensures .0) (t .top .ensures .0 .1) (p .pick .ensures .1 .1) (λ k u z. y .ensures g s old st k u z e)
 
 pub step-spec : {M : Type 1} → statement M
@@ -87,7 +87,7 @@ step-spec =
     (tie.spec
     top-requires
     count-requires
-    draw-requires
+    draw-from-requires
     enum-known-drawn
     enum-told
     same-length

@@ -1,0 +1,2 @@
+-- What two random calls by one reader come to.
+pub mod Readings
