@@ -13,12 +13,11 @@ use mir.Syntax.{Body, Fn, Lifetime, Local, Mutability, Name, Opd as Operand, Ty,
 use mir.Val.{Val, vcons, vint, vnil, vstruct}
 use base.Logic.{SProp, ent, sep, emp, via, fst∗, id⊢}
 use base.Fml.{Lft, GName, Share, Fml, ftrue, fat, fsep, flft, flent}
-use prog.Memory.{Memory}
 use prog.Model.{Model}
-use prog.Routine.{Env, Routine}
+use prog.Routine.{Env}
 use prog.Wp.{Heap, Calls, Closed, Loops, WpFn, Tables}
 use ghost.Atoms.{Atoms, sem}
-use contract.Monad.{Fun, fact}
+use contract.Monad.{fact}
 use contract.Running.{GhostRules, Running, givenOf, tables, tablesOf}
 use types.Kit.{Given, ‵, raw, _⊛_, ⋆, some, later, _$_, _∵_, !, qed, by, move, keep, drop, use1, use2, use3, split, join, pick, rewrite, fsplit, fjoin, feqL, suffices, frame, await, done}
 use types.Tokens.{lft-new, lft-end}
@@ -54,7 +53,6 @@ use Rattle.zini.specs.declared.Priced.{Priced}
 use Rattle.zini.proofs.Priced as S
 use Rattle.zini.proofs.Priced.Laws as S′
 use Rattle.records.specs.declared.MoveRecord.{MoveRecord}
-use Rattle.records.proofs.MoveRecord.Laws as T′
 use Rattle.by_records.specs.Promises.{KeptRun, priceCall, within}
 use Rattle.by_records.proofs.greedy_records as by
 use Rattle.by_records.proofs.greedy_records.Symbol as greedy-def

@@ -1,7 +1,7 @@
 // Runs the calls over move records and by a draw reader on P7 and P11, and their refusals: each prints its answer and what was lent.
-use checks::Refusal;
 use draws::Drawn;
 use records::MoveRecord;
+use trials::Plain;
 use zini::Priced;
 use zini::Replayed;
 use zini::Rolled;
@@ -125,12 +125,383 @@ fn read_twice(
     }
 }
 
-// A space and a number.
-fn print_number(n: u64) {
-    io::write_all(1, b" ");
-    io::print_decimal(1, n);
+// An answer with its values.
+fn plain(number: u64, first: u64, second: u64) -> Plain {
+    Plain {
+        number,
+        first,
+        second,
+    }
+}
+
+// What greedy or openings-first answered.
+fn of_priced(answer: Priced) -> Plain {
+    match answer {
+        Priced::Clicks(clicks) => plain(0, clicks as u64, 0),
+        Priced::Refused(refusal) => plain(checks::number_of(refusal) as u64, 0, 0),
+    }
+}
+
+// What a random call answered.
+fn of_rolled(answer: Rolled) -> Plain {
+    match answer {
+        Rolled::Clicks(clicks, used) => plain(0, clicks as u64, used as u64),
+        Rolled::Refused(refusal) => plain(checks::number_of(refusal) as u64, 0, 0),
+    }
+}
+
+// What a replay answered.
+fn of_replayed(answer: Replayed) -> Plain {
+    match answer {
+        Replayed::Played(made, closed) => plain(0, made as u64, closed as u64),
+        Replayed::Move(place) => plain(7, place as u64, 0),
+        Replayed::Refused(refusal) => plain(checks::number_of(refusal) as u64, 0, 0),
+    }
+}
+
+// A record of so many numbers.
+fn record(kind: u32, row: u32, column: u32) -> MoveRecord {
+    MoveRecord { kind, row, column }
+}
+
+// A run that nothing was written into.
+fn unwritten() -> [MoveRecord; 9] {
+    [record(9, 9, 9); 9]
+}
+
+// A record: kind, row and column.
+fn print_record(played: MoveRecord) {
+    trials::print_number(played.kind as u64);
+    trials::print_number(played.row as u64);
+    trials::print_number(played.column as u64);
+}
+
+// What was lent, at exit: the run, the list and the work area.
+fn print_lent(run: [MoveRecord; 9], list: &[u32], work: &[i32]) {
+    print_record(run[0]);
+    print_record(run[1]);
+    print_record(run[2]);
+    print_record(run[3]);
+    print_record(run[4]);
+    print_record(run[5]);
+    print_record(run[6]);
+    print_record(run[7]);
+    print_record(run[8]);
+    io::write_all(1, b"\n");
+    trials::print_list(list);
+    trials::print_area(work);
+}
+
+// Greedy over a run: its answer, and what was lent.
+fn greedy(
+    name: &[u8],
+    rows: usize,
+    columns: usize,
+    grid: &[i32],
+    work: &mut [i32],
+    list: &mut [u32],
+    want: Plain,
+) {
+    let priced = greedy_run(rows, columns, grid, work, list, unwritten());
+    let answer = priced.answer;
+    let run = priced.run;
+    trials::report(name, of_priced(answer), want);
+    print_lent(run, list, work);
+}
+
+// Openings-first over a run: its answer, and what was lent.
+fn openings_first(
+    name: &[u8],
+    rows: usize,
+    columns: usize,
+    grid: &[i32],
+    work: &mut [i32],
+    list: &mut [u32],
+    want: Plain,
+) {
+    let priced = openings_first_run(rows, columns, grid, work, list, unwritten());
+    let answer = priced.answer;
+    let run = priced.run;
+    trials::report(name, of_priced(answer), want);
+    print_lent(run, list, work);
+}
+
+// A random round over a run: its answer, and what was lent.
+fn rolls(
+    name: &[u8],
+    rows: usize,
+    columns: usize,
+    grid: &[i32],
+    work: &mut [i32],
+    list: &mut [u32],
+    draws: &[u8],
+    want: Plain,
+) {
+    let rolled = random_run(rows, columns, grid, work, list, unwritten(), draws);
+    let answer = rolled.answer;
+    let run = rolled.run;
+    trials::report(name, of_rolled(answer), want);
+    print_lent(run, list, work);
+}
+
+// The first records of a run on P11 are replayed: the answer, and what was lent.
+fn replays(name: &[u8], run: [MoveRecord; 9], count: usize, list: &mut [u32], want: Plain) {
+    let mut work = [7i32; 46];
+    let grid = [0i32, 0, 0, 0, -1, 0, 0, 0, 0];
+    let answer = replay_run(3, 3, &grid, &mut work, list, run, count);
+    trials::report(name, of_replayed(answer), want);
+    print_lent(run, list, &work);
+}
+
+// P7: greedy, openings-first, and a random round.
+fn seven() {
+    let grid = [-1i32, 0, 0, 0];
+    let mut w = [7i32; 21];
+    let mut l = [4294967295u32; 5];
+    greedy(b"P7", 2, 2, &grid, &mut w, &mut l, plain(0, 3, 0));
+    let mut w2 = [7i32; 21];
+    let mut l2 = [4294967295u32; 5];
+    openings_first(
+        b"P7 openings-first",
+        2,
+        2,
+        &grid,
+        &mut w2,
+        &mut l2,
+        plain(0, 3, 0),
+    );
+    let mut w3 = [7i32; 21];
+    let mut l3 = [4294967295u32; 5];
+    let draws = [5u8, 0, 0, 0];
+    rolls(
+        b"P7, 05 00 00 00",
+        2,
+        2,
+        &grid,
+        &mut w3,
+        &mut l3,
+        &draws,
+        plain(0, 3, 4),
+    );
+}
+
+// P7's records replayed: its three moves, and then one that is no move.
+fn replayed_7() {
+    let grid = [-1i32, 0, 0, 0];
+    let mut run = unwritten();
+    run[0] = record(1, 1, 0);
+    run[1] = record(2, 0, 0);
+    run[2] = record(3, 1, 0);
+    let mut w = [7i32; 21];
+    let mut l = [4294967295u32; 5];
+    let whole = replay_run(2, 2, &grid, &mut w, &mut l, run, 3);
+    trials::report(b"P7 replayed", of_replayed(whole), plain(0, 3, 0));
+    print_lent(run, &l, &w);
+    let mut w2 = [7i32; 21];
+    let mut l2 = [4294967295u32; 5];
+    let onward = replay_run(2, 2, &grid, &mut w2, &mut l2, run, 4);
+    trials::report(b"P7, a record more", of_replayed(onward), plain(7, 3, 0));
+    print_lent(run, &l2, &w2);
+}
+
+// P11: greedy and openings-first.
+fn eleven() {
+    let grid = [0i32, 0, 0, 0, -1, 0, 0, 0, 0];
+    let mut w = [7i32; 46];
+    let mut l = [4294967295u32; 10];
+    greedy(b"P11", 3, 3, &grid, &mut w, &mut l, plain(0, 5, 0));
+    let mut w2 = [7i32; 46];
+    let mut l2 = [4294967295u32; 10];
+    openings_first(
+        b"P11 openings-first",
+        3,
+        3,
+        &grid,
+        &mut w2,
+        &mut l2,
+        plain(0, 6, 0),
+    );
+}
+
+// A random round on P11 over a run.
+fn round_11(name: &[u8], draws: &[u8], want: Plain) {
+    let grid = [0i32, 0, 0, 0, -1, 0, 0, 0, 0];
+    let mut work = [7i32; 46];
+    let mut list = [4294967295u32; 10];
+    rolls(name, 3, 3, &grid, &mut work, &mut list, draws, want);
+}
+
+// Document 01's random rounds on P11, and DRAWS.
+fn rounds_11() {
+    round_11(b"P11, 12 zero bytes", &[0u8; 12], plain(0, 5, 12));
+    round_11(b"P11, 11 zero bytes", &[0u8; 11], plain(6, 0, 0));
+    round_11(
+        b"P11, 07 and seven 00",
+        &[7u8, 0, 0, 0, 0, 0, 0, 0],
+        plain(0, 5, 8),
+    );
+}
+
+// TRACE: nine records for ten cells.
+fn short_run() {
+    let grid = [0i32; 10];
+    let mut w = [7i32; 50];
+    let mut l = [4294967295u32; 10];
+    let trace = plain(4, 0, 0);
+    greedy(b"2 by 5, nine records", 2, 5, &grid, &mut w, &mut l, trace);
+    openings_first(b" openings-first", 2, 5, &grid, &mut w, &mut l, trace);
+    rolls(b" random", 2, 5, &grid, &mut w, &mut l, &[0u8; 12], trace);
+}
+
+// TRACE: a list of eight words for nine cells.
+fn short_list() {
+    let grid = [0i32, 0, 0, 0, -1, 0, 0, 0, 0];
+    let mut w = [7i32; 46];
+    let mut l = [4294967295u32; 8];
+    let trace = plain(4, 0, 0);
+    greedy(b"P11, eight words", 3, 3, &grid, &mut w, &mut l, trace);
+    openings_first(b" openings-first", 3, 3, &grid, &mut w, &mut l, trace);
+    rolls(b" random", 3, 3, &grid, &mut w, &mut l, &[0u8; 12], trace);
+}
+
+// P11's greedy moves as records, and the rest of the run as it is lent.
+fn moves_11() -> [MoveRecord; 9] {
+    let mut run = unwritten();
+    run[0] = record(1, 1, 0);
+    run[1] = record(2, 1, 1);
+    run[2] = record(3, 1, 0);
+    run[3] = record(3, 0, 1);
+    run[4] = record(3, 2, 1);
+    run
+}
+
+// P11's records replayed: whole, none, with a bad move, with a record of no cell, and TRACE.
+fn replayed_11() {
+    let run = moves_11();
+    let mut list = [4294967295u32; 10];
+    replays(b"P11 replayed", run, 5, &mut list, plain(0, 5, 0));
+    let mut none = [4294967295u32; 10];
+    replays(b"P11, no record", run, 0, &mut none, plain(0, 0, 8));
+    let mut bad = run;
+    bad[2] = record(3, 0, 1);
+    let mut bad_list = [4294967295u32; 10];
+    replays(b"P11, a closed cell", bad, 5, &mut bad_list, plain(7, 2, 0));
+    let mut off = run;
+    off[3] = record(3, 3, 0);
+    let mut off_list = [4294967295u32; 10];
+    replays(b"P11, a fourth row", off, 5, &mut off_list, plain(7, 3, 0));
+    let mut over = [4294967295u32; 10];
+    replays(b"P11, ten of nine", run, 10, &mut over, plain(4, 0, 0));
+    let mut few = [4294967295u32; 4];
+    replays(b"P11, a list of four", run, 5, &mut few, plain(4, 0, 0));
+}
+
+// A random round and then a search on P11 by one reader: both answers, where it stands, and what was lent.
+fn reads_11(name: &[u8], bytes: &[u8], place: usize, rounds: usize, round: Plain, search: Plain) {
+    let grid = [0i32, 0, 0, 0, -1, 0, 0, 0, 0];
+    let mut work = [7i32; 46];
+    let mut list = [4294967295u32; 10];
+    let both = read_twice(3, 3, &grid, &mut work, &mut list, bytes, place, rounds);
+    let first = both.round;
+    let second = both.search;
+    trials::report(name, of_rolled(first), round);
+    trials::report(b" then a search", of_rolled(second), search);
+    io::write_all(1, b" stands at");
+    trials::print_number(both.place as u64);
+    io::write_all(1, b"\n");
+    trials::print_list(&list);
+    trials::print_area(&work);
+}
+
+// A reader goes on over two calls, stays where it is after ROUNDS and DRAWS, and may stand past its bytes.
+fn readers() {
+    let bytes = [7u8, 0, 0, 0, 0, 0, 0, 0, 0, 0, 0, 0, 0, 0, 0, 0, 0, 0, 0, 0];
+    reads_11(b"20 bytes", &bytes, 0, 1, plain(0, 5, 8), plain(0, 5, 12));
+    reads_11(b"no rounds", &bytes, 0, 0, plain(0, 5, 8), plain(5, 0, 0));
+    reads_11(b"two rounds", &bytes, 0, 2, plain(0, 5, 8), plain(6, 0, 0));
+    reads_11(b"from 8", &bytes, 8, 1, plain(0, 5, 12), plain(6, 0, 0));
+    reads_11(b"from 21", &bytes, 21, 1, plain(6, 0, 0), plain(6, 0, 0));
+}
+
+// The random calls by the bytes from a place on.
+fn from_11(name: &[u8], bytes: &[u8], place: usize, round: Plain, search: Plain) {
+    let grid = [0i32, 0, 0, 0, -1, 0, 0, 0, 0];
+    let mut work = [7i32; 46];
+    let mut list = [4294967295u32; 10];
+    let rolled = by_reader::round_from(3, 3, &grid, &mut work, &mut list, bytes, place);
+    trials::report(name, of_rolled(rolled), round);
+    trials::print_list(&list);
+    trials::print_area(&work);
+    let searched = by_reader::search_from(3, 3, &grid, &mut work, bytes, place, 1);
+    trials::report(b" a search", of_rolled(searched), search);
+    trials::print_area(&work);
+}
+
+// The bytes from 0, from 4 and from past their end on.
+fn froms() {
+    let bytes = [9u8, 9, 9, 9, 7, 0, 0, 0, 0, 0, 0, 0];
+    from_11(b"from 4", &bytes, 4, plain(0, 5, 8), plain(0, 5, 8));
+    from_11(b"from 13", &bytes, 13, plain(6, 0, 0), plain(6, 0, 0));
+}
+
+// A draw among 8 by a reader at a place: what is taken, and where the next draw reads.
+fn drawn(bytes: &[u8], place: usize) {
+    let draw = reads::draw_from(bytes, place, 8);
+    trials::print_number(place as u64);
+    match draw {
+        Drawn::Place(taken, _) => {
+            io::write_all(1, b": takes");
+            trials::print_number(taken as u64);
+        }
+        Drawn::Short => {
+            io::write_all(1, b": short");
+        }
+    }
+    io::write_all(1, b", then at");
+    trials::print_number(reads::place_after(draw, place) as u64);
+    io::write_all(1, b"\n");
+}
+
+// The draws of a reader from three places.
+fn draws_of(name: &[u8], bytes: &[u8]) {
+    io::write_all(1, name);
+    io::write_all(1, b"\n");
+    drawn(bytes, 0);
+    drawn(bytes, 4);
+    drawn(bytes, 8);
+}
+
+// A word's record, and the word that it is replayed as: kind and index.
+fn there_and_back(word: u32, rows: usize) {
+    let played = records::record_of(word, rows);
+    print_record(played);
+    io::write_all(1, b" =");
+    trials::print_list(&[records::word_of(played, rows)]);
+}
+
+// Words of P11, one of no kind, one past every grid, and one on no rows.
+fn words() {
+    io::write_all(1, b"words\n");
+    there_and_back(65536 + 1, 3);
+    there_and_back(131072 + 4, 3);
+    there_and_back(196608 + 5, 3);
+    there_and_back(8, 3);
+    there_and_back(65536 + 765, 3);
+    there_and_back(65536 + 1, 0);
 }
 
 fn main() {
-    print_number(1);
+    seven();
+    replayed_7();
+    eleven();
+    rounds_11();
+    short_run();
+    short_list();
+    replayed_11();
+    readers();
+    froms();
+    draws_of(b"12 zero bytes", &[0u8; 12]);
+    draws_of(b"11 zero bytes", &[0u8; 11]);
+    draws_of(b"07 and seven 00", &[7u8, 0, 0, 0, 0, 0, 0, 0]);
+    words();
 }

@@ -2,7 +2,7 @@
 ghost use mathlib.Core.Path.{_≡_};
 ghost use mathlib.Core.List.{map};
 ghost use Prim.Native.Nat.{_<_};
-ghost use lib.ListN.{length, getD, replicate, set, take};
+ghost use lib.ListN.{length, getD, set, take};
 ghost use Rattle.records.specs.Records.{noMove, recordOf, moveWord, Least, over};
 
 // A move: its kind, and the row and column of its cell.
@@ -130,18 +130,4 @@ pub fn words_of(list: &mut [u32], run: &[MoveRecord], count: usize, rows: usize)
         list[k] = word;
         k = k + 1;
     }
-}
-
-// Record k of a run of eight that the first words of a list were written into: whoever calls it needs no walk.
-pub fn record_by_run(list: &[u32], count: usize, rows: usize, k: usize) -> MoveRecord
-    ensures { λ r. ⌜ r ≡ getD (over (map (recordOf rows) (take count (now (list .entry)))) (replicate 8 noMove)) k noMove ⌝ }
-{
-    let none = MoveRecord {
-        kind: 0,
-        row: 0,
-        column: 0,
-    };
-    let mut run = [none; 8];
-    records_of(&mut run, list, count, rows);
-    read_record(&run, k)
 }
