@@ -61,6 +61,13 @@ gotOf (negsuc k) error n = failedBy error
 abbrev pub wentBy : Bool → Bool → Went
 wentBy written ends = cond written (cond ends Ways.Ended Ways.On) Ways.Unwritten
 
+-- the input goes on
+abbrev pub goesOn : Went → Bool
+goesOn Ways.On = true
+goesOn Ways.Ended = false
+goesOn Ways.Unread = false
+goesOn Ways.Unwritten = false
+
 -- answers handed to the write; whether it took them is the system's doing
 pub record Handed (ends : Bool) (went : Went) : Type 0 where
   pub written : Bool

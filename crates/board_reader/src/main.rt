@@ -5,10 +5,10 @@ use libc::STDOUT_FILENO;
 use reader::Answered;
 ghost use Prim.Native.Nat.{_*_, _≤_};
 ghost use mathlib.Core.Path.{_≡_};
-ghost use mathlib.Core.Bool.{true};
+ghost use mathlib.Core.Bool.{false, true};
 ghost use lib.Dec.{ltb};
 ghost use lib.ListN.{length};
-ghost use Rattle.board_reader.specs.Turns.{Answers, Handed, Sofar, Turns, answersTo, failedBy, gotOf, nothingKept, wentBy};
+ghost use Rattle.board_reader.specs.Turns.{Answers, Handed, Sofar, Turns, answersTo, failedBy, goesOn, gotOf, nothingKept, wentBy};
 
 // What a read came to: so many bytes, the end of input, an interruption, or a failure.
 enum Got {
@@ -160,6 +160,7 @@ fn nothing_kept() -> Kept
 fn read_all(block: &mut [u8], out: &mut [u8]) -> Went
     requires { ⌜ 15 * length (now block) ≤ length (now out) ⌝ }
     requires { ⌜ 15 ≤ length (now out) ⌝ }
+    ensures { λ r. ⌜ goesOn r ≡ false ⌝ }
 {
     let mut kept = nothing_kept();
     let mut turns = u64::MAX;

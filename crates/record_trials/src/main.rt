@@ -491,6 +491,11 @@ fn words() {
 }
 
 fn main() {
+    if trials::usage(
+        b"usage: record_trials  runs the calls over move records and by a draw reader on boards of its own, prints the answers, and takes no argument\n",
+    ) {
+        return;
+    }
     seven();
     replayed_7();
     eleven();

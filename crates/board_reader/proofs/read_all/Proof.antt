@@ -1,10 +1,11 @@
 -- `board_reader::read_all`: there are blocks such that what is kept is what they come to, and the turns that are left fall. Assumes nothing.
 use Prim.Native.Nat.{ℕ}
 use native.Mathlib.Omega.{arith}
-use mathlib.Core.Path.{_≡_, refl, subst, sym}
+use mathlib.Core.Path.{_≡_, refl, ap, subst, sym, _∙_}
+use mathlib.Core.Bool.{Bool, false, true}
 use lib.ListN.{length}
 use borrow.Author.Needs.{needs}
-use Rattle.board_reader.specs.Turns.{Sofar}
+use Rattle.board_reader.specs.Turns.{Sofar, goesOn, wentBy}
 use Rattle.board_reader.proofs.Turning.{nothing-sofar, turn-sofar}
 use Rattle.board_reader.proofs.read_all.Statement.{statement}
 use Rattle.board_reader.proofs.read_all.Tie as tie
@@ -41,7 +42,7 @@ same-length-2 : tie.Need-same-length-2 Inv-loop μ-loop
 same-length-2 c = search needs
 
 returns : tie.Need-returns Inv-loop μ-loop
-returns c = tt
+returns c = refl
 
 enum-told-2 : tie.Need-enum-told-2 Inv-loop μ-loop
 enum-told-2 c = search needs
@@ -53,7 +54,7 @@ same-length-4 : tie.Need-same-length-4 Inv-loop μ-loop
 same-length-4 c = search needs
 
 returns-2 : tie.Need-returns-2 Inv-loop μ-loop
-returns-2 c = tt
+returns-2 c = refl
 
 enum-told-3 : tie.Need-enum-told-3 Inv-loop μ-loop
 enum-told-3 c = search needs
@@ -69,8 +70,13 @@ same-length-5 c = search needs
 same-length-6 : tie.Need-same-length-6 Inv-loop μ-loop
 same-length-6 c = search needs
 
+-- answers at the end of input are the last, or they cannot be written
+ended : (written : Bool) → goesOn (wentBy written true) ≡ false
+ended true = refl
+ended false = refl
+
 returns-3 : tie.Need-returns-3 Inv-loop μ-loop
-returns-3 c = tt
+returns-3 c = let h = c .before .before .print-last .ensures in ap goesOn (h .comes) ∙ ended (h .written)
 
 enum-told-4 : tie.Need-enum-told-4 Inv-loop μ-loop
 enum-told-4 c = search needs
@@ -94,7 +100,7 @@ same-length-8 : tie.Need-same-length-8 Inv-loop μ-loop
 same-length-8 c = search needs
 
 returns-4 : tie.Need-returns-4 Inv-loop μ-loop
-returns-4 c = tt
+returns-4 c = refl
 
 pub read-all-spec : {M : Type 1} → statement M
 read-all-spec =
