@@ -162,12 +162,15 @@ fn read_all(block: &mut [u8], out: &mut [u8]) -> Went
     requires { ⌜ 15 ≤ length (now out) ⌝ }
     ensures { λ r. ⌜ goesOn r ≡ false ⌝ }
 {
-    let mut kept = nothing_kept();
+    let mut turn = Turn {
+        kept: nothing_kept(),
+        went: Went::On,
+    };
     let mut turns = u64::MAX;
     while turns > 0 {
-        let turn = read_some(block, kept, out);
+        let kept = turn.kept;
+        turn = read_some(block, kept, out);
         let went = turn.went;
-        kept = turn.kept;
         match went {
             Went::Unread => {
                 return Went::Unread;

@@ -11,10 +11,10 @@ use Rattle.board_reader.proofs.read_all.Statement.{statement}
 use Rattle.board_reader.proofs.read_all.Tie as tie
 
 abbrev Inv-loop : tie.InvT-loop
-Inv-loop block₀ out₀ kept₀ turns₀ block out kept turns = Sofar kept × (length block ≡ length block₀) × (length out ≡ length out₀)
+Inv-loop block₀ out₀ turn₀ turns₀ block out turn turns = Sofar (turn .kept) × (length block ≡ length block₀) × (length out ≡ length out₀)
 
 abbrev μ-loop : tie.MeasureT-loop
-μ-loop block₀ out₀ kept₀ turns₀ block out kept turns = turns
+μ-loop block₀ out₀ turn₀ turns₀ block out turn turns = turns
 
 nothing-kept-requires : tie.Need-nothing-kept-requires Inv-loop μ-loop
 nothing-kept-requires c κs = tt
@@ -24,13 +24,13 @@ loop-holds c = (subst Sofar (sym (c .nothing-kept .ensures)) nothing-sofar, refl
 
 read-some-requires : tie.Need-read-some-requires Inv-loop μ-loop
 read-some-requires c κs =
-    let s = c .before .before .before .before .before .before .before in
-    let l = c .before .before .before .loop in
+    let s = c .before .before .before .before .before .before .before .before in
+    let l = c .before .before .before .before .loop in
     (l .inv .0, omega (arith, s .pre .0, l .inv .1, l .inv .2))
 
 -- what is kept after the turn
 sofar : (r : tie.After-read-some Inv-loop μ-loop) → Sofar (r .read-some .result .kept)
-sofar r = let l = r .before .before .before .before .loop in turn-sofar (l .kept) (l .inv .0) (r .read-some .last .0) (r .read-some .result) (r .read-some .ensures)
+sofar r = let l = r .before .before .before .before .before .loop in turn-sofar (l .turn .kept) (l .inv .0) (r .read-some .last .0) (r .read-some .result) (r .read-some .ensures)
 
 enum-told : tie.Need-enum-told Inv-loop μ-loop
 enum-told c = search needs
@@ -61,8 +61,9 @@ enum-told-3 c = search needs
 
 print-last-requires : tie.Need-print-last-requires Inv-loop μ-loop
 print-last-requires c κs =
-    let r = c .before .before .before .before .before .before .before .before in
-    (sofar r, omega (arith, r .before .before .before .before .before .before .before .before .pre .1, r .before .before .before .before .loop .inv .2, r .read-some .kept .1 .1 .0))
+    let r = c .before .before .before .before .before .before .before in
+    let l = r .before .before .before .before .before .loop in
+    (l .inv .0, omega (arith, r .before .before .before .before .before .before .before .before .before .pre .1, l .inv .2, r .read-some .kept .1 .1 .0))
 
 same-length-5 : tie.Need-same-length-5 Inv-loop μ-loop
 same-length-5 c = search needs
@@ -89,8 +90,8 @@ loop-less c = omega arith
 
 loop-again : tie.Need-loop-again Inv-loop μ-loop
 loop-again c =
-    let r = c .before .before .before .before .before .before .before in
-    let l = r .before .before .before .before .loop in
+    let r = c .before .before .before .before .before .before in
+    let l = r .before .before .before .before .before .loop in
     (sofar r, omega (arith, l .inv .1, r .read-some .kept .0), omega (arith, l .inv .2, r .read-some .kept .1 .1 .0))
 
 same-length-7 : tie.Need-same-length-7 Inv-loop μ-loop
