@@ -14,7 +14,7 @@ use Rattle.game.specs.Calls.{Answer, Outcome, Refusal, firstGiven, gridChecks, 
 use Rattle.game.specs.Grid.{Grid, size}
 use Rattle.game.specs.Moves.{Move, Replayed, chord, flag, left, legalRead, playRead, readMove, replayFrom, stopped}
 use Rattle.game.specs.Position.{Position, untouched}
-use Rattle.game.proofs.Played.{legal-inside}
+use Rattle.game.proofs.Tidy.{legal-inside}
 use Rattle.game.proofs.Truth.{and-both, no→false}
 use Rattle.area.specs.Stages.{Shape}
 use Rattle.checks.proofs.More.{all-passed, enough, reaches}

@@ -11,12 +11,11 @@ use lib.Signed.{leZ, ≤ℤ-refl}
 use Rattle.game.specs.Grid.{Grid, cells, safe, size, zeroCell}
 use Rattle.game.specs.Lists.{has, some-of}
 use Rattle.game.specs.Openings.{holds, openings, unlabelled}
-use Rattle.game.specs.Position.{Position, closed, closedSafe, cost, gain, opened, premium}
+use Rattle.game.specs.Position.{Position, Tidy, closed, closedSafe, cost, gain, opened, premium}
 use Rattle.game.specs.Rounds.{choice, chords, clicks, closedUnitCell, highest, leastChosen, looked, same, topCells, unitCells, width}
 use Rattle.game.proofs.Counts.{count-find}
 use Rattle.game.proofs.Labels.{labelled→zero}
 use Rattle.game.proofs.Members.{first-of, has-cases, has-keep, has-length, keep-has, rest-of}
-use Rattle.game.proofs.Played.{Played}
 use Rattle.game.proofs.Reveal.{zero-safe}
 use Rattle.game.proofs.Squares.{cells→, close-sym, square→, →cells}
 use Rattle.game.proofs.Truth.{and-both, and-left, and-right, or-cases, or-left, or-right}
@@ -144,7 +143,7 @@ unit→ g s i t =
     }
 
 -- a closed safe cell is a unit itself or stands by a closed 0-cell
-unit-some : (g : Grid) (s : Position) → Played g s → 1 ≤ closedSafe g s → (i : ℕ) × T (has i (unitCells g s))
+unit-some : (g : Grid) (s : Position) → Tidy g s → 1 ≤ closedSafe g s → (i : ℕ) × T (has i (unitCells g s))
 unfolding closedSafe
 unit-some g s f h = go (unlabelled g j) refl
   where
@@ -177,13 +176,13 @@ unit-some g s f h = go (unlabelled g j) refl
           →unit g s (k .0) (record {
             inside = z .inside;
             is-safe = zero-safe g (k .0) z;
-            is-closed = f .around (k .0) j z hj (close-sym g j (k .0) (square→ g j (k .0) hj (k .1) .1)) cj;
+            is-closed = f .around (k .0) j hj (z .none) (k .1) cj;
             which = inl (z .none);
           }),
         )
 
 -- the exit without a move is never reached: there is always something to choose
-pub never-stuck : (openedOnly : Bool) (g : Grid) (s : Position) → Played g s → 1 ≤ closedSafe g s → 1 ≤ width (choice openedOnly g s)
+pub never-stuck : (openedOnly : Bool) (g : Grid) (s : Position) → Tidy g s → 1 ≤ closedSafe g s → 1 ≤ width (choice openedOnly g s)
 unfolding choice
 never-stuck openedOnly g s f h = go (topCells openedOnly g s)
   where

@@ -12,13 +12,13 @@ use Rattle.game.specs.Grid.{Grid, cells, mine, safe, size, square}
 use Rattle.game.specs.Lists.{bit, count, fold}
 use Rattle.game.specs.Moves.{AllLegal, Move, after, chord, flag, left, legal, play, reveal}
 use Rattle.game.specs.Openings.{holds, joinedTo, openings, threeBV, unlabelled}
-use Rattle.game.specs.Position.{Position, cellUnit, closed, closedSafe, closedUnits, openingClosed}
+use Rattle.game.specs.Position.{Position, Tidy, cellUnit, closed, closedSafe, closedUnits, openingClosed}
 use Rattle.game.specs.Rounds.{Step, afterStep}
 use Rattle.game.proofs.Choices.{unit→}
 use Rattle.game.proofs.Counts.{count-each, count-ext, count-mono, count-same, each-map}
 use Rattle.game.proofs.Members.{all-ext}
 use Rattle.game.proofs.Openings.{good}
-use Rattle.game.proofs.Played.{Played, play-played, played-even}
+use Rattle.game.proofs.Tidy.{play-tidy, tidy-even}
 use Rattle.game.proofs.Reveal.{Revealed, getD-sweep, opens, reveal-length, revealed, stays, sweeps, unlabelled-safe, zero-safe}
 use Rattle.game.proofs.Runs.{Fits, fit-legal, fit-takes, moves-cost, pays, unit}
 use Rattle.game.proofs.Squares.{cells→, →cells}
@@ -67,10 +67,10 @@ play-fewer g s (left i) h l = reveal-fewer g s i l
 play-fewer g s (flag i) h l = set-fewer s i 2 (and-right (ltb i (size g) && mine g i) (closed s i) h)
 play-fewer g s (chord i) h l = fold-fewer g (square g i) s l
 
-after-fewer : (g : Grid) (ms : List Move) (s : Position) → AllLegal g s ms → Played g s → Fewer s (after g s ms)
+after-fewer : (g : Grid) (ms : List Move) (s : Position) → AllLegal g s ms → Tidy g s → Fewer s (after g s ms)
 after-fewer g [] s h f j t = t
 after-fewer g (m ∷ ms) s h f j t =
-    play-fewer g s m (h .0) (f .long) j (after-fewer g ms (play g s m) (h .1) (play-played g s m (h .0) f) j t)
+    play-fewer g s m (h .0) (f .long) j (after-fewer g ms (play g s m) (h .1) (play-tidy g s m (h .0) f) j t)
 
 -- ---- as many closed safe cells are the same ones, and the same units
 
@@ -92,7 +92,7 @@ module _ (g : Grid) (s t : Position) (fewer : Fewer s t) (many : closedSafe g s 
       (count-ext (cellUnit g t) (cellUnit g s) (cells g) (λ i u.
       and-under (unlabelled g i) (closed t i) (closed s i) (λ v. same-closed i (cells→ g i u) (unlabelled-safe g i v))))
 
-pub step-falls : (g : Grid) (s : Position) (t : Step) → Played g s → Fits g s t → closedSafe g (afterStep g s t) < closedSafe g s
+pub step-falls : (g : Grid) (s : Position) (t : Step) → Tidy g s → Fits g s t → closedSafe g (afterStep g s t) < closedSafe g s
 step-falls g s t f p =
     elim (decLt (closedSafe g (afterStep g s t)) (closedSafe g s)) [
       | yes h ↦ h
@@ -102,12 +102,12 @@ step-falls g s t f p =
 -- ---- clicks
 
 -- a step has at most as many moves as it takes units
-pub step-pays : (g : Grid) (s : Position) (t : Step) → Played g s → Fits g s t → length (t .moves) + closedUnits g (afterStep g s t) ≤ closedUnits g s
+pub step-pays : (g : Grid) (s : Position) (t : Step) → Tidy g s → Fits g s t → length (t .moves) + closedUnits g (afterStep g s t) ≤ closedUnits g s
 unfolding play
 step-pays g s t f (pays i h k c) = omega (arith, moves-cost g s i, units-moves g s i h (f .long))
 step-pays g s t f (unit i u) =
     let v = unit→ g s i u in
-    omega (arith, units-click g s i (v .inside) (f .long) (played-even g s f) (v .is-closed) (v .which))
+    omega (arith, units-click g s i (v .inside) (f .long) (tidy-even g s f) (v .is-closed) (v .which))
 
 -- no more units are closed than there are
 pub units-most : (g : Grid) (s : Position) → closedUnits g s ≤ threeBV g

@@ -13,7 +13,7 @@ use Rattle.game.specs.Grid.{Grid, mine, safe, size, square, zeroCell}
 use Rattle.game.specs.Lists.{all-of, has, keep}
 use Rattle.game.specs.Moves.{AllLegal, Move, Reached, after, chord, chordable, flag, left, legal, play, reveal}
 use Rattle.game.specs.Openings.{holds, openings, unlabelled}
-use Rattle.game.specs.Position.{Position, cellUnit, closed, cost, flagged, gain, opened, openingClosed, unflagged, untouched}
+use Rattle.game.specs.Position.{Position, Tidy, cellUnit, closed, cost, flagged, gain, opened, openingClosed, unflagged, untouched}
 use Rattle.game.specs.Rounds.{movesAt, unitCells}
 use Rattle.game.proofs.Choices.{unit→}
 use Rattle.game.proofs.Counts.{Once, bit-le, count-each, count-none, each-map}
@@ -22,7 +22,6 @@ use Rattle.game.proofs.Members.{all-give, all-has, first-of, has-keep, 
 use Rattle.game.proofs.Openings.{good}
 use Rattle.game.proofs.Orders.{once-keep}
 use Rattle.game.proofs.Owners.{owner}
-use Rattle.game.proofs.Played.{Played}
 use Rattle.game.proofs.Reveal.{Revealed, no-zero-near, opens, revealed, stays, sweeps}
 use Rattle.game.proofs.Squares.{close-sym, once-square, square→, →square}
 use Rattle.game.proofs.Truth.{and-both, and-left, and-right, eqb-no, eqb-yes, no→false}
@@ -138,7 +137,7 @@ record OpenedAt (g : Grid) (s t : Position) (i : ℕ) : Type 0 where
   is-open : T (opened t i)
   others : (j : ℕ) → (j ≡ i → ⊥) → getD t j 0 ≡ getD s j 0
 
-module _ (g : Grid) (s : Position) (i : ℕ) (f : Played g s) (h : i < size g) (t : T (safe g i)) (n : T (zeroCell g i) → ⊥) where
+module _ (g : Grid) (s : Position) (i : ℕ) (f : Tidy g s) (h : i < size g) (t : T (safe g i)) (n : T (zeroCell g i) → ⊥) where
   reveal-one : T (closed s i) → reveal g s i ≡ set s i 1
   reveal-one u = go (reveal g s i) (revealed g s i)
     where

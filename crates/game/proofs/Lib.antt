@@ -12,7 +12,7 @@ pub mod Reveal
 pub mod Owners
 pub mod Units
 pub mod Premiums
-pub mod Played
+pub mod Tidy
 pub mod Choices
 pub mod Legal
 pub mod Runs

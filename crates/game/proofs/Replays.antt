@@ -10,7 +10,7 @@ use Rattle.game.specs.Grid.{Grid, size}
 use Rattle.game.specs.Moves.{AllLegal, Move, Replayed, after, cellOf, chord, flag, kindOf, left, legal, legalRead, moveOf, play, playRead, readMove, replayFrom, stopped, whole, word}
 use Rattle.game.specs.Position.{Position, untouched}
 use Rattle.game.specs.Rounds.{Step, movesOf}
-use Rattle.game.proofs.Played.{legal-inside}
+use Rattle.game.proofs.Tidy.{legal-inside}
 use Rattle.game.proofs.Truth.{T→true}
 
 -- the kind and the index of a word

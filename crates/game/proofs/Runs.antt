@@ -13,14 +13,14 @@ use Rattle.game.specs.Grid.{Grid, cells, mine, safe, size, square}
 use Rattle.game.specs.Lists.{bit, count, has, keep}
 use Rattle.game.specs.Moves.{AllLegal, Move, after, chord, flag, left, play, reveal}
 use Rattle.game.specs.Openings.{openings, threeBV, unlabelled}
-use Rattle.game.specs.Position.{Position, cellUnit, closed, closedSafe, closedUnits, cost, gain, opened, openingClosed, premium, unflagged, untouched}
+use Rattle.game.specs.Position.{Position, Tidy, cellUnit, closed, closedSafe, closedUnits, cost, gain, opened, openingClosed, premium, unflagged, untouched}
 use Rattle.game.specs.Rounds.{Step, afterStep, choice, chordStep, chords, clickStep, clicks, movesAt, movesOf, stepOf, topCells, unitCells, width}
 use Rattle.game.proofs.Choices.{Top, looked→, premium-pays, top→, unit→}
 use Rattle.game.proofs.Counts.{count-each, count-none, each-map, length-keep, none-counted}
 use Rattle.game.proofs.Legal.{click-legal, legal-append, moves-legal, zero-poor}
 use Rattle.game.proofs.Members.{all-has, getD-has}
 use Rattle.game.proofs.Openings.{good}
-use Rattle.game.proofs.Played.{Played, after-played, played-even, untouched-played}
+use Rattle.game.proofs.Tidy.{after-tidy, tidy-even, untouched-tidy}
 use Rattle.game.proofs.Reveal.{opens, unlabelled-safe, zero-safe}
 use Rattle.game.proofs.Squares.{cells→, →cells}
 use Rattle.game.proofs.Truth.{and-both, and-left, and-right, no→false}
@@ -33,7 +33,7 @@ pub data Fits (g : Grid) (s : Position) : Step → Type 0 where
   pays : (i : ℕ) → i < size g → T (safe g i) → cost g s i ≤ gain g s i → Fits g s (chordStep g s i)
   unit : (i : ℕ) → T (has i (unitCells g s)) → Fits g s (clickStep i)
 
-pub fit-legal : (g : Grid) (s : Position) (t : Step) → Played g s → Fits g s t → AllLegal g s (t .moves)
+pub fit-legal : (g : Grid) (s : Position) (t : Step) → Tidy g s → Fits g s t → AllLegal g s (t .moves)
 fit-legal g s t f (pays i h k c) =
     moves-legal g s i f h k (λ u. let p = zero-poor g s i (record { inside = h; none = u }) in absurd (omega arith))
 fit-legal g s t f (unit i u) = (click-legal g s i u, tt)
@@ -56,12 +56,12 @@ moves-cost g s i =
     one false = refl
 
 -- each step takes a unit
-pub fit-takes : (g : Grid) (s : Position) (t : Step) → Played g s → Fits g s t → closedUnits g (afterStep g s t) < closedUnits g s
+pub fit-takes : (g : Grid) (s : Position) (t : Step) → Tidy g s → Fits g s t → closedUnits g (afterStep g s t) < closedUnits g s
 unfolding cost play
 fit-takes g s t f (pays i h k c) = omega (arith, units-moves g s i h (f .long))
 fit-takes g s t f (unit i u) =
     let v = unit→ g s i u in
-    omega (arith, units-click g s i (v .inside) (f .long) (played-even g s f) (v .is-closed) (v .which))
+    omega (arith, units-click g s i (v .inside) (f .long) (tidy-even g s f) (v .is-closed) (v .which))
 
 cost-and-gain : (u g c : ℕ) → pos c +ℤ pos u +ℤ (pos g -ℤ pos c) ≡ pos (u + g)
 cost-and-gain u g c =
@@ -71,7 +71,7 @@ cost-and-gain u g c =
     same-sum = omega arith
 
 -- clicks paid + closed units left + the chosen cell's premium = closed units before
-pub fit-sum : (g : Grid) (s : Position) (t : Step) → Played g s → Fits g s t
+pub fit-sum : (g : Grid) (s : Position) (t : Step) → Tidy g s → Fits g s t
     → pos (length (t .moves)) +ℤ pos (closedUnits g (afterStep g s t)) +ℤ worth g s t ≡ pos (closedUnits g s)
 unfolding premium play
 fit-sum g s t f (pays i h k c) =
@@ -80,7 +80,7 @@ fit-sum g s t f (pays i h k c) =
     ∙ ap pos (sym (units-moves g s i h (f .long)))
 fit-sum g s t f (unit i u) =
     let v = unit→ g s i u in
-    ap pos (one (closedUnits g (reveal g s i)) (closedUnits g s) (units-click g s i (v .inside) (f .long) (played-even g s f) (v .is-closed) (v .which)))
+    ap pos (one (closedUnits g (reveal g s i)) (closedUnits g s) (units-click g s i (v .inside) (f .long) (tidy-even g s f) (v .is-closed) (v .which)))
   where
     one : (a b : ℕ) → b ≡ a + 1 → 1 + a + 0 ≡ b
     one a b e = omega arith
@@ -117,8 +117,8 @@ abbrev pub Run : Grid → Position → List Step → Type 0
 Run g s [] = Unit {0}
 Run g s (t ∷ ts) = Fits g s t × Run g (afterStep g s t) ts
 
-pub step-played : (g : Grid) (s : Position) (t : Step) → Played g s → Fits g s t → Played g (afterStep g s t)
-step-played g s t f p = after-played g (t .moves) s (fit-legal g s t f p) f
+pub step-tidy : (g : Grid) (s : Position) (t : Step) → Tidy g s → Fits g s t → Tidy g (afterStep g s t)
+step-tidy g s t f p = after-tidy g (t .moves) s (fit-legal g s t f p) f
 
 pub run-before : (g : Grid) (s : Position) (ts us : List Step) → Run g s (ts ++ us) → Run g s ts
 run-before g s [] us r = tt
@@ -134,13 +134,13 @@ run-append g s [] us r q = q
 run-append g s (t ∷ ts) us r q =
     (r .0, run-append g (afterStep g s t) ts us (r .1) (subst (λ (p : Position). Run g p us) (after-append g (t .moves) (movesOf ts) s) q))
 
-pub run-legal : (g : Grid) (s : Position) (ts : List Step) → Played g s → Run g s ts → AllLegal g s (movesOf ts)
+pub run-legal : (g : Grid) (s : Position) (ts : List Step) → Tidy g s → Run g s ts → AllLegal g s (movesOf ts)
 run-legal g s [] f r = tt
 run-legal g s (t ∷ ts) f r =
-    legal-append g (t .moves) (movesOf ts) s (fit-legal g s t f (r .0)) (run-legal g (afterStep g s t) ts (step-played g s t f (r .0)) (r .1))
+    legal-append g (t .moves) (movesOf ts) s (fit-legal g s t f (r .0)) (run-legal g (afterStep g s t) ts (step-tidy g s t f (r .0)) (r .1))
 
-pub run-played : (g : Grid) (s : Position) (ts : List Step) → Played g s → Run g s ts → Played g (after g s (movesOf ts))
-run-played g s ts f r = after-played g (movesOf ts) s (run-legal g s ts f r) f
+pub run-tidy : (g : Grid) (s : Position) (ts : List Step) → Tidy g s → Run g s ts → Tidy g (after g s (movesOf ts))
+run-tidy g s ts f r = after-tidy g (movesOf ts) s (run-legal g s ts f r) f
 
 -- two balances one after the other
 join : (a b u₀ u₁ u₂ : ℕ) (w e : ℤ) → pos a +ℤ pos u₁ +ℤ w ≡ pos u₀ → pos b +ℤ pos u₂ +ℤ e ≡ pos u₁ → pos (a + b) +ℤ pos u₂ +ℤ (w +ℤ e) ≡ pos u₀
@@ -150,7 +150,7 @@ join a b u₀ u₁ u₂ w e p q =
     ∙ ap (λ (z : ℤ). pos a +ℤ z) (ap (λ (z : ℤ). pos b +ℤ pos u₂ +ℤ z) (+ℤ-comm w e) ∙ sym (+ℤ-assoc (pos b +ℤ pos u₂) e w) ∙ ap (λ (z : ℤ). z +ℤ w) q)
     ∙ sym (+ℤ-assoc (pos a) (pos u₁) w) ∙ p
 
-pub run-sum : (g : Grid) (s : Position) (ts : List Step) → Played g s → Run g s ts
+pub run-sum : (g : Grid) (s : Position) (ts : List Step) → Tidy g s → Run g s ts
     → pos (length (movesOf ts)) +ℤ pos (closedUnits g (after g s (movesOf ts))) +ℤ earned g s ts ≡ pos (closedUnits g s)
 run-sum g s [] f r = ap pos (none-paid (closedUnits g s))
   where
@@ -160,17 +160,17 @@ run-sum g s (t ∷ ts) f r =
     ap (λ (k : ℕ). pos k +ℤ pos (closedUnits g (after g s (t .moves ++ movesOf ts))) +ℤ earned g s (t ∷ ts)) (length-append (t .moves) (movesOf ts))
     ∙ ap (λ (p : Position). pos (length (t .moves) + length (movesOf ts)) +ℤ pos (closedUnits g p) +ℤ earned g s (t ∷ ts)) (after-append g (t .moves) (movesOf ts) s)
     ∙ join (length (t .moves)) (length (movesOf ts)) (closedUnits g s) (closedUnits g (afterStep g s t)) (closedUnits g (after g (afterStep g s t) (movesOf ts)))
-    (worth g s t) (earned g (afterStep g s t) ts) (fit-sum g s t f (r .0)) (run-sum g (afterStep g s t) ts (step-played g s t f (r .0)) (r .1))
+    (worth g s t) (earned g (afterStep g s t) ts) (fit-sum g s t f (r .0)) (run-sum g (afterStep g s t) ts (step-tidy g s t f (r .0)) (r .1))
 
 -- a run takes closed units away, if any
-pub run-falls : (g : Grid) (s : Position) (ts : List Step) → Played g s → Run g s ts → closedUnits g (after g s (movesOf ts)) ≤ closedUnits g s
+pub run-falls : (g : Grid) (s : Position) (ts : List Step) → Tidy g s → Run g s ts → closedUnits g (after g s (movesOf ts)) ≤ closedUnits g s
 run-falls g s [] f r = omega arith
 run-falls g s (t ∷ ts) f r =
     omega (
       arith,
       ap (closedUnits g) (after-append g (t .moves) (movesOf ts) s),
       fit-takes g s t f (r .0),
-      run-falls g (afterStep g s t) ts (step-played g s t f (r .0)) (r .1),
+      run-falls g (afterStep g s t) ts (step-tidy g s t f (r .0)) (r .1),
     )
 
 pub moves-append : (ts us : List Step) → movesOf (ts ++ us) ≡ movesOf ts ++ movesOf us
@@ -186,7 +186,7 @@ run-earned g s (t ∷ ts) r =
 
 -- ---- the end
 
-module _ (g : Grid) (s : Position) (f : Played g s) (done : closedSafe g s ≡ 0) where
+module _ (g : Grid) (s : Position) (f : Tidy g s) (done : closedSafe g s ≡ 0) where
   all-open : (i : ℕ) → i < size g → T (safe g i) → T (closed s i) → ⊥
   unfolding closedSafe
   all-open i h t u = none-counted (λ i. safe g i && closed s i) (cells g) done i (→cells g i h) (and-both (safe g i) (closed s i) t u)
@@ -230,7 +230,7 @@ sound g ts r e =
           ∙ ap pos (units-untouched g);
       takes = λ done left t q.
           let p = subst (Run g (untouched g)) q r in
-          fit-takes g (standing g done) t (run-played g (untouched g) done start (run-before g (untouched g) done (t ∷ left) p))
+          fit-takes g (standing g done) t (run-tidy g (untouched g) done start (run-before g (untouched g) done (t ∷ left) p))
           (run-behind g (untouched g) done (t ∷ left) p .0);
       legal-moves = run-legal g (untouched g) ts start r;
       opens = exactly-safe g (standing g ts) final e;
@@ -240,11 +240,11 @@ sound g ts r e =
       units-at-most = units-at-most-cells g;
     }
   where
-    start : Played g (untouched g)
-    start = untouched-played g
+    start : Tidy g (untouched g)
+    start = untouched-tidy g
 
-    final : Played g (standing g ts)
-    final = run-played g (untouched g) ts start r
+    final : Tidy g (standing g ts)
+    final = run-tidy g (untouched g) ts start r
 
     paid : (a u b : ℕ) (w : ℤ) → (k : ℕ) × (w ≡ pos k) → pos a +ℤ pos u +ℤ w ≡ pos b → a ≤ b
     paid a u b w k q =

@@ -1,13 +1,14 @@
 -- A position: states, closed units, the premium. Assumes nothing.
-use Prim.Native.Nat.{ℕ, _+_}
+use Prim.Native.Nat.{ℕ, _+_, _<_}
+use mathlib.Core.Path.{_≡_}
 use mathlib.Core.Bool.{Bool, not, _&&_}
 use mathlib.Core.List.{List}
 use lib.IntN.{ℤ, pos, _-ℤ_}
-use lib.ListN.{getD, replicate}
-use lib.Dec.{eqb}
-use Rattle.game.specs.Lists.{bit, count, all-of}
-use Rattle.game.specs.Grid.{Grid, size, cells, mine, safe, square}
-use Rattle.game.specs.Openings.{openings, holds, unlabelled}
+use lib.ListN.{getD, length, replicate}
+use lib.Dec.{T, eqb}
+use Rattle.game.specs.Lists.{bit, count, all-of, has}
+use Rattle.game.specs.Grid.{Grid, size, cells, mine, safe, square, zeroCell}
+use Rattle.game.specs.Openings.{Joined, openings, holds, unlabelled}
 
 -- each cell's state by its index: 0 closed, 1 opened, 2 flagged
 abbrev pub Position : Type 0
@@ -60,3 +61,16 @@ cost g s i = count (unflagged g s) (square g i) + 1 + bit (closed s i)
 -- the premium of a safe cell
 unfoldable pub premium : Grid → Position → ℕ → ℤ
 premium g s i = pos (gain g s i) -ℤ pos (cost g s i)
+
+-- a tidy position, such as the rounds meet: only mines are flagged, no mine is open, and an opening is open or closed as a whole
+pub record Tidy (g : Grid) (s : Position) : Type 0 where
+  -- each cell has a state
+  pub long : length s ≡ size g
+  -- 0-cells that are joined are closed together
+  pub even : (a b : ℕ) → Joined g a b → closed s a ≡ closed s b
+  -- what stands around an opened 0-cell is open
+  pub around : (z j : ℕ) → j < size g → T (zeroCell g z) → T (has z (square g j)) → T (closed s j) → T (closed s z)
+  -- a safe cell is closed or opened
+  pub safes : (j : ℕ) → j < size g → T (safe g j) → opened s j ≡ not (closed s j)
+  -- a mine is closed or flagged
+  pub mines : (j : ℕ) → j < size g → T (mine g j) → flagged s j ≡ not (closed s j)

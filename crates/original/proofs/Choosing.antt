@@ -13,7 +13,7 @@ use Rattle.game.specs.Grid.{Grid, cells, safe, size, zeroCell}
 use Rattle.game.specs.Lists.{fold, has, keep, range}
 use Rattle.game.specs.Moves.{play}
 use Rattle.game.specs.Openings.{firstLabel}
-use Rattle.game.specs.Position.{Position, closed, closedSafe, opened, premium}
+use Rattle.game.specs.Position.{Position, Tidy, closed, closedSafe, opened, premium}
 use Rattle.game.specs.Rounds.{Step, afterStep, choice, chords, clicks, closedUnitCell, highest, leastChosen, looked, same, stepOf, topCells, unitCells, width}
 use Rattle.original.specs.Cells.{Zcell, at}
 use Rattle.original.specs.Play.{State, click}
@@ -22,7 +22,6 @@ use Rattle.game.proofs.Choices.{Top, looked→, never-stuck, top→, unit→, �
 use Rattle.game.proofs.Labels.{first-label}
 use Rattle.game.proofs.Members.{first-of, has-cases, has-head, has-keep, keep-has, rest-of}
 use Rattle.game.proofs.Orders.{Ordered, ordered-keep, ordered-range}
-use Rattle.game.proofs.Played.{Played}
 use Rattle.game.proofs.Squares.{cells→, length-cells}
 use Rattle.game.proofs.Truth.{T→true, and-both, and-false, and-left, and-right, and-true}
 use Rattle.original.proofs.Positions.{Stands, not-opened}
@@ -141,7 +140,7 @@ module _ (human : Bool) (g : Grid) (s : Position) (n : ℕ) (st : State) (w : St
 
   -- ---- the cells to fall back on
 
-  pub falls-unit : Played g s → (x : ℕ) → x < size g → falls-back (st .cells) x ≡ closedUnitCell g s x
+  pub falls-unit : Tidy g s → (x : ℕ) → x < size g → falls-back (st .cells) x ≡ closedUnitCell g s x
   falls-unit f x h =
       ap (λ (z : Zcell). not (z .opened) && not (z .mine) && (eqb (z .number) 0 || eqb (z .opening) 0)) (w .board .reads x h) ∙ go (safe g x) refl
       ∙ ap (λ (b : Bool). safe g x && closed s x && (zeroCell g x || b)) (sym (first-label g x))
@@ -152,7 +151,7 @@ module _ (human : Bool) (g : Grid) (s : Position) (n : ℕ) (st : State) (w : St
           ∙ ap (λ (c : Bool). c && (zeroCell g x || eqb (firstLabel g x) 0)) (sym (and-true (closed s x)))
       go false e = ap (λ (c : Bool). c && (zeroCell g x || eqb (firstLabel g x) 0)) (sym (and-false (not (opened s x))))
 
-  first-unit : Played g s → (xs : List ℕ) → ((x : ℕ) → T (has x xs) → x < size g) → first-fall (st .cells) xs ≡ head-of (keep (closedUnitCell g s) xs)
+  first-unit : Tidy g s → (xs : List ℕ) → ((x : ℕ) → T (has x xs) → x < size g) → first-fall (st .cells) xs ≡ head-of (keep (closedUnitCell g s) xs)
   first-unit f [] h = refl
   first-unit f (x ∷ xs) h =
       ap (λ (b : Bool). elim b as (λ z. Option ℕ) [ true ↦ some x | false ↦ first-fall (st .cells) xs ]) (falls-unit f x (first-of x xs h))
@@ -172,7 +171,7 @@ module _ (human : Bool) (g : Grid) (s : Position) (n : ℕ) (st : State) (w : St
     pub stands : Stands g (afterStep g s t) (n + length (t .moves)) done
 
   -- while a safe cell is closed it takes the step at the lowest index
-  pub applies : Played g s → 1 ≤ closedSafe g s → Applies (stepOf g s (choice human g s) 0)
+  pub applies : Tidy g s → 1 ≤ closedSafe g s → Applies (stepOf g s (choice human g s) 0)
   unfolding apply-zini choice unitCells play
   applies f c = go (topCells human g s) (unitCells g s) refl refl (never-stuck human g s f c)
     where

@@ -15,7 +15,7 @@ use Rattle.game.specs.Draws.{Drawn, draw}
 use Rattle.game.specs.Grid.{Grid, cells, mine, safe, size}
 use Rattle.game.specs.Lists.{Each, fold, has, keep, range}
 use Rattle.game.specs.Moves.{play}
-use Rattle.game.specs.Position.{Position, closedSafe, opened, premium}
+use Rattle.game.specs.Position.{Position, Tidy, closedSafe, opened, premium}
 use Rattle.game.specs.Rounds.{Choice, afterStep, choice, chords, clicks, closedUnitCell, highest, leastChosen, looked, same, stepOf, topCells, unitCells, width}
 use Rattle.original.specs.Cells.{Zcell}
 use Rattle.original.specs.Play.{State, click}
@@ -23,7 +23,6 @@ use Rattle.original.specs.Rounds.{Applied, Falls, Rolled, Stepped, Ties,
 use Rattle.game.proofs.Choices.{looked→, never-stuck, top→, unit→}
 use Rattle.game.proofs.Counts.{count-le, length-keep}
 use Rattle.game.proofs.Members.{getD-has, has-head, has-keep, has-length, keep-has}
-use Rattle.game.proofs.Played.{Played}
 use Rattle.game.proofs.Rounds.{IfSome, rolled}
 use Rattle.game.proofs.Squares.{cells→, length-cells}
 use Rattle.game.proofs.Truth.{T→true, and-both, and-left, and-right}
@@ -168,7 +167,7 @@ module _ (human : Bool) (g : Grid) (s : Position) (n : ℕ) (st : State) (w : St
   Fallen : List ℕ → Falls → Type 0
   Fallen ps b = Front (size g) (keep (closedUnitCell g s) ps) (b .fb-count) (b .maxpr)
 
-  fallen-one : Played g s → (ps : List ℕ) (x : ℕ) (b : Falls) → x < size g → length ps < size g → Fallen ps b → Fallen (ps ++ (x ∷ [])) (fallen (st .cells) b x)
+  fallen-one : Tidy g s → (ps : List ℕ) (x : ℕ) (b : Falls) → x < size g → length ps < size g → Fallen ps b → Fallen (ps ++ (x ∷ [])) (fallen (st .cells) b x)
   unfolding Fallen
   fallen-one f ps x b h l p =
       subst₂ (λ ls c. Front (size g) ls (by c .fb-count) (by c .maxpr)) (sym (keep-snoc (closedUnitCell g s) ps x)) (sym (falls-unit human g s n st w f x h)) (go (closedUnitCell g s x))
@@ -182,7 +181,7 @@ module _ (human : Bool) (g : Grid) (s : Position) (n : ℕ) (st : State) (w : St
           (omega (arith, p .counted, length-keep (closedUnitCell g s) ps, count-le (closedUnitCell g s) ps)) p
       go false = front-same (size g) (keep (closedUnitCell g s) ps) (b .fb-count) (b .maxpr) p
 
-  all-fallen : Played g s → (maxpr : List ℕ) → length maxpr ≡ size g → Fallen (cells g) (fold (fallen (st .cells)) (record { fb-count = 0; maxpr = maxpr }) (cells g))
+  all-fallen : Tidy g s → (maxpr : List ℕ) → length maxpr ≡ size g → Fallen (cells g) (fold (fallen (st .cells)) (record { fb-count = 0; maxpr = maxpr }) (cells g))
   unfolding Fallen
   all-fallen f maxpr e =
       fold-prefix Fallen (fallen (st .cells)) (size g) (cells g) (λ ps x b t l p. fallen-one f ps x b (cells→ g x t) l p) [] (record { fb-count = 0; maxpr = maxpr }) (omega (arith, length-cells g))
@@ -252,7 +251,7 @@ module _ (human : Bool) (g : Grid) (s : Position) (n : ℕ) (st : State) (w : St
   few-units = omega (arith, length-keep (closedUnitCell g s) (cells g), count-le (closedUnitCell g s) (cells g), length-cells g)
 
   -- while a safe cell is closed it draws as the definition does
-  pub rolls : (bytes : List ℕ) (next : ℕ) (maxpr : List ℕ) → Each (λ b. b < 256) bytes → size g ≤ 65025 → length maxpr ≡ size g → Played g s → 1 ≤ closedSafe g s
+  pub rolls : (bytes : List ℕ) (next : ℕ) (maxpr : List ℕ) → Each (λ b. b < 256) bytes → size g ≤ 65025 → length maxpr ≡ size g → Tidy g s → 1 ≤ closedSafe g s
       → Rolls (choice human g s) (draw bytes next (width (choice human g s))) (apply-zini-rng (g .rows) human bytes st next maxpr)
   unfolding apply-zini-rng choice unitCells play taken Fallen
   rolls bytes next maxpr q few e f c =

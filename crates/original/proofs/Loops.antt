@@ -10,14 +10,13 @@ use lib.Dec.{ltb, ltb→lt, lt→ltb}
 use lib.ListN.{length, length-append}
 use Rattle.game.specs.Grid.{Grid, cells, mine}
 use Rattle.game.specs.Lists.{count}
-use Rattle.game.specs.Position.{Position, closedSafe, closedUnits}
+use Rattle.game.specs.Position.{Position, Tidy, closedSafe, closedUnits}
 use Rattle.game.specs.Rounds.{Step, afterStep, choice, movesOf, stepOf, stepsFrom}
 use Rattle.original.specs.Play.{State}
 use Rattle.original.specs.Rounds.{apply-zini, zini-loop}
 use Rattle.game.proofs.Choices.{never-stuck}
-use Rattle.game.proofs.Played.{Played}
 use Rattle.game.proofs.Rounds.{steps-end}
-use Rattle.game.proofs.Runs.{choice-fits, fit-takes, step-played}
+use Rattle.game.proofs.Runs.{choice-fits, fit-takes, step-tidy}
 use Rattle.game.proofs.Truth.{T→true, no→false}
 use Rattle.original.proofs.Choosing.{applies}
 use Rattle.original.proofs.Positions.{Stands}
@@ -25,7 +24,7 @@ use Rattle.original.proofs.Positions.{Stands}
 -- ---- the end
 
 -- no step is left where no unit is closed
-pub all-done : (human : Bool) (g : Grid) (s : Position) → Played g s → closedUnits g s ≤ 0 → closedSafe g s ≡ 0
+pub all-done : (human : Bool) (g : Grid) (s : Position) → Tidy g s → closedUnits g s ≤ 0 → closedSafe g s ≡ 0
 all-done human g s f h = steps-end 0 human g s f h
 
 steps-none : (m : ℕ) (human : Bool) (g : Grid) (s : Position) → closedSafe g s ≡ 0 → stepsFrom m human g s ≡ []
@@ -62,7 +61,7 @@ loop-ends fuel m human g s n st w e =
     loop-stops fuel human g s n st w e ∙ sym (ap (λ (ts : List Step). n + length (movesOf ts)) (steps-none m human g s e) ∙ add-zero n)
 
 -- from any position that the state stands for, with as many turns and steps as there are closed units
-pub loop-clicks : (fuel m : ℕ) (human : Bool) (g : Grid) (s : Position) (n : ℕ) (st : State) → Stands g s n st → Played g s → closedUnits g s ≤ fuel → closedUnits g s ≤ m
+pub loop-clicks : (fuel m : ℕ) (human : Bool) (g : Grid) (s : Position) (n : ℕ) (st : State) → Stands g s n st → Tidy g s → closedUnits g s ≤ fuel → closedUnits g s ≤ m
     → zini-loop fuel (g .rows) human (count (mine g) (cells g)) st .zini ≡ n + length (movesOf (stepsFrom m human g s))
 loop-clicks zero m human g s n st w f h l = loop-ends zero m human g s n st w (all-done human g s f h)
 loop-clicks (suc fuel) zero human g s n st w f h l = loop-ends (suc fuel) zero human g s n st w (all-done human g s f l)
@@ -75,7 +74,7 @@ loop-clicks (suc fuel) (suc m) human g s n st w f h l = go (closedSafe g s) refl
     by b o = elim b [ true ↦ elim o [ none ↦ st | some d ↦ zini-loop fuel (g .rows) human (count (mine g) (cells g)) d ] | false ↦ st ]
 
     go : (k : ℕ) → closedSafe g s ≡ k
-        → ((d : State) → Stands g (afterStep g s t) (n + length (t .moves)) d → Played g (afterStep g s t) → closedUnits g (afterStep g s t) ≤ fuel → closedUnits g (afterStep g s t) ≤ m
+        → ((d : State) → Stands g (afterStep g s t) (n + length (t .moves)) d → Tidy g (afterStep g s t) → closedUnits g (afterStep g s t) ≤ fuel → closedUnits g (afterStep g s t) ≤ m
         → zini-loop fuel (g .rows) human (count (mine g) (cells g)) d .zini ≡ n + length (t .moves) + length (movesOf (stepsFrom m human g (afterStep g s t))))
         → by (ltb (count (mine g) (cells g)) (st .closed-cells)) (apply-zini (g .rows) human st) .zini
         ≡ n + length (movesOf (elim k [ zero ↦ [] | suc k ↦ t ∷ stepsFrom m human g (afterStep g s t) ]))
@@ -85,5 +84,5 @@ loop-clicks (suc fuel) (suc m) human g s n st w f h l = go (closedSafe g s) refl
         let p = choice-fits human g s 0 (never-stuck human g s f (omega arith)) in
         let q = fit-takes g s t f p in
         ap₂ (λ b o. by b o .zini) (cells-left g s n st w (suc k) e) (a .is-some)
-        ∙ r (a .done) (a .stands) (step-played g s t f p) (omega arith) (omega arith)
+        ∙ r (a .done) (a .stands) (step-tidy g s t f p) (omega arith) (omega arith)
         ∙ omega (arith, length-append (t .moves) (movesOf (stepsFrom m human g (afterStep g s t))))

@@ -12,7 +12,7 @@ use Rattle.game.specs.Grid.{Grid, cells, mine, safe, size, zeroCell}
 use Rattle.game.specs.Lists.{bit, count, fold, has, range}
 use Rattle.game.specs.Moves.{after, play, reveal}
 use Rattle.game.specs.Openings.{threeBV}
-use Rattle.game.specs.Position.{Position, closed, closedSafe, closedUnits, flagged, opened, premium, untouched}
+use Rattle.game.specs.Position.{Position, Tidy, closed, closedSafe, closedUnits, flagged, opened, premium, untouched}
 use Rattle.game.specs.Rounds.{Step, clickStep, firstClicks, greedySteps, movesOf, openingClicks, openingsFirstSteps, stepsFrom}
 use Rattle.original.specs.Cells.{Zcell, at}
 use Rattle.original.specs.Entries.{cal-hzini, cal-zini, prepared}
@@ -20,10 +20,10 @@ use Rattle.original.specs.Play.{State, click, hitopenings}
 use Rattle.original.specs.Rounds.{begin, mines-of, zini-loop, zinialg}
 use Rattle.game.proofs.Counts.{count-ext}
 use Rattle.game.proofs.Members.{first-of, rest-of}
-use Rattle.game.proofs.Played.{Played, reveal-played, untouched-played}
+use Rattle.game.proofs.Tidy.{reveal-tidy, untouched-tidy}
 use Rattle.game.proofs.Reveal.{zero-safe}
 use Rattle.game.proofs.Rounds.{clicks-run}
-use Rattle.game.proofs.Runs.{Run, moves-append, run-falls, run-played}
+use Rattle.game.proofs.Runs.{Run, moves-append, run-falls, run-tidy}
 use Rattle.game.proofs.Squares.{cells→, length-cells}
 use Rattle.game.proofs.Truth.{T→true, and-false, and-left, and-true}
 use Rattle.game.proofs.Units.{units-at-most-cells, units-untouched}
@@ -75,7 +75,7 @@ pub greedy-equal : (g : Grid) → cal-zini g ≡ length (movesOf (greedySteps g)
 unfolding cal-zini zinialg greedySteps
 greedy-equal g =
     ap (λ (m : ℕ). zini-loop (g .columns * g .rows) (g .rows) false m (begin (prepared g) (g .columns) (g .rows)) .zini) (mines-counted g)
-    ∙ loop-clicks (g .columns * g .rows) (threeBV g) false g (untouched g) 0 (begin (prepared g) (g .columns) (g .rows)) (begin-stands g) (untouched-played g) (enough-turns g) (omega (arith, units-untouched g))
+    ∙ loop-clicks (g .columns * g .rows) (threeBV g) false g (untouched g) 0 (begin (prepared g) (g .columns) (g .rows)) (begin-stands g) (untouched-tidy g) (enough-turns g) (omega (arith, units-untouched g))
     ∙ zero-add (length (movesOf (stepsFrom (threeBV g) false g (untouched g))))
 
 -- ---- cal_hzini
@@ -85,7 +85,7 @@ abbrev hit-turn : Grid → State → ℕ → State
 hit-turn g t j =
     elim (not (at (t .cells) j .mine) && eqb (at (t .cells) j .number) 0 && not (at (t .cells) j .opened)) [ true ↦ click (g .rows) t j | false ↦ t ]
 
-hit-stands : (g : Grid) (xs : List ℕ) (s : Position) (n : ℕ) (st : State) → ((x : ℕ) → T (has x xs) → x < size g) → Played g s → Stands g s n st
+hit-stands : (g : Grid) (xs : List ℕ) (s : Position) (n : ℕ) (st : State) → ((x : ℕ) → T (has x xs) → x < size g) → Tidy g s → Stands g s n st
     → Stands g (after g s (movesOf (openingClicks g s xs))) (n + length (movesOf (openingClicks g s xs))) (fold (hit-turn g) st xs)
 unfolding play
 hit-stands g [] s n st h f w = subst (λ (m : ℕ). Stands g s m st) (sym (add-zero n)) w
@@ -112,7 +112,7 @@ hit-stands g (x ∷ xs) s n st h f w =
     more m = omega arith
 
     go : (b : Bool) → (zeroCell g x && closed s x) ≡ b
-        → (Played g (reveal g s x) → Stands g (reveal g s x) (n + 1) (click (g .rows) st x)
+        → (Tidy g (reveal g s x) → Stands g (reveal g s x) (n + 1) (click (g .rows) st x)
         → Stands g (after g (reveal g s x) (movesOf (openingClicks g (reveal g s x) xs))) (n + 1 + length (movesOf (openingClicks g (reveal g s x) xs))) (fold (hit-turn g) (click (g .rows) st x) xs))
         → Stands g (after g s (movesOf (openingClicks g s xs))) (n + length (movesOf (openingClicks g s xs))) (fold (hit-turn g) st xs)
         → Stands g (after g s (movesOf (elim b [ true ↦ clickStep x ∷ openingClicks g (reveal g s x) xs | false ↦ openingClicks g s xs ])))
@@ -120,7 +120,7 @@ hit-stands g (x ∷ xs) s n st h f w =
     go true e hit miss =
         let t = zero-safe g x (record { inside = hx; none = and-left (zeroCell g x) (closed s x) (rw e tt) }) in
         subst (λ (m : ℕ). Stands g (after g (reveal g s x) (movesOf (openingClicks g (reveal g s x) xs))) m (fold (hit-turn g) (click (g .rows) st x) xs)) (more (length (movesOf (openingClicks g (reveal g s x) xs))))
-        (hit (reveal-played g s x hx f) (click-stands g s n st x hx t f w))
+        (hit (reveal-tidy g s x hx f) (click-stands g s n st x hx t f w))
     go false e hit miss = miss
 
 pub openings-first-equal : (g : Grid) → cal-hzini g ≡ length (movesOf (openingsFirstSteps g))
@@ -140,15 +140,15 @@ openings-first-equal g =
     hit = after g (untouched g) (movesOf first)
 
     runs : Run g (untouched g) first
-    runs = clicks-run g (cells g) (untouched g) (cells→ g) (untouched-played g)
+    runs = clicks-run g (cells g) (untouched g) (cells→ g) (untouched-tidy g)
 
-    played : Played g hit
-    played = run-played g (untouched g) first (untouched-played g) runs
+    played : Tidy g hit
+    played = run-tidy g (untouched g) first (untouched-tidy g) runs
 
     fewer : closedUnits g hit ≤ closedUnits g (untouched g)
-    fewer = run-falls g (untouched g) first (untouched-played g) runs
+    fewer = run-falls g (untouched g) first (untouched-tidy g) runs
 
     stands : Stands g hit (length (movesOf first)) (fold (hit-turn g) st (cells g))
     stands =
         subst (λ (m : ℕ). Stands g hit m (fold (hit-turn g) st (cells g))) (zero-add (length (movesOf first)))
-        (hit-stands g (cells g) (untouched g) 0 st (cells→ g) (untouched-played g) (begin-stands g))
+        (hit-stands g (cells g) (untouched g) 0 st (cells→ g) (untouched-tidy g) (begin-stands g))

@@ -12,12 +12,11 @@ use lib.Seq.{getD-set-other, getD-set-same}
 use Rattle.game.specs.Grid.{Grid, cells, mine, safe, size, square, zeroCell}
 use Rattle.game.specs.Lists.{bit, count, fold, has}
 use Rattle.game.specs.Openings.{firstLabel, unlabelled}
-use Rattle.game.specs.Position.{Position, closed, closedSafe, flagged, opened, premium}
+use Rattle.game.specs.Position.{Position, Tidy, closed, closedSafe, flagged, opened, premium}
 use Rattle.original.specs.Cells.{Cells, Zcell, add-premium, around, at, change, with-flagged, with-opened, with-premium}
 use Rattle.original.specs.Play.{State, add-around, flag-cell, one-click, open-cell, with-cells}
 use Rattle.game.proofs.Counts.{bit-yes, count-drop, count-ext}
 use Rattle.game.proofs.Labels.{first-label}
-use Rattle.game.proofs.Played.{Played}
 use Rattle.game.proofs.Premiums.{premium-flag, premium-open}
 use Rattle.game.proofs.Squares.{close-sym, once-cells, once-square, square→, →cells, →square}
 use Rattle.game.proofs.Truth.{T→true, and-both, and-false, and-true, and-under, eqb-no, eqb-yes, iff, no→false}
@@ -142,7 +141,7 @@ pub not-two : (x : ℕ) → eqb x 1 ≡ not (eqb x 0) → eqb x 2 ≡ false
 not-two x e = no→false (eqb x 2) (λ t. subst T (sym (subst (λ (k : ℕ). eqb k 1 ≡ not (eqb k 0)) (eqb→eq x 2 t) e)) tt)
 
 -- a safe cell that is not opened is closed
-pub not-opened : (g : Grid) (s : Position) (i : ℕ) → i < size g → T (safe g i) → Played g s → not (opened s i) ≡ closed s i
+pub not-opened : (g : Grid) (s : Position) (i : ℕ) → i < size g → T (safe g i) → Tidy g s → not (opened s i) ≡ closed s i
 not-opened g s i h t f = ap not (f .safes i h t) ∙ not-not (closed s i)
   where
     not-not : (b : Bool) → not (not b) ≡ b
@@ -151,7 +150,7 @@ not-opened g s i h t f = ap not (f .safes i h t) ∙ not-not (closed s i)
 
 -- ---- one cell is opened
 
-pub open-stands : (g : Grid) (s : Position) (n : ℕ) (st : State) (c : ℕ) → c < size g → Played g s → T (safe g c) → T (closed s c) → (T (zeroCell g c) → ⊥) → Stands g s n st
+pub open-stands : (g : Grid) (s : Position) (n : ℕ) (st : State) (c : ℕ) → c < size g → Tidy g s → T (safe g c) → T (closed s c) → (T (zeroCell g c) → ⊥) → Stands g s n st
     → Stands g (set s c 1) n (open-cell (g .rows) st c)
 unfolding open-cell closedSafe
 open-stands g s n st c h f t u z k =
@@ -203,7 +202,7 @@ open-stands g s n st c h f t u z k =
 
 -- ---- a mine is flagged
 
-pub flag-stands : (g : Grid) (s : Position) (n : ℕ) (st : State) (m : ℕ) → m < size g → Played g s → T (mine g m) → T (closed s m) → Stands g s n st
+pub flag-stands : (g : Grid) (s : Position) (n : ℕ) (st : State) (m : ℕ) → m < size g → Tidy g s → T (mine g m) → T (closed s m) → Stands g s n st
     → Stands g (set s m 2) (n + 1) (flag-cell (g .rows) st m)
 unfolding flag-cell closedSafe
 flag-stands g s n st m h f t u k = subst (λ (b : Bool). Stands g (set s m 2) (n + 1) (by b)) (sym unflagged-yet) done

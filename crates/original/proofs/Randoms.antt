@@ -12,16 +12,16 @@ use Rattle.game.specs.Draws.{Drawn, draw}
 use Rattle.game.specs.Grid.{Grid, cells, mine, size}
 use Rattle.game.specs.Lists.{Each, count}
 use Rattle.game.specs.Openings.{threeBV}
-use Rattle.game.specs.Position.{Position, closedSafe, closedUnits, untouched}
+use Rattle.game.specs.Position.{Position, Tidy, closedSafe, closedUnits, untouched}
 use Rattle.game.specs.Rounds.{Choice, Round, Searched, Step, afterStep, before, choice, movesOf, randomFrom, randomRound, randomSearch, searchFrom, stepOf, width}
 use Rattle.original.specs.Entries.{cal-rzini, prepared, rzini-loop}
 use Rattle.original.specs.Equal.{answered}
 use Rattle.original.specs.Play.{State}
 use Rattle.original.specs.Rounds.{Applied, Rolled, Stepped, apply-zini-rng, begin, dry, nothing, rng-loop, stepped, usize-max, zinialg-rng}
 use Rattle.game.proofs.Choices.{never-stuck}
-use Rattle.game.proofs.Played.{Played, untouched-played}
+use Rattle.game.proofs.Tidy.{untouched-tidy}
 use Rattle.game.proofs.Rounds.{IfSome, random-sound, rolled}
-use Rattle.game.proofs.Runs.{choice-fits, fit-takes, step-played}
+use Rattle.game.proofs.Runs.{choice-fits, fit-takes, step-tidy}
 use Rattle.game.proofs.Units.{units-at-most-cells, units-untouched}
 use Rattle.original.proofs.Drawing.{Rolls, rolls}
 use Rattle.original.proofs.Loops.{all-done, cells-left}
@@ -83,7 +83,7 @@ module _ (g : Grid) (bytes : List ℕ) (few : size g ≤ 65025) (small : Each (�
   loop-ends fuel m s n st next maxpr w e =
       loop-stops fuel s n st next maxpr w e ∙ sym (ap (told n) (random-none m s next e) ∙ ap (λ (k : ℕ). some (record { clicks = k; next = next })) (add-zero n))
 
-  loop-rolls : (fuel m : ℕ) (s : Position) (n : ℕ) (st : State) (next : ℕ) (maxpr : List ℕ) → Stands g s n st → Played g s → length maxpr ≡ size g → closedUnits g s ≤ fuel → closedUnits g s ≤ m
+  loop-rolls : (fuel m : ℕ) (s : Position) (n : ℕ) (st : State) (next : ℕ) (maxpr : List ℕ) → Stands g s n st → Tidy g s → length maxpr ≡ size g → closedUnits g s ≤ fuel → closedUnits g s ≤ m
       → loop fuel st next maxpr ≡ told n (randomFrom m g bytes s next)
   loop-rolls zero m s n st next maxpr w f r h l = loop-ends zero m s n st next maxpr w (all-done false g s f h)
   loop-rolls (suc fuel) zero s n st next maxpr w f r h l = loop-ends (suc fuel) zero s n st next maxpr w (all-done false g s f l)
@@ -114,7 +114,7 @@ module _ (g : Grid) (bytes : List ℕ) (few : size g ≤ 65025) (small : Each (�
           ]
 
       Later : Type 0
-      Later = (d : Drawn) (z : Stepped) → Stands g (afterStep g s (stepOf g s c (d .place))) (n + length (stepOf g s c (d .place) .moves)) (z .state) → Played g (afterStep g s (stepOf g s c (d .place)))
+      Later = (d : Drawn) (z : Stepped) → Stands g (afterStep g s (stepOf g s c (d .place))) (n + length (stepOf g s c (d .place) .moves)) (z .state) → Tidy g (afterStep g s (stepOf g s c (d .place)))
           → length (z .maxpr) ≡ size g → closedUnits g (afterStep g s (stepOf g s c (d .place))) ≤ fuel → closedUnits g (afterStep g s (stepOf g s c (d .place))) ≤ m
           → loop fuel (z .state) (z .next) (z .maxpr) ≡ told (n + length (stepOf g s c (d .place) .moves)) (randomFrom m g bytes (afterStep g s (stepOf g s c (d .place))) (z .next))
 
@@ -125,7 +125,7 @@ module _ (g : Grid) (bytes : List ℕ) (few : size g ≤ 65025) (small : Each (�
           let q = choice-fits false g s (d .place) (i .inside) in
           let k = fit-takes g s t f q in
           ap (by true) (p .is-stepped)
-          ∙ later d (p .done) (p .stands) (step-played g s t f q) (p .room) (omega arith) (omega arith)
+          ∙ later d (p .done) (p .stands) (step-tidy g s t f q) (p .room) (omega arith) (omega arith)
           ∙ ap (λ (x : ℕ). told (n + length (t .moves)) (randomFrom m g bytes (afterStep g s t) x)) (p .reads-on)
           ∙ told-before n t (randomFrom m g bytes (afterStep g s t) (d .next))
 
@@ -142,7 +142,7 @@ module _ (g : Grid) (bytes : List ℕ) (few : size g ≤ 65025) (small : Each (�
   unfolding zinialg-rng randomRound
   round-equal next =
       ap (λ (m : ℕ). rng-loop (g .columns * g .rows) (g .rows) false m bytes (begin (prepared g) (g .columns) (g .rows)) next (replicate (g .columns * g .rows) 0)) (mines-counted g)
-      ∙ loop-rolls (g .columns * g .rows) (threeBV g) (untouched g) 0 (begin (prepared g) (g .columns) (g .rows)) next (replicate (g .columns * g .rows) 0) (begin-stands g) (untouched-played g)
+      ∙ loop-rolls (g .columns * g .rows) (threeBV g) (untouched g) 0 (begin (prepared g) (g .columns) (g .rows)) next (replicate (g .columns * g .rows) 0) (begin-stands g) (untouched-tidy g)
       (length-replicate (g .columns * g .rows) 0 ∙ mul-comm (g .columns) (g .rows)) (enough-turns g) (omega (arith, units-untouched g))
 
   -- ---- rounds one after another

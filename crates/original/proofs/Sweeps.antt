@@ -15,7 +15,7 @@ use Rattle.game.specs.Grid.{Grid, cells, mine, safe, size, square, zeroCell}
 use Rattle.game.specs.Lists.{bit, count, fold, has, range}
 use Rattle.game.specs.Moves.{reveal, sweep}
 use Rattle.game.specs.Openings.{firstLabel, holds, joinedTo, labels, openings, places, secondLabel}
-use Rattle.game.specs.Position.{Position, closed, closedSafe, flagged, opened, premium}
+use Rattle.game.specs.Position.{Position, Tidy, closed, closedSafe, flagged, opened, premium}
 use Rattle.original.specs.Cells.{Zcell, add-premium}
 use Rattle.original.specs.Play.{State, open-cell, reveal-cell, reveal-one, with-cells}
 use Rattle.game.proofs.Counts.{Once, count-ext, count-split}
@@ -23,7 +23,7 @@ use Rattle.game.proofs.Labels.{Seated, at-most-two, first-seat, labels-range, s
 use Rattle.game.proofs.Members.{first-of, has-cases, has-head, has-tail, rest-of}
 use Rattle.game.proofs.Openings.{covered, good}
 use Rattle.game.proofs.Owners.{same-holds}
-use Rattle.game.proofs.Played.{Played, played-even}
+use Rattle.game.proofs.Tidy.{tidy-even}
 use Rattle.game.proofs.Premiums.{premium-sweep, reveal-sweep}
 use Rattle.game.proofs.Reveal.{Revealed, getD-sweep, mine-off, opens, revealed, stays, sweeps}
 use Rattle.game.proofs.Squares.{cells→, once-cells, →cells}
@@ -244,7 +244,7 @@ module _ (g : Grid) (o : ℕ) (some-label : 1 ≤ o) (fl : ℕ → Bool) where
 
 -- ---- a whole opening is swept
 
-sweep-stands : (g : Grid) (s : Position) (n : ℕ) (st : State) (c : ℕ) → Played g s → Zero g c → T (closed s c) → Stands g s n st
+sweep-stands : (g : Grid) (s : Position) (n : ℕ) (st : State) (c : ℕ) → Tidy g s → Zero g c → T (closed s c) → Stands g s n st
     → Stands g (sweep g s c) n (fold (reveal-one (g .rows) (firstLabel g c)) st (cells g))
 unfolding closedSafe
 sweep-stands g s n st c f z u k =
@@ -299,7 +299,7 @@ sweep-stands g s n st c f z u k =
         ∙ one (held j) (closed s j) (k .kept j)
         ∙ shift (held j) (held j && closed s j) (k .kept j)
         ∙ ap (λ (p : ℤ). p -ℤ pos (bit (held j)) +ℤ pos (bit (held j && closed s j))) (k .exact j h t)
-        ∙ sym (premium-sweep g s c z u j (f .long) (played-even g s f) h)
+        ∙ sym (premium-sweep g s c z u j (f .long) (tidy-even g s f) h)
         ∙ ap (λ (p : Position). premium g p j) (reveal-sweep g s c z u)
       where
         one : (b d : Bool) (p : ℤ) → cond b (cond (not d) p (p +ℤ pos 1) +ℤ negsuc 0) p ≡ cond b (cond (b && d) (p +ℤ pos 1) p +ℤ negsuc 0) (cond (b && d) (p +ℤ pos 1) p)
@@ -328,7 +328,7 @@ sweep-stands g s n st c f z u k =
 -- ---- reveal
 
 -- reveal at a cell that is no unflagged mine does what L does
-pub reveal-stands : (g : Grid) (s : Position) (n : ℕ) (st : State) (c : ℕ) → c < size g → Played g s → (T (mine g c) → T (flagged s c)) → Stands g s n st
+pub reveal-stands : (g : Grid) (s : Position) (n : ℕ) (st : State) (c : ℕ) → c < size g → Tidy g s → (T (mine g c) → T (flagged s c)) → Stands g s n st
     → Stands g (reveal g s c) n (reveal-cell (g .rows) st c)
 unfolding reveal-cell
 reveal-stands g s n st c h f m k =

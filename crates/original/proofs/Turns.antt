@@ -15,14 +15,14 @@ use Rattle.game.specs.Grid.{Grid, mine, safe, size, square}
 use Rattle.game.specs.Lists.{bit, fold, has, keep}
 use Rattle.game.specs.Moves.{after, flag, left, play, reveal}
 use Rattle.game.specs.Openings.{holds, joinedTo}
-use Rattle.game.specs.Position.{Position, closed, cost, flagged, opened, unflagged}
+use Rattle.game.specs.Position.{Position, Tidy, closed, cost, flagged, opened, unflagged}
 use Rattle.game.specs.Rounds.{movesAt}
 use Rattle.original.specs.Cells.{Zcell, around, at, change, with-flagged}
 use Rattle.original.specs.Play.{State, add-around, click, flag-cell, flagaround, one-click, reveal-cell, with-cells}
 use Rattle.original.specs.Rounds.{play-at}
 use Rattle.game.proofs.Counts.{Once, length-keep}
 use Rattle.game.proofs.Members.{first-of, has-cases, keep-ext, rest-of}
-use Rattle.game.proofs.Played.{Played, flag-played, reveal-played}
+use Rattle.game.proofs.Tidy.{flag-tidy, reveal-tidy}
 use Rattle.game.proofs.Reveal.{Revealed, getD-sweep, mine-off, opens, revealed, stays, sweeps}
 use Rattle.game.proofs.Runs.{moves-cost}
 use Rattle.game.proofs.Squares.{once-square, square→}
@@ -38,7 +38,7 @@ clicked : (g : Grid) (s : Position) (n : ℕ) (st : State) → Stands g s n st �
 clicked g s n st k =
     record { kept = k .kept; board = k .board; exact = k .exact; clicks = ap (λ (x : ℕ). x + 1) (k .clicks); left = k .left }
 
-pub click-stands : (g : Grid) (s : Position) (n : ℕ) (st : State) (c : ℕ) → c < size g → T (safe g c) → Played g s → Stands g s n st
+pub click-stands : (g : Grid) (s : Position) (n : ℕ) (st : State) (c : ℕ) → c < size g → T (safe g c) → Tidy g s → Stands g s n st
     → Stands g (reveal g s c) (n + 1) (click (g .rows) st c)
 click-stands g s n st c h t f k =
     clicked g (reveal g s c) n (reveal-cell (g .rows) st c) (reveal-stands g s n st c h f (λ m. absurd (T-not (mine g c) t m)) k)
@@ -63,7 +63,7 @@ flag-turn g t i = elim (at (t .cells) i .mine) [ true ↦ flag-cell (g .rows) t 
 -- flags on ys stand for what the loop over xs has come to
 record Flags (g : Grid) (s : Position) (n : ℕ) (xs ys : List ℕ) (done : State) : Type 0 where
   stands : Stands g (after g s (map flag ys)) (n + length ys) done
-  played : Played g (after g s (map flag ys))
+  played : Tidy g (after g s (map flag ys))
   stay : (j : ℕ) → j < size g → T (flagged s j) → T (flagged (after g s (map flag ys)) j)
   all : (j : ℕ) → T (has j xs) → T (mine g j) → T (flagged (after g s (map flag ys)) j)
 
@@ -88,7 +88,7 @@ turn-stays g s n st x h k e = ap by (k .board .reads x h) ∙ go (mine g x) (fla
     go false l d = refl
 
 -- an unflagged mine is flagged
-turn-flags : (g : Grid) (s : Position) (n : ℕ) (st : State) (x : ℕ) → x < size g → Played g s → Stands g s n st → T (unflagged g s x) → Stands g (set s x 2) (n + 1) (flag-turn g st x)
+turn-flags : (g : Grid) (s : Position) (n : ℕ) (st : State) (x : ℕ) → x < size g → Tidy g s → Stands g s n st → T (unflagged g s x) → Stands g (set s x 2) (n + 1) (flag-turn g st x)
 turn-flags g s n st x h f k t =
     subst (λ (b : Bool). Stands g (set s x 2) (n + 1) (by b)) (sym (ap (λ (z : Zcell). z .mine) (k .board .reads x h) ∙ T→true (mine g x) m))
     (flag-stands g s n st x h f m (back (flagged s x) (closed s x) (f .mines x h m) (and-right (mine g x) (not (flagged s x)) t)) k)
@@ -103,14 +103,14 @@ turn-flags g s n st x h f k t =
     back a true e u = tt
     back a false e u = subst (λ (c : Bool). T (not c)) e u
 
-flags-all : (g : Grid) (xs : List ℕ) (s : Position) (n : ℕ) (st : State) → Once xs → ((x : ℕ) → T (has x xs) → x < size g) → Played g s → Stands g s n st
+flags-all : (g : Grid) (xs : List ℕ) (s : Position) (n : ℕ) (st : State) → Once xs → ((x : ℕ) → T (has x xs) → x < size g) → Tidy g s → Stands g s n st
     → Flags g s n xs (keep (unflagged g s) xs) (fold (flag-turn g) st xs)
 unfolding play
 flags-all g [] s n st o h f k =
     record { stands = subst (λ (x : ℕ). Stands g s x st) (sym (add-zero n)) k; played = f; stay = λ j hj t. t; all = λ j t. absurd t }
 flags-all g (x ∷ xs) s n st o h f k =
     go (unflagged g s x) refl (λ e. flags-all g xs s n (flag-turn g st x) (o .1) (rest-of x xs h) f (subst (Stands g s n) (sym (turn-stays g s n st x hx k e)) k))
-    (λ t. flags-all g xs (set s x 2) (n + 1) (flag-turn g st x) (o .1) (rest-of x xs h) (flag-played g s x hx (and-left (mine g x) (not (flagged s x)) t) f) (turn-flags g s n st x hx f k t))
+    (λ t. flags-all g xs (set s x 2) (n + 1) (flag-turn g st x) (o .1) (rest-of x xs h) (flag-tidy g s x hx (and-left (mine g x) (not (flagged s x)) t) f) (turn-flags g s n st x hx f k t))
   where
     hx : x < size g
     hx = first-of x xs h
@@ -160,17 +160,17 @@ flags-all g (x ∷ xs) s n st o h f k =
 
 -- ---- chord
 
-reveal-all : (g : Grid) (xs : List ℕ) (s : Position) (n : ℕ) (st : State) → ((x : ℕ) → T (has x xs) → x < size g) → ((x : ℕ) → T (has x xs) → T (mine g x) → T (flagged s x)) → Played g s
+reveal-all : (g : Grid) (xs : List ℕ) (s : Position) (n : ℕ) (st : State) → ((x : ℕ) → T (has x xs) → x < size g) → ((x : ℕ) → T (has x xs) → T (mine g x) → T (flagged s x)) → Tidy g s
     → Stands g s n st → Stands g (fold (reveal g) s xs) n (fold (reveal-cell (g .rows)) st xs)
 reveal-all g [] s n st h m f k = k
 reveal-all g (x ∷ xs) s n st h m f k =
     reveal-all g xs (reveal g s x) n (reveal-cell (g .rows) st x) (rest-of x xs h)
     (λ y u v. subst T (sym (mine-stays g s x y (first-of x xs h) (rest-of x xs h y u) v)) (rest-of x xs m y u v))
-    (reveal-played g s x (first-of x xs h) f) (reveal-stands g s n st x (first-of x xs h) f (first-of x xs m) k)
+    (reveal-tidy g s x (first-of x xs h) f) (reveal-stands g s n st x (first-of x xs h) f (first-of x xs m) k)
 
 -- ---- the moves at a cell
 
-pub turn-stands : (g : Grid) (s : Position) (n : ℕ) (st : State) (i : ℕ) → i < size g → T (safe g i) → Played g s → Stands g s n st
+pub turn-stands : (g : Grid) (s : Position) (n : ℕ) (st : State) (i : ℕ) → i < size g → T (safe g i) → Tidy g s → Stands g s n st
     → Stands g (after g s (movesAt g s i)) (n + length (movesAt g s i)) (play-at (g .rows) st i)
 unfolding play cost
 turn-stands g s n st i h t f k =
@@ -206,8 +206,8 @@ turn-stands g s n st i h t f k =
     closed-yet : not (at (st .cells) i .opened) ≡ closed s i
     closed-yet = ap (λ (z : Zcell). not (z .opened)) (k .board .reads i h) ∙ not-opened g s i h t f
 
-    first : (b : Bool) → Stands g (after g s (cond b (left i ∷ []) [])) (n + bit b) (by b) × Played g (after g s (cond b (left i ∷ []) []))
-    first true = (click-stands g s n st i h t f k, reveal-played g s i h f)
+    first : (b : Bool) → Stands g (after g s (cond b (left i ∷ []) [])) (n + bit b) (by b) × Tidy g (after g s (cond b (left i ∷ []) []))
+    first true = (click-stands g s n st i h t f k, reveal-tidy g s i h f)
     first false = (subst (λ (x : ℕ). Stands g s x st) (sym (add-zero n)) k, f)
 
     same-flags : (b : Bool) (j : ℕ) → j < size g → T (mine g j) → flagged (after g s (cond b (left i ∷ []) [])) j ≡ flagged s j

@@ -13,10 +13,10 @@ use Rattle.game.specs.Grid.{Grid, cells, mine, safe, size, square, zeroCell}
 use Rattle.game.specs.Lists.{bit, count, fold, has}
 use Rattle.game.specs.Moves.{reveal}
 use Rattle.game.specs.Openings.{firstLabel, holds, joinedTo, unlabelled}
-use Rattle.game.specs.Position.{Position, closed, closedSafe, cost, gain, opened}
+use Rattle.game.specs.Position.{Position, Tidy, closed, closedSafe, cost, gain, opened}
 use Rattle.game.proofs.Counts.{bit-yes, count-drop, count-ext, count-split}
 use Rattle.game.proofs.Labels.{first-label}
-use Rattle.game.proofs.Played.{Played, played-even}
+use Rattle.game.proofs.Tidy.{tidy-even}
 use Rattle.game.proofs.Premiums.{flag-cost, flag-gain, open-cost, open-gain, reveal-sweep, sweep-cost, sweep-gain}
 use Rattle.game.proofs.Reveal.{getD-sweep, mine-off}
 use Rattle.game.proofs.Squares.{cells→, close-sym, in-own-square, once-cells, once-square, square→, →cells, →square}
@@ -43,7 +43,7 @@ at-again C i c d x = go (eqb x i)
     go true = refl
     go false = refl
 
-module _ (g : Grid) (s : Position) (old : List ℤ) (i : ℕ) (room : 5 * size g ≤ length old) (inside : i < size g) (f : Played g s) where
+module _ (g : Grid) (s : Position) (old : List ℤ) (i : ℕ) (room : 5 * size g ≤ length old) (inside : i < size g) (f : Tidy g s) where
   -- a cell that keeps its state
   stays : (t : Position) (x : ℕ) → getD t x 0 ≡ getD s x 0 → restated (getD t x 0) (heldCell g s x) ≡ heldCell g s x
   stays t x e = ap (λ (k : ℕ). restated k (heldCell g s x)) e
@@ -247,7 +247,7 @@ module _ (g : Grid) (s : Position) (old : List ℤ) (i : ℕ) (room : 5 * size g
             → shiftCell q p (restated k (heldCell g s x)) ≡ heldCell g (reveal g s i) x
         by p q r u l m k e =
             ap (λ (v : ℕ). shiftCell q p (restated v (heldCell g s x))) (sym e)
-            ∙ moved g s (reveal g s i) x p q h l m (λ t. omega (arith, sweep-gain g s i z shut x (f .long) (played-even g s f) h)) (λ t. omega (arith, sweep-cost g s i z shut x h))
+            ∙ moved g s (reveal g s i) x p q h l m (λ t. omega (arith, sweep-gain g s i z shut x (f .long) (tidy-even g s f) h)) (λ t. omega (arith, sweep-cost g s i z shut x h))
 
         down : raised g s x - 1 ≡ raised g s x + 0 - 1
         down = omega arith

@@ -11,9 +11,9 @@ use Rattle.game.specs.Grid.{Grid, mine, number, safe, size, zeroCell}
 use Rattle.game.specs.Lists.{fold}
 use Rattle.game.specs.Moves.{flag, legal, play, reveal}
 use Rattle.game.specs.Openings.{firstLabel}
-use Rattle.game.specs.Position.{Position, closed, closedSafe}
+use Rattle.game.specs.Position.{Position, Tidy, closed, closedSafe}
 use Rattle.game.proofs.Legal.{reached-after, reached-reveal}
-use Rattle.game.proofs.Played.{Played, reached-played}
+use Rattle.game.proofs.Tidy.{reached-tidy}
 use Rattle.game.proofs.Reveal.{Revealed, opens, revealed, stays, sweeps}
 use Rattle.game.proofs.Truth.{T→false, and-both, eqb-yes, iff}
 use Rattle.area.specs.Numbers.{putAt}
@@ -54,8 +54,8 @@ module _ (rows columns : ℕ) (g : Grid) (s : Position) (old w : List ℤ) (i : 
   pub inside : i < size g
   inside = omega (arith, size-is)
 
-  pub played : Played g s
-  played = reached-played g s (st .reached)
+  pub played : Tidy g s
+  played = reached-tidy g s (st .reached)
 
   -- ---- what is read
 

@@ -18,14 +18,14 @@ use Rattle.game.specs.Draws.{draw}
 use Rattle.game.specs.Grid.{Grid}
 use Rattle.game.specs.Moves.{Move, after, word}
 use Rattle.game.specs.Openings.{threeBV}
-use Rattle.game.specs.Position.{Position, closedSafe, closedUnits, untouched}
+use Rattle.game.specs.Position.{Position, Tidy, closedSafe, closedUnits, untouched}
 use Rattle.game.specs.Rounds.{Round, Step, afterStep, before, choice, movesOf, randomFrom, randomRound, stepOf, width}
 use Rattle.random.specs.Promises.{Rolling, Stepping, Went}
 use Rattle.moves.specs.Promises.{Made}
 use Rattle.rounds.specs.Promises.{Fresh}
 use Rattle.area.proofs.Cells.{cells-few}
 use Rattle.game.proofs.Choices.{never-stuck}
-use Rattle.game.proofs.Played.{Played, reached-played}
+use Rattle.game.proofs.Tidy.{reached-tidy}
 use Rattle.game.proofs.Rounds.{IfSome, Rolled, rolled}
 use Rattle.game.proofs.Runs.{Fits, choice-fits, fit-takes, moves-append}
 use Rattle.game.proofs.Units.{after-append, units-at-most-cells, units-untouched}
@@ -151,8 +151,8 @@ module _ (rows columns : ℕ) (g : Grid) (old : List ℤ) (bytes : List ℕ) (sa
   module _ (w′ : List ℤ) (list′ : List ℕ) (r : Stepped) (h : 0 < u .closed)
       (q : (s : Position) → Stands rows columns g s old v → 1 ≤ closedSafe g s → u .closed ≡ closedSafe g s
       → Stepping rows columns g s old (draw bytes (u .next) (width (choice false g s))) l u v w′ list′ r) where
-    played : Played g here
-    played = reached-played g here (o .made .stands .reached)
+    played : Tidy g here
+    played = reached-tidy g here (o .made .stands .reached)
 
     some-closed : 1 ≤ closedSafe g here
     some-closed = omega (arith, o .made .left-closed)

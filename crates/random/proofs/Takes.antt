@@ -23,7 +23,7 @@ use Rattle.game.specs.Draws.{draw}
 use Rattle.game.specs.Grid.{Grid, safe, zeroCell}
 use Rattle.game.specs.Lists.{count, has, keep, range}
 use Rattle.game.specs.Moves.{Move, left}
-use Rattle.game.specs.Position.{Position, closed, closedSafe}
+use Rattle.game.specs.Position.{Position, Tidy, closed, closedSafe}
 use Rattle.game.specs.Rounds.{Choice, choice, chords, clicks, movesAt, stepOf, topCells, unitCells, width}
 use Rattle.random.specs.Promises.{Stepping, takenMoves}
 use Rattle.moves.specs.Promises.{Made}
@@ -32,7 +32,6 @@ use Rattle.game.proofs.Choices.{Top, looked→, never-stuck, premium-pays, top�
 use Rattle.game.proofs.Counts.{length-keep}
 use Rattle.game.proofs.Legal.{zero-poor}
 use Rattle.game.proofs.Members.{getD-has, has-range, keep-has}
-use Rattle.game.proofs.Played.{Played}
 use Rattle.game.proofs.Rounds.{IfSome, Rolled, rolled}
 use Rattle.game.proofs.Truth.{T→true, no→false}
 
@@ -121,7 +120,7 @@ module _ (rows columns : ℕ) (g : Grid) (s : Position) (old w : List ℤ) (top 
       subst (λ (o : Option Game.Drawn). Stepping rows columns g s old o list t w w list Dry) (sym (ap drawnOf e) ∙ drawn-so)
       (record { answer = refl; same-work = refl; same-list = refl })
 
-  pub step-went : (p k i : ℕ) (tops units : List ℕ) (w′ : List ℤ) (list′ tops′ : List ℕ) (r : State) → Played g s → 1 ≤ closedSafe g s → d ≡ Place p k → i ≡ getD (keep (candidateAt top w) (range 0 cells)) p 0
+  pub step-went : (p k i : ℕ) (tops units : List ℕ) (w′ : List ℤ) (list′ tops′ : List ℕ) (r : State) → Tidy g s → 1 ≤ closedSafe g s → d ≡ Place p k → i ≡ getD (keep (candidateAt top w) (range 0 cells)) p 0
       → Kept false w rows columns tops → UnitsKept w rows columns units units
       → (T (safe g i) → (top < 10 → T (closed s i) × (topCells false g s ≡ [])) → (10 ≤ top → T (zeroCell g i) → ⊥)
       → MadeKept false rows columns g s old (takenMoves g s top i) list w tops (record { moves = t .moves; closed = t .closed; next = k }) w′ list′ tops′ r)

@@ -13,7 +13,7 @@ use Rattle.game.specs.Lists.{all-of, bit, count}
 use Rattle.game.specs.Moves.{Move, cellOf, chord, chordable, flag, left, legal, legalRead, play, readMove}
 use Rattle.game.specs.Position.{Position, closed, closedSafe, flagged, opened, unflagged}
 use Rattle.game.proofs.Counts.{count-ext}
-use Rattle.game.proofs.Played.{legal-inside}
+use Rattle.game.proofs.Tidy.{legal-inside}
 use Rattle.game.proofs.Squares.{square→}
 use Rattle.game.proofs.Truth.{T→true, and-both, and-left, and-right, eqb-no, eqb-yes, no→false}
 use Rattle.area.specs.Stages.{Stands}

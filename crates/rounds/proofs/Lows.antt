@@ -23,7 +23,7 @@ use Rattle.choices.proofs.Passing.{first-there}
 use Rattle.marks.proofs.Held.{held-numbers}
 use Rattle.game.proofs.Choices.{never-stuck}
 use Rattle.game.proofs.Members.{getD-has, keep-has}
-use Rattle.game.proofs.Played.{reached-played}
+use Rattle.game.proofs.Tidy.{reached-tidy}
 use Rattle.game.proofs.Reveal.{Revealed, getD-sweep, opens, revealed, stays, sweeps}
 use Rattle.game.proofs.Squares.{cells→, column-lt, index-of}
 use Rattle.game.proofs.Truth.{and-both, and-left, and-right}
@@ -103,7 +103,7 @@ pub low-goes-on : (openedOnly : Bool) (rows columns : ℕ) (g : Grid) (s : Posit
     → (from ≤ columns) × NoUnitBelow w (from * rows) → (to ≤ columns) × NoUnitBelow w′ (to * rows)
 unfolding choice
 low-goes-on openedOnly rows columns g s old w w′ from to st st′ h e n =
-    let k : (to ≤ columns) × NoUnitBelow w (to * rows) = rw e (go (topCells openedOnly g s) (never-stuck openedOnly g s (reached-played g s (st .reached)) h)) in
+    let k : (to ≤ columns) × NoUnitBelow w (to * rows) = rw e (go (topCells openedOnly g s) (never-stuck openedOnly g s (reached-tidy g s (st .reached)) h)) in
     (k .0, low-stays rows columns g s old w w′ (stepOf g s (choice openedOnly g s) 0 .moves) (to * rows) st st′ (omega (arith, mul-le-mul-right rows (k .0))) (k .1))
   where
     go : (ts : List ℕ) → 1 ≤ width (elim ts as (λ _. Choice) [ [] ↦ clicks (unitCells g s) | x ∷ xs ↦ chords (x ∷ xs) ])

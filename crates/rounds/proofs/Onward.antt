@@ -9,13 +9,13 @@ use Rattle.moves.specs.declared.State.{State}
 use Rattle.area.specs.Stages.{Shape, Standing, Stands}
 use Rattle.game.specs.Grid.{Grid}
 use Rattle.game.specs.Moves.{Move, after}
-use Rattle.game.specs.Position.{Position, closedSafe, closedUnits}
+use Rattle.game.specs.Position.{Position, Tidy, closedSafe, closedUnits}
 use Rattle.game.specs.Rounds.{Step, afterStep, choice, movesOf, stepOf, stepsFrom}
 use Rattle.moves.specs.Promises.{Made}
 use Rattle.rounds.specs.Promises.{Going}
 use Rattle.area.proofs.Cells.{cells-few}
 use Rattle.game.proofs.Choices.{never-stuck}
-use Rattle.game.proofs.Played.{Played, reached-played}
+use Rattle.game.proofs.Tidy.{reached-tidy}
 use Rattle.game.proofs.Runs.{Fits, choice-fits, fit-takes}
 use Rattle.game.proofs.Units.{after-append, units-at-most-cells}
 use Rattle.game.proofs.Falls.{step-falls, step-pays, units-most}
@@ -49,13 +49,13 @@ module _ (openedOnly : Bool) (rows columns : ℕ) (w : List ℤ) (list : List �
   -- what a step from here is
   record Fitted (g : Grid) (s : Position) (old : List ℤ) : Type 0 where
     some-closed : 1 ≤ closedSafe g s
-    played : Played g s
+    played : Tidy g s
     fits : Fits g s (stepOf g s (choice openedOnly g s) 0)
     made : Made rows columns g s old (stepOf g s (choice openedOnly g s) 0 .moves) list t w′ list′ t′
 
   fitted : (g : Grid) (s : Position) (old : List ℤ) → Stands rows columns g s old w → t .closed ≡ closedSafe g s → Fitted g s old
   fitted g s old st e =
-      let f = reached-played g s (st .reached) in
+      let f = reached-tidy g s (st .reached) in
       let k : 1 ≤ closedSafe g s = omega arith in
       record { some-closed = k; played = f; fits = choice-fits openedOnly g s 0 (never-stuck openedOnly g s f k); made = q g s old st k e }
 

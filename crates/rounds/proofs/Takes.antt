@@ -14,12 +14,11 @@ use Rattle.choices.specs.Picks.{foundFirst}
 use Rattle.game.specs.Grid.{Grid, columnOf, safe, zeroCell}
 use Rattle.game.specs.Lists.{has}
 use Rattle.game.specs.Moves.{Move, left}
-use Rattle.game.specs.Position.{Position, closed, closedSafe}
+use Rattle.game.specs.Position.{Position, Tidy, closed, closedSafe}
 use Rattle.game.specs.Rounds.{Choice, choice, chords, clicks, movesAt, stepOf, topCells, unitCells, width}
 use Rattle.game.proofs.Choices.{looked→, never-stuck, premium-pays, top→, unit→}
 use Rattle.game.proofs.Legal.{zero-poor}
 use Rattle.game.proofs.Members.{has-head}
-use Rattle.game.proofs.Played.{Played}
 use Rattle.rounds.specs.Promises.{columnAfter}
 
 -- what was found is the first
@@ -88,7 +87,7 @@ module _ (rows columns : ℕ) (w : List ℤ) (r : Found) where
           go [] h m = absurd (h .0)
           go (x ∷ xs) h m = rw (h .1) m
 
-      pub click-taken : Played g s → 1 ≤ closedSafe g s → r ≡ Nothing
+      pub click-taken : Tidy g s → 1 ≤ closedSafe g s → r ≡ Nothing
           → (1 ≤ length (unitCells g s) → topCells openedOnly g s ≡ [] → P (left (getD (unitCells g s) 0 0) ∷ []) (columnOf g (getD (unitCells g s) 0 0)))
           → P (stepOf g s (choice openedOnly g s) 0 .moves) (columnAfter g (choice openedOnly g s) from)
       click-taken p h e q =

@@ -4,7 +4,7 @@ use native.Mathlib.Omega.{arith}
 use mathlib.Core.Path.{_≡_, refl}
 use mathlib.Core.List.{List}
 use Rattle.game.specs.Moves.{Move}
-use Rattle.game.proofs.Played.{reached-played}
+use Rattle.game.proofs.Tidy.{reached-tidy}
 use Rattle.rounds.specs.Promises.{MadeKept}
 use Rattle.rounds.proofs.Columns.{step-kept}
 use Rattle.rounds.proofs.Takes.{click-taken, top-inside, top-taken}
@@ -77,7 +77,7 @@ returns-2 c =
     (click-taken (a .rows) (a .columns) (a .work .now) (m .best .result) g s
     (λ (ms : List Move) (column : ℕ). MadeKept (a .opened-only) (a .rows) (a .columns) g s old ms (a .list .now) (a .work .now) tops (a .state) (y .last .0) (y .last .1 .1 .1 .0) (y .last .1 .1 .1 .1 .0) (y .result .state)
     × (y .result .from ≡ column))
-    (a .opened-only) (a .from) (m .best .ensures .1 g s old st) (reached-played g s (st .reached)) n (k .enum-told .given .1) (λ l q. y .ensures (a .opened-only) g s old st l q e))
+    (a .opened-only) (a .from) (m .best .ensures .1 g s old st) (reached-tidy g s (st .reached)) n (k .enum-told .given .1) (λ l q. y .ensures (a .opened-only) g s old st l q e))
     (m .best .ensures .0 .1)
 
 pub step-spec : {M : Type 1} → statement M

@@ -1,4 +1,4 @@
--- What holds of every position that legal play comes to: each move keeps it. Assumes nothing.
+-- Positions that legal play comes to are tidy: each move keeps it. Assumes nothing.
 use Prim.Native.Nat.{ℕ, _<_}
 use native.Mathlib.Omega.{arith}
 use native.Mathlib.Decide.{ℕ-discrete}
@@ -13,7 +13,7 @@ use Rattle.game.specs.Grid.{Grid, mine, safe, size, square}
 use Rattle.game.specs.Lists.{fold, has}
 use Rattle.game.specs.Moves.{AllLegal, Move, Reached, after, cellOf, chord, chordable, flag, left, legal, play, reveal, sweep}
 use Rattle.game.specs.Openings.{Joined, holds, joinedTo}
-use Rattle.game.specs.Position.{Position, closed, flagged, opened, untouched}
+use Rattle.game.specs.Position.{Position, Tidy, closed, flagged, opened, untouched}
 use Rattle.game.proofs.Chains.{joined-first, joined-last, joined-sym, joined-trans}
 use Rattle.game.proofs.Members.{first-of, rest-of, some-yes}
 use Rattle.game.proofs.Openings.{→joinedTo}
@@ -23,27 +23,16 @@ use Rattle.game.proofs.Squares.{Close, close-sym, self-close, square→
 use Rattle.game.proofs.Truth.{and-both, and-left, and-right, no→false}
 use Rattle.game.proofs.Zeros.{Zero}
 
-pub record Played (g : Grid) (s : Position) : Type 0 where
-  pub long : length s ≡ size g
-  -- 0-cells that are joined are closed together
-  pub even : (a b : ℕ) → Joined g a b → closed s a ≡ closed s b
-  -- what stands around an opened 0-cell is open
-  pub around : (z j : ℕ) → Zero g z → j < size g → Close g z j → T (closed s j) → T (closed s z)
-  -- a safe cell is closed or opened
-  pub safes : (j : ℕ) → j < size g → T (safe g j) → opened s j ≡ not (closed s j)
-  -- a mine is closed or flagged
-  pub mines : (j : ℕ) → j < size g → T (mine g j) → flagged s j ≡ not (closed s j)
-
-pub played-even : (g : Grid) (s : Position) → Played g s → Even g s
+pub tidy-even : (g : Grid) (s : Position) → Tidy g s → Even g s
 unfolding Even
-played-even g s f = f .even
+tidy-even g s f = f .even
 
-pub untouched-played : (g : Grid) → Played g (untouched g)
-untouched-played g =
+pub untouched-tidy : (g : Grid) → Tidy g (untouched g)
+untouched-tidy g =
     record {
       long = length-replicate (size g) 0;
       even = λ a b j. ap (λ (k : ℕ). eqb k 0) (zero-at a (joined-first g a b j .inside) ∙ sym (zero-at b (joined-last g a b j .inside)));
-      around = λ z j zz h c t. rw (zero-at z (zz .inside)) tt;
+      around = λ z j h n c t. rw (zero-at z (square→ g j z h c .0)) tt;
       safes = λ j h t. ap (λ (k : ℕ). eqb k 1) (zero-at j h) ∙ sym (ap (λ (k : ℕ). not (eqb k 0)) (zero-at j h));
       mines = λ j h t. ap (λ (k : ℕ). eqb k 2) (zero-at j h) ∙ sym (ap (λ (k : ℕ). not (eqb k 0)) (zero-at j h));
     }
@@ -53,16 +42,16 @@ untouched-played g =
 
 -- ---- one cell that is no 0-cell gets a state that is not closed
 
-set-played : (g : Grid) (s : Position) (c v : ℕ) → c < size g → Played g s → (Zero g c → ⊥) → eqb v 0 ≡ false
-    → (T (safe g c) → eqb v 1 ≡ true) → (T (mine g c) → eqb v 2 ≡ true) → Played g (set s c v)
-set-played g s c v h f n e p q =
+set-tidy : (g : Grid) (s : Position) (c v : ℕ) → c < size g → Tidy g s → (Zero g c → ⊥) → eqb v 0 ≡ false
+    → (T (safe g c) → eqb v 1 ≡ true) → (T (mine g c) → eqb v 2 ≡ true) → Tidy g (set s c v)
+set-tidy g s c v h f n e p q =
     record {
       long = length-set s c v ∙ f .long;
       even = λ a b j. other a (apart a (joined-first g a b j)) ∙ f .even a b j ∙ sym (other b (apart b (joined-last g a b j)));
-      around = λ z j zz hj cl t.
+      around = λ z j hj nz m t.
           elim (ℕ-discrete j c) [
             | yes k ↦ absurd (subst T (ap (closed (set s c v)) k ∙ here) t)
-            | no k ↦ subst T (sym (other z (apart z zz))) (f .around z j zz hj cl (subst T (other j k) t))
+            | no k ↦ subst T (sym (other z (apart z (record { inside = square→ g j z hj m .0; none = nz })))) (f .around z j hj nz m (subst T (other j k) t))
           ];
       safes = λ j hj t. state j 1 (λ k. p (subst (λ (x : ℕ). T (safe g x)) k t)) (f .safes j hj t);
       mines = λ j hj t. state j 2 (λ k. q (subst (λ (x : ℕ). T (mine g x)) k t)) (f .mines j hj t);
@@ -93,17 +82,19 @@ joined-held : (g : Grid) (c a x : ℕ) → x < size g → Joined g c a → Close
 joined-held g c a x h j cl =
     some-yes (λ k. has k (joinedTo g c)) a (square g x) (→square g x a h (joined-last g c a j .inside) (close-sym g a x cl)) (→joinedTo g c a j)
 
-sweep-played : (g : Grid) (s : Position) (c : ℕ) → Zero g c → Played g s → Played g (sweep g s c)
-sweep-played g s c z f =
+sweep-tidy : (g : Grid) (s : Position) (c : ℕ) → Zero g c → Tidy g s → Tidy g (sweep g s c)
+sweep-tidy g s c z f =
     record {
       long = length-sweep g s c;
       even = λ a b j. shut a (joined-first g a b j .inside) ∙ both (held a) (held b) (closed s a) (closed s b)
           (λ u. joined-held g c b b (joined-last g a b j .inside) (joined-trans g c a b (held-joined g c a z (joined-first g a b j) u) j) (self-close g b))
           (λ u. joined-held g c a a (joined-first g a b j .inside) (joined-trans g c b a (held-joined g c b z (joined-last g a b j) u) (joined-sym g a b j)) (self-close g a))
           (f .even a b j) ∙ sym (shut b (joined-last g a b j .inside));
-      around = λ y j zy hj cl u.
+      around = λ y j hj ny m u.
           let v = subst T (shut j hj) u in
-          let w = f .around y j zy hj cl (and-right (not (held j)) (closed s j) v) in
+          let zy : Zero g y = record { inside = square→ g j y hj m .0; none = ny } in
+          let cl = close-sym g j y (square→ g j y hj m .1) in
+          let w = f .around y j hj ny m (and-right (not (held j)) (closed s j) v) in
           subst T (sym (shut y (zy .inside))) (and-both (not (held y)) (closed s y)
           (not-T (held y) (λ k. T-not (held j) (and-left (not (held j)) (closed s j) v) (joined-held g c y j hj (held-joined g c y z zy k) cl))) w);
       safes = λ j hj u. ap (λ (x : ℕ). eqb x 1) (getD-sweep g s c j hj) ∙ one (held j) (getD s j 0) (f .safes j hj u)
@@ -135,21 +126,21 @@ sweep-played g s c z f =
 
 -- ---- the moves
 
-pub reveal-played : (g : Grid) (s : Position) (c : ℕ) → c < size g → Played g s → Played g (reveal g s c)
-reveal-played g s c h f = go (reveal g s c) (revealed g s c)
+pub reveal-tidy : (g : Grid) (s : Position) (c : ℕ) → c < size g → Tidy g s → Tidy g (reveal g s c)
+reveal-tidy g s c h f = go (reveal g s c) (revealed g s c)
   where
-    go : (t : Position) → Revealed g s c t → Played g t
+    go : (t : Position) → Revealed g s c t → Tidy g t
     go t (stays n) = f
-    go t (opens a b n) = set-played g s c 1 h f (λ z. n (z .none)) refl (λ u. refl) (λ u. absurd (T-not (mine g c) a u))
-    go t (sweeps a b z) = sweep-played g s c (record { inside = h; none = z }) f
+    go t (opens a b n) = set-tidy g s c 1 h f (λ z. n (z .none)) refl (λ u. refl) (λ u. absurd (T-not (mine g c) a u))
+    go t (sweeps a b z) = sweep-tidy g s c (record { inside = h; none = z }) f
 
-pub fold-played : (g : Grid) (xs : List ℕ) (s : Position) → ((x : ℕ) → T (has x xs) → x < size g) → Played g s → Played g (fold (reveal g) s xs)
-fold-played g [] s h f = f
-fold-played g (x ∷ xs) s h f = fold-played g xs (reveal g s x) (rest-of x xs h) (reveal-played g s x (first-of x xs h) f)
+pub fold-tidy : (g : Grid) (xs : List ℕ) (s : Position) → ((x : ℕ) → T (has x xs) → x < size g) → Tidy g s → Tidy g (fold (reveal g) s xs)
+fold-tidy g [] s h f = f
+fold-tidy g (x ∷ xs) s h f = fold-tidy g xs (reveal g s x) (rest-of x xs h) (reveal-tidy g s x (first-of x xs h) f)
 
-pub flag-played : (g : Grid) (s : Position) (m : ℕ) → m < size g → T (mine g m) → Played g s → Played g (set s m 2)
-flag-played g s m h t f =
-    set-played g s m 2 h f (λ z. T-not (mine g m) (zero-safe g m z) t) refl (λ u. absurd (T-not (mine g m) u t)) (λ u. refl)
+pub flag-tidy : (g : Grid) (s : Position) (m : ℕ) → m < size g → T (mine g m) → Tidy g s → Tidy g (set s m 2)
+flag-tidy g s m h t f =
+    set-tidy g s m 2 h f (λ z. T-not (mine g m) (zero-safe g m z) t) refl (λ u. absurd (T-not (mine g m) u t)) (λ u. refl)
 
 -- a legal move is on a cell of the grid
 pub legal-inside : (g : Grid) (s : Position) (m : Move) → T (legal g s m) → cellOf m < size g
@@ -158,17 +149,17 @@ legal-inside g s (left i) t = ltb→lt i (size g) (and-left (ltb i (size g)) (sa
 legal-inside g s (flag i) t = ltb→lt i (size g) (and-left (ltb i (size g)) (mine g i) (and-left (ltb i (size g) && mine g i) (closed s i) t))
 legal-inside g s (chord i) t = ltb→lt i (size g) (and-left (ltb i (size g)) (chordable g s i) t)
 
-pub play-played : (g : Grid) (s : Position) (m : Move) → T (legal g s m) → Played g s → Played g (play g s m)
+pub play-tidy : (g : Grid) (s : Position) (m : Move) → T (legal g s m) → Tidy g s → Tidy g (play g s m)
 unfolding play legal
-play-played g s (left i) t f = reveal-played g s i (legal-inside g s (left i) t) f
-play-played g s (flag i) t f =
-    flag-played g s i (legal-inside g s (flag i) t) (and-right (ltb i (size g)) (mine g i) (and-left (ltb i (size g) && mine g i) (closed s i) t)) f
-play-played g s (chord i) t f = fold-played g (square g i) s (λ x u. square→ g i x (legal-inside g s (chord i) t) u .0) f
+play-tidy g s (left i) t f = reveal-tidy g s i (legal-inside g s (left i) t) f
+play-tidy g s (flag i) t f =
+    flag-tidy g s i (legal-inside g s (flag i) t) (and-right (ltb i (size g)) (mine g i) (and-left (ltb i (size g) && mine g i) (closed s i) t)) f
+play-tidy g s (chord i) t f = fold-tidy g (square g i) s (λ x u. square→ g i x (legal-inside g s (chord i) t) u .0) f
 
-pub after-played : (g : Grid) (ms : List Move) (s : Position) → AllLegal g s ms → Played g s → Played g (after g s ms)
-after-played g [] s h f = f
-after-played g (m ∷ ms) s h f = after-played g ms (play g s m) (h .1) (play-played g s m (h .0) f)
+pub after-tidy : (g : Grid) (ms : List Move) (s : Position) → AllLegal g s ms → Tidy g s → Tidy g (after g s ms)
+after-tidy g [] s h f = f
+after-tidy g (m ∷ ms) s h f = after-tidy g ms (play g s m) (h .1) (play-tidy g s m (h .0) f)
 
 -- so of every position that legal play comes to
-pub reached-played : (g : Grid) (s : Position) → Reached g s → Played g s
-reached-played g s r = subst (Played g) (r .comes-to) (after-played g (r .moves) (untouched g) (r .all-legal) (untouched-played g))
+pub reached-tidy : (g : Grid) (s : Position) → Reached g s → Tidy g s
+reached-tidy g s r = subst (Tidy g) (r .comes-to) (after-tidy g (r .moves) (untouched g) (r .all-legal) (untouched-tidy g))
