@@ -1,4 +1,4 @@
-//! Writes the Rust's answers on some thousand boards, a line of hexadecimal each, for program `vectors` to replay (docs/VECTORS.md).
+//! Writes the Rust's answers on some thousand boards, a line of hexadecimal each, for program `vectors` to replay (docs/DIFFERENCES.md, 'The Rust's stored answers').
 //!
 //! A number is another seed; a second one asks for every grid up to 4 by 4 first, and then for so many times as many boards.
 mod boards;
@@ -113,7 +113,7 @@ fn every(dice: &mut Dice) {
     }
 }
 
-/// The boards of docs/VECTORS.md.
+/// The boards of docs/DIFFERENCES.md, 'The Rust's stored answers'.
 fn some(dice: &mut Dice) {
     boards(
         dice,

@@ -1,4 +1,4 @@
-"""Document 01's lines and prices in Python, written from document 01 alone: what the trials' output is compared with.
+"""The lines and prices of docs/RULES.md in Python, written from the rules alone: what the trials' output is compared with.
 
     python3 tests/lines.py price < BOARDS > PRICES    what the board reader prints for an input
     python3 tests/lines.py make > crates/line_trials/stdin
@@ -6,8 +6,8 @@
     python3 tests/lines.py blocks > crates/board_reader/stdin
     python3 tests/lines.py price < crates/board_reader/stdin > crates/board_reader/stdout
 
-For a wrong byte count a stored move line is FRAME before SHAPE is looked at, a board line after it: document 01 gives
-board lines that order, and a stored line has only 'malformed'. The smallest line that shows it is 000100."""
+For a wrong byte count a stored move line is FRAME before SHAPE is looked at, a board line after it (RULES 9.2 and 9.4).
+The smallest line that shows it is 000100."""
 import random
 import sys
 
