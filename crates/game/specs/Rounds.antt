@@ -119,6 +119,16 @@ firstClicks g = openingClicks g (untouched g) (cells g)
 unfoldable pub openingsFirstSteps : Grid → List Step
 openingsFirstSteps g = firstClicks g ++ stepsFrom (threeBV g) true g (after g (untouched g) (movesOf (firstClicks g)))
 
+-- the steps of a greedy round, or of an openings-first round
+abbrev pub roundSteps : Bool → Grid → List Step
+roundSteps false g = greedySteps g
+roundSteps true g = openingsFirstSteps g
+
+-- the steps that come before those by premium: the opening clicks of an openings-first round
+abbrev pub firstSteps : Bool → Grid → List Step
+firstSteps false g = []
+firstSteps true g = firstClicks g
+
 -- ---- random rounds
 
 -- a round that had draws enough: its steps, and where the next draw reads on

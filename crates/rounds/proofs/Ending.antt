@@ -18,10 +18,10 @@ use Rattle.game.specs.Lists.{count, has, range}
 use Rattle.game.specs.Moves.{Move, after, word}
 use Rattle.game.specs.Openings.{threeBV}
 use Rattle.game.specs.Position.{Position, closed, closedSafe, closedUnits, untouched}
-use Rattle.game.specs.Rounds.{firstClicks, greedySteps, movesOf, openingClicks, openingsFirstSteps, stepsFrom}
+use Rattle.game.specs.Rounds.{firstClicks, firstSteps, greedySteps, movesOf, openingClicks, openingsFirstSteps, roundSteps, stepsFrom}
 use Rattle.play.specs.Walks.{kindAt, stateAt}
 use Rattle.moves.specs.Promises.{Made}
-use Rattle.rounds.specs.Promises.{Fresh, Going, Round, firstSteps, roundSteps}
+use Rattle.rounds.specs.Promises.{Fresh, Going, Round}
 use Rattle.game.proofs.Counts.{count-ext}
 use Rattle.game.proofs.Rounds.{greedy-sound, openings-first-sound}
 use Rattle.game.proofs.Runs.{moves-append}

@@ -9,11 +9,11 @@ ghost use lib.IntN.{ℤ};
 ghost use lib.ListN.{length};
 ghost use Rattle.game.specs.Grid.{Grid};
 ghost use Rattle.game.specs.Position.{Position, closedSafe, closedUnits, untouched};
-ghost use Rattle.game.specs.Rounds.{movesOf, stepsFrom};
+ghost use Rattle.game.specs.Rounds.{movesOf, stepsFrom, roundSteps, firstSteps};
 ghost use Rattle.area.specs.Stages.{Shape, Stands};
 ghost use Rattle.choices.specs.Tops.{Kept};
 ghost use Rattle.moves.specs.Promises.{Made};
-ghost use Rattle.rounds.specs.Promises.{Going, Fresh, Round, roundSteps, firstSteps};
+ghost use Rattle.rounds.specs.Promises.{Going, Fresh, Round};
 
 // Steps by the lowest index until all safe cells are open.
 pub fn play_on(
