@@ -17,7 +17,7 @@ use Rattle.game.proofs.Counts.{count-find}
 use Rattle.game.proofs.Labels.{labelled→zero}
 use Rattle.game.proofs.Members.{first-of, has-cases, has-keep, has-length, keep-has, rest-of}
 use Rattle.game.proofs.Reveal.{zero-safe}
-use Rattle.game.proofs.Squares.{cells→, close-sym, square→, →cells}
+use Rattle.game.proofs.Squares.{cells→, →cells}
 use Rattle.game.proofs.Truth.{and-both, and-left, and-right, or-cases, or-left, or-right}
 
 -- ---- the order of whole numbers

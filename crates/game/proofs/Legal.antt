@@ -85,6 +85,11 @@ reached-reveal g s i h r = go (reveal g s i) (revealed g s i) refl
     go p (opens t u n) e = subst (Reached g) (sym e) (by-left t u)
     go p (sweeps t u z) e = subst (Reached g) (sym e) (by-left t u)
 
+-- a flag on a closed mine is a legal F
+pub reached-flag : (g : Grid) (s : Position) (i : ℕ) → i < size g → T (mine g i) → T (closed s i) → Reached g s → Reached g (set s i 2)
+unfolding play
+reached-flag g s i h t u r = reached-after g s (flag i ∷ []) r (legal-flag g s i h t u, tt)
+
 -- ---- a 0-cell costs more than it gains, so none is chosen
 
 pub zero-poor : (g : Grid) (s : Position) (i : ℕ) → Zero g i → gain g s i < cost g s i

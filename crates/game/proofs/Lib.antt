@@ -15,6 +15,7 @@ pub mod Premiums
 pub mod Tidy
 pub mod Choices
 pub mod Legal
+pub mod Reaches
 pub mod Runs
 pub mod Rounds
 pub mod Falls

@@ -7,13 +7,13 @@ use mathlib.Core.Bool.{Bool, _&&_, cond, false, not, true}
 use mathlib.Core.List.{List, [], _∷_}
 use mathlib.Core.Option.{none}
 use lib.Dec.{T, T-not, eqb, ltb, ltb→lt, not-T}
-use lib.ListN.{getD, getD-replicate, length, length-replicate, length-set, set}
+use lib.ListN.{getD, getD-replicate, length-replicate, length-set, set}
 use lib.Seq.{getD-set-other, getD-set-same}
 use Rattle.game.specs.Grid.{Grid, mine, safe, size, square}
 use Rattle.game.specs.Lists.{fold, has}
 use Rattle.game.specs.Moves.{AllLegal, Move, Reached, after, cellOf, chord, chordable, flag, left, legal, play, reveal, sweep}
 use Rattle.game.specs.Openings.{Joined, holds, joinedTo}
-use Rattle.game.specs.Position.{Position, Tidy, closed, flagged, opened, untouched}
+use Rattle.game.specs.Position.{Position, Tidy, closed, untouched}
 use Rattle.game.proofs.Chains.{joined-first, joined-last, joined-sym, joined-trans}
 use Rattle.game.proofs.Members.{first-of, rest-of, some-yes}
 use Rattle.game.proofs.Openings.{→joinedTo}
