@@ -32,12 +32,12 @@ pub legal-append : (g : Grid) (ms ns : List Move) (s : Position) → AllLegal g 
 legal-append g [] ns s h k = k
 legal-append g (m ∷ ms) ns s h k = (h .0, legal-append g ms ns (play g s m) (h .1) k)
 
-legal-left : (g : Grid) (s : Position) (i : ℕ) → i < size g → T (safe g i) → T (closed s i) → T (legal g s (left i))
+pub legal-left : (g : Grid) (s : Position) (i : ℕ) → i < size g → T (safe g i) → T (closed s i) → T (legal g s (left i))
 unfolding legal
 legal-left g s i h t u =
     and-both (ltb i (size g) && safe g i) (closed s i) (and-both (ltb i (size g)) (safe g i) (lt→ltb i (size g) h) t) u
 
-legal-flag : (g : Grid) (s : Position) (i : ℕ) → i < size g → T (mine g i) → T (closed s i) → T (legal g s (flag i))
+pub legal-flag : (g : Grid) (s : Position) (i : ℕ) → i < size g → T (mine g i) → T (closed s i) → T (legal g s (flag i))
 unfolding legal
 legal-flag g s i h t u =
     and-both (ltb i (size g) && mine g i) (closed s i) (and-both (ltb i (size g)) (mine g i) (lt→ltb i (size g) h) t) u
@@ -84,11 +84,6 @@ reached-reveal g s i h r = go (reveal g s i) (revealed g s i) refl
     go p (stays n) e = r
     go p (opens t u n) e = subst (Reached g) (sym e) (by-left t u)
     go p (sweeps t u z) e = subst (Reached g) (sym e) (by-left t u)
-
--- a flag on a closed mine is a legal F
-pub reached-flag : (g : Grid) (s : Position) (i : ℕ) → i < size g → T (mine g i) → T (closed s i) → Reached g s → Reached g (set s i 2)
-unfolding play
-reached-flag g s i h t u r = reached-after g s (flag i ∷ []) r (legal-flag g s i h t u, tt)
 
 -- ---- a 0-cell costs more than it gains, so none is chosen
 

@@ -5,22 +5,33 @@ use native.Mathlib.Decide.{ℕ-discrete}
 use mathlib.Core.Path.{_∙_, _≡_, refl, subst, sym}
 use mathlib.Core.Logic.{_⊎_, inl, inr, ⊎-elim}
 use mathlib.Core.Bool.{Bool, false, true}
+use mathlib.Core.List.{[], _++_, _∷_}
 use lib.Dec.{T, eqb→eq, not-T}
 use lib.ListN.{getD, getD-replicate, length, set}
 use lib.Seq.{ext-getD, getD-set-other, getD-set-same}
 use Rattle.game.specs.Grid.{Grid, mine, safe, size, square}
 use Rattle.game.specs.Lists.{has}
-use Rattle.game.specs.Moves.{Reached, reveal, sweep}
+use Rattle.game.specs.Moves.{Move, Reached, flag, left, legal, play, reveal, sweep}
 use Rattle.game.specs.Openings.{holds, joinedTo}
 use Rattle.game.specs.Position.{Position, Tidy, closed, untouched}
 use Rattle.game.proofs.Chains.{joined-last}
-use Rattle.game.proofs.Legal.{reached-flag, reached-reveal, reached-untouched}
+use Rattle.game.proofs.Legal.{legal-append, legal-flag, legal-left}
 use Rattle.game.proofs.Members.{yes-some}
 use Rattle.game.proofs.Openings.{joinedTo→}
 use Rattle.game.proofs.Reveal.{Revealed, getD-sweep, holds-itself, mine-off, opens, revealed, stays, sweeps}
 use Rattle.game.proofs.Tidy.{reached-tidy}
 use Rattle.game.proofs.Truth.{T→true}
+use Rattle.game.proofs.Units.{after-append}
 use Rattle.game.proofs.Zeros.{Zero}
+
+-- one legal move more
+reached-on : (g : Grid) (s : Position) (m : Move) → T (legal g s m) → Reached g s → Reached g (play g s m)
+reached-on g s m l r =
+    record {
+      moves = r .moves ++ m ∷ [];
+      all-legal = legal-append g (r .moves) (m ∷ []) (untouched g) (r .all-legal) (rw (r .comes-to) (l, tt));
+      comes-to = after-append g (r .moves) (m ∷ []) (untouched g) ∙ rw (r .comes-to);
+    }
 
 -- the cell has one state in both positions
 abbrev Same : Position → Position → ℕ → Type 0
@@ -85,6 +96,7 @@ module _ (g : Grid) (s : Position) (f : Tidy g s) where
 
   -- one cell more
   next-cell : (k : ℕ) → k < size g → Toward g s k → Toward g s (suc k)
+  unfolding play
   next-cell k h t = ⊎-elim (λ e. by-none e) (λ c. go c (closed s k) refl (mine g k) refl) (t .within k h)
     where
       step : (u : Position) → Reached g u → Nearer g s (t .here) u k → Toward g s (suc k)
@@ -102,15 +114,15 @@ module _ (g : Grid) (s : Position) (f : Tidy g s) where
       go : T (closed (t .here) k) → (b : Bool) → closed s k ≡ b → (m : Bool) → mine g k ≡ m → Toward g s (suc k)
       go c true e m q = by-none (eqb→eq (getD (t .here) k 0) 0 c ∙ sym (eqb→eq (getD s k 0) 0 (rw e tt)))
       go c false e true q =
-          step (set (t .here) k 2) (reached-flag g (t .here) k h (rw q tt) c (t .reached))
+          step (set (t .here) k 2) (reached-on g (t .here) (flag k) (legal-flag g (t .here) k h (rw q tt) c) (t .reached))
           (set-nearer (t .here) k 2 (omega (arith, reached-tidy g (t .here) (t .reached) .long)) (sym (is-flagged k h (rw q tt) (λ u. subst T e u))))
       go c false e false q =
-          step (reveal g (t .here) k) (reached-reveal g (t .here) k h (t .reached))
+          step (reveal g (t .here) k) (reached-on g (t .here) (left k) (legal-left g (t .here) k h (rw q tt) c) (t .reached))
           (reveal-nearer (t .here) k (reached-tidy g (t .here) (t .reached) .long) h (rw q tt) c (λ u. subst T e u))
 
   toward : (k : ℕ) → k ≤ size g → Toward g s k
   toward zero h =
-      record { here = untouched g; reached = reached-untouched g; within = λ j hj. inr (rw (getD-replicate {A = ℕ} (size g) j 0 0 hj) tt); passed = λ j hj. absurd (omega arith) }
+      record { here = untouched g; reached = record { moves = []; all-legal = tt; comes-to = refl }; within = λ j hj. inr (rw (getD-replicate {A = ℕ} (size g) j 0 0 hj) tt); passed = λ j hj. absurd (omega arith) }
   toward (suc k) h = next-cell k (omega arith) (toward k (omega arith))
 
 -- with `reached-tidy`: play comes to exactly the tidy positions
