@@ -1,14 +1,14 @@
 -- Lists in an order, each before all that follow it; such a list has no repeats. Assumes nothing.
 use Prim.Native.Nat.{ℕ, _-_, _<_, suc, zero}
 use native.Mathlib.Omega.{arith}
-use mathlib.Core.Path.{refl, subst, sym}
+use mathlib.Core.Path.{_≡_, ap₂, refl, subst, sym}
 use mathlib.Core.Logic.{⊎-elim}
 use mathlib.Core.Bool.{Bool, false, true}
 use mathlib.Core.List.{List, [], _++_, _∷_, map}
 use lib.Dec.{T}
 use Rattle.game.specs.Lists.{concat-map, from, has, keep, range}
 use Rattle.game.proofs.Counts.{Once}
-use Rattle.game.proofs.Members.{concat-map-has, first-of, has-append-cases, has-from, has-head, has-tail, keep-has, map-has, rest-of}
+use Rattle.game.proofs.Members.{concat-map-has, first-of, has-append-cases, has-cases, has-from, has-head, has-tail, keep-has, map-has, none-there, rest-of}
 
 -- each is before all that follow it
 abbrev pub Ordered : (ℕ → ℕ → Type 0) → List ℕ → Type 0
@@ -25,6 +25,19 @@ ordered-from (suc n) a = ((λ y t. has-from n (suc a) y t .0), ordered-from n (s
 
 pub ordered-range : (a b : ℕ) → Ordered _<_ (range a b)
 ordered-range a b = ordered-from (b - a) a
+
+-- in order there is one list of the same numbers
+pub ordered-same : (xs ys : List ℕ) → Ordered _<_ xs → Ordered _<_ ys → ((x : ℕ) → T (has x xs) → T (has x ys)) → ((x : ℕ) → T (has x ys) → T (has x xs)) → xs ≡ ys
+ordered-same [] ys o p f h = sym (none-there ys h)
+ordered-same (x ∷ xs) [] o p f h = absurd (first-of x xs f)
+ordered-same (x ∷ xs) (y ∷ ys) o p f h =
+    ap₂ (λ a b. a ∷ b) same-first (ordered-same xs ys (o .1) (p .1)
+    (λ z t. has-cases z y ys (λ e. absurd (omega (arith, o .0 z t, same-first))) (λ u. u) (rest-of x xs f z t))
+    (λ z t. has-cases z x xs (λ e. absurd (omega (arith, p .0 z t, same-first))) (λ u. u) (rest-of y ys h z t)))
+  where
+    same-first : x ≡ y
+    same-first =
+        has-cases x y ys (λ e. e) (λ t. has-cases y x xs (λ e. sym e) (λ u. absurd (omega (arith, o .0 y u, p .0 x t))) (first-of y ys h)) (first-of x xs f)
 
 pub once-range : (a b : ℕ) → Once (range a b)
 once-range a b = ordered-once _<_ (range a b) (λ x h. omega arith) (ordered-range a b)

@@ -1,27 +1,52 @@
--- How gain, cost and premium of every cell change with one opened cell, one flag, one swept opening. Assumes nothing.
+-- Gain and cost of a cell before any move, and how they and the premium change with one opened cell, one flag, one swept opening. Assumes nothing.
 use Prim.Native.Nat.{ℕ, _+_, _<_}
 use native.Mathlib.Omega.{arith}
 use native.Mathlib.Decide.{ℕ-discrete}
 use mathlib.Core.Path.{_∙_, _≡_, ap, refl, subst, sym}
 use mathlib.Core.Bool.{Bool, _&&_, cond, false, not, true}
 use mathlib.Core.List.{List}
-use lib.Dec.{T, T-not, eqb, eqb→eq}
+use lib.Dec.{T, eqb, eqb→eq}
 use lib.IntN.{+ℤ-assoc, +ℤ-comm, +ℤ-negℤ-cancel, -ℤ-+ℤ-cancel, _+ℤ_, _-ℤ_, negℤ, negℤ-+ℤ, pos, ℤ}
 use lib.ListN.{getD, length, set}
 use lib.Seq.{getD-set-other, getD-set-same}
-use Rattle.game.specs.Grid.{Grid, mine, safe, size, square, zeroCell}
-use Rattle.game.specs.Lists.{bit, has}
+use Rattle.game.specs.Grid.{Grid, mine, number, safe, size, square, zeroCell}
+use Rattle.game.specs.Lists.{bit, count, has}
 use Rattle.game.specs.Moves.{reveal, sweep}
-use Rattle.game.specs.Openings.{holds, joinedTo, openings, unlabelled}
-use Rattle.game.specs.Position.{Position, cellUnit, closed, cost, flagged, gain, openingClosed, premium, unflagged}
+use Rattle.game.specs.Openings.{holds, joinedTo, labels, openings, unlabelled}
+use Rattle.game.specs.Position.{Position, cellUnit, closed, cost, flagged, gain, openingClosed, premium, unflagged, untouched}
 use Rattle.game.proofs.Counts.{bit-yes, count-drop, count-each, count-ext, count-split, each-map}
-use Rattle.game.proofs.Members.{all-ext}
+use Rattle.game.proofs.Members.{all-ext, all-give}
 use Rattle.game.proofs.Openings.{Full, good}
 use Rattle.game.proofs.Owners.{Even, even-closed, owner, same-holds}
-use Rattle.game.proofs.Reveal.{Revealed, getD-sweep, mine-off, opens, reveal-opening, revealed, stays, sweeps, unlabelled-off, unlabelled-safe, zero-safe}
+use Rattle.game.proofs.Ranges.{held-count}
+use Rattle.game.proofs.Reveal.{Revealed, flag-stays, getD-sweep, mine-off, opens, reveal-opening, revealed, stays, sweeps, unlabelled-off, unlabelled-safe, zero-safe}
 use Rattle.game.proofs.Squares.{once-square, square→}
 use Rattle.game.proofs.Truth.{T→true, and-false, and-inside, and-true, and-under, eqb-no, eqb-yes, no→false}
+use Rattle.game.proofs.Units.{closed-untouched, untouched-at}
 use Rattle.game.proofs.Zeros.{Zero}
+
+-- ---- before any move
+
+-- every unit is closed
+pub gain-untouched : (g : Grid) (i : ℕ) → i < size g → gain g (untouched g) i ≡ length (labels g i) + count (unlabelled g) (square g i)
+unfolding gain labels
+gain-untouched g i h =
+    let a = count-each (λ o. holds g i o && openingClosed (untouched g) o) (holds g i) (openings g)
+    (each-map (openings g) (λ o f. ap (λ (b : Bool). holds g i o && b) (T→true (openingClosed (untouched g) o)
+    (all-give (closed (untouched g)) o (λ x t. rw (closed-untouched g x (f .zero-cell x t .inside)) tt))) ∙ sym (and-true (holds g i o))) (good g .full)) in
+    let b = held-count g i 1 (openings g) in
+    let c = count-ext (cellUnit g (untouched g)) (unlabelled g) (square g i)
+    (λ j t. ap (λ (b : Bool). unlabelled g j && b) (closed-untouched g j (square→ g i j h t .0)) ∙ sym (and-true (unlabelled g j))) in
+    omega arith
+
+-- and every mine is unflagged
+pub cost-untouched : (g : Grid) (i : ℕ) → i < size g → cost g (untouched g) i ≡ number g i + 2
+unfolding cost number
+cost-untouched g i h =
+    let a = count-ext (unflagged g (untouched g)) (mine g) (square g i)
+    (λ j t. ap (λ (k : ℕ). mine g j && not (eqb k 2)) (untouched-at g j (square→ g i j h t .0)) ∙ sym (and-true (mine g j))) in
+    let b = ap bit (closed-untouched g i h) in
+    omega arith
 
 -- ---- a difference whose two parts fall
 
@@ -107,17 +132,14 @@ module _ (g : Grid) (s : Position) (c : ℕ) (inside : c < size g) (long : lengt
 -- ---- a mine is flagged
 
 module _ (g : Grid) (s : Position) (m : ℕ) (inside : m < size g) (long : length s ≡ size g) (shut : T (closed s m)) (is-mine : T (mine g m)) where
-  safe-stays : (x : ℕ) → T (safe g x) → closed (set s m 2) x ≡ closed s x
-  safe-stays x t = ap (λ (k : ℕ). eqb k 0) (getD-set-other s m x 2 0 (λ e. T-not (mine g x) t (rw e is-mine)))
-
   pub flag-gain : (x : ℕ) → gain g s x ≡ gain g (set s m 2) x + 0
   unfolding gain
   flag-gain x =
       let a = count-each (λ o. holds g x o && openingClosed (set s m 2) o) (λ o. holds g x o && openingClosed s o) (openings g)
       (each-map (openings g) (λ o f. ap (λ (b : Bool). holds g x o && b)
-      (all-ext (closed (set s m 2)) (closed s) o (λ z t. safe-stays z (zero-safe g z (f .zero-cell z t))))) (good g .full)) in
+      (all-ext (closed (set s m 2)) (closed s) o (λ z t. flag-stays g s m z is-mine (zero-safe g z (f .zero-cell z t))))) (good g .full)) in
       let b = count-ext (cellUnit g (set s m 2)) (cellUnit g s) (square g x)
-      (λ j t. and-under (unlabelled g j) (closed (set s m 2) j) (closed s j) (λ u. safe-stays j (unlabelled-safe g j u))) in
+      (λ j t. and-under (unlabelled g j) (closed (set s m 2) j) (closed s j) (λ u. flag-stays g s m j is-mine (unlabelled-safe g j u))) in
       omega arith
 
   -- each safe cell in its square costs one less
@@ -130,7 +152,7 @@ module _ (g : Grid) (s : Position) (m : ℕ) (inside : m < size g) (long : lengt
       let b = ap (λ (b : Bool). bit (has m (square g x) && b))
       (ap (λ (k : ℕ). mine g m && not (eqb k 2)) (eqb→eq (getD s m 0) 0 shut) ∙ ap (λ (b : Bool). b && true) (T→true (mine g m) is-mine)) in
       let c = ap bit (and-true (has m (square g x))) in
-      let d = ap bit (safe-stays x t) in
+      let d = ap bit (flag-stays g s m x is-mine t) in
       omega arith
 
   -- +1 in the mine's square

@@ -13,9 +13,9 @@ use Rattle.game.specs.Grid.{Grid, columnOf, index, mine, near, rowOf, sa
 use Rattle.game.specs.Lists.{bit, concat-map, count, has, some-of}
 use Rattle.game.specs.Openings.{holds, labels, openings, places, threeBV, unlabelled}
 use Rattle.game.specs.Position.{Position, cellUnit, closed, cost, flagged, gain, openingClosed, premium, unflagged}
-use Rattle.game.proofs.Counts.{bit-le, bit-no, count-le}
+use Rattle.game.proofs.Counts.{bit-le, bit-no, bit-small, count-le}
 use Rattle.game.proofs.Labels.{at-most-two, labelled→zero, labels-range}
-use Rattle.game.proofs.Members.{first-of, has-cases, length-from, rest-of}
+use Rattle.game.proofs.Members.{getD-most, has-cases, length-from}
 use Rattle.game.proofs.Reveal.{zero-labelled}
 use Rattle.game.proofs.Squares.{in-own-square}
 use Rattle.game.proofs.Truth.{and-left}
@@ -42,7 +42,7 @@ count-short : (f : ℕ → Bool) (x : ℕ) (xs : List ℕ) → T (has x xs) → 
 count-short f x [] t n = absurd t
 count-short f x (y ∷ xs) t n =
     has-cases x y xs (λ e. omega (arith, bit-no (f y) (λ u. n (rw e u)), count-le f xs))
-    (λ r. omega (arith, bit-le (f y) true (λ u. tt), count-short f x xs r n)) t
+    (λ r. omega (arith, bit-small (f y), count-short f x xs r n)) t
 
 -- ---- gain and cost
 
@@ -90,7 +90,7 @@ pub cost-range : (g : Grid) (s : Position) (i : ℕ) → i < size g → T (safe 
 unfolding cost
 cost-range g s i h t =
     let a = count-short (unflagged g s) i (square g i) (in-own-square g i h) (λ u. T-not (mine g i) t (and-left (mine g i) (not (flagged s i)) u)) in
-    omega (arith, length-square g i, bit-le (closed s i) true (λ u. tt))
+    omega (arith, length-square g i, bit-small (closed s i))
 
 -- ---- the premium
 
@@ -116,13 +116,8 @@ premium-range g s i h t =
 
 -- ---- labels
 
-at-most : (ls : List ℕ) (k m : ℕ) → ((x : ℕ) → T (has x ls) → x ≤ m) → getD ls k 0 ≤ m
-at-most [] k m h = omega arith
-at-most (x ∷ ls) zero m h = first-of x ls h
-at-most (x ∷ ls) (suc k) m h = at-most ls k m (rest-of x ls h)
-
 -- both labels are at most the cells
 pub label-range : (g : Grid) (i k : ℕ) → getD (labels g i) k 0 ≤ size g
 unfolding threeBV
 label-range g i k =
-    omega (arith, at-most (labels g i) k (length (openings g)) (λ x t. labels-range g i x t .1), units-at-most-cells g)
+    omega (arith, getD-most (labels g i) k (length (openings g)) (λ x t. labels-range g i x t .1), units-at-most-cells g)

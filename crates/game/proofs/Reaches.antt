@@ -7,7 +7,7 @@ use mathlib.Core.Logic.{_⊎_, inl, inr, ⊎-elim}
 use mathlib.Core.Bool.{Bool, false, true}
 use mathlib.Core.List.{[], _++_, _∷_}
 use lib.Dec.{T, eqb→eq, not-T}
-use lib.ListN.{getD, getD-replicate, length, set}
+use lib.ListN.{getD, length, set}
 use lib.Seq.{ext-getD, getD-set-other, getD-set-same}
 use Rattle.game.specs.Grid.{Grid, mine, safe, size, square}
 use Rattle.game.specs.Lists.{has}
@@ -21,7 +21,7 @@ use Rattle.game.proofs.Openings.{joinedTo→}
 use Rattle.game.proofs.Reveal.{Revealed, getD-sweep, holds-itself, mine-off, opens, revealed, stays, sweeps}
 use Rattle.game.proofs.Tidy.{reached-tidy}
 use Rattle.game.proofs.Truth.{T→true}
-use Rattle.game.proofs.Units.{after-append}
+use Rattle.game.proofs.Units.{after-append, untouched-at}
 use Rattle.game.proofs.Zeros.{Zero}
 
 -- one legal move more
@@ -122,7 +122,7 @@ module _ (g : Grid) (s : Position) (f : Tidy g s) where
 
   toward : (k : ℕ) → k ≤ size g → Toward g s k
   toward zero h =
-      record { here = untouched g; reached = record { moves = []; all-legal = tt; comes-to = refl }; within = λ j hj. inr (rw (getD-replicate {A = ℕ} (size g) j 0 0 hj) tt); passed = λ j hj. absurd (omega arith) }
+      record { here = untouched g; reached = record { moves = []; all-legal = tt; comes-to = refl }; within = λ j hj. inr (rw (untouched-at g j hj) tt); passed = λ j hj. absurd (omega arith) }
   toward (suc k) h = next-cell k (omega arith) (toward k (omega arith))
 
 -- with `reached-tidy`: play comes to exactly the tidy positions

@@ -13,6 +13,7 @@ use Rattle.game.specs.Lists.{concat-map, count, from, has}
 use Rattle.game.proofs.Counts.{Once, count-once}
 use Rattle.game.proofs.Members.{concat-map-has, has-concat-map, has-map, has-range, length-from, map-has, range-has}
 use Rattle.game.proofs.Orders.{Ordered, once-range, ordered-concat-map, ordered-map, ordered-once, ordered-range}
+use Rattle.game.proofs.Truth.{iff}
 
 -- j is at most one row and one column from i
 pub record Close (g : Grid) (i j : ℕ) : Type 0 where
@@ -82,6 +83,12 @@ unfolding square
     (subst (λ (k : ℕ). T (has k (map (λ c. index g (rowOf g j) c) (near (g .columns) (columnOf g i))))) (index-of g j)
     (has-map (λ c. index g (rowOf g j) c) (columnOf g j) (near (g .columns) (columnOf g i))
     (range-has (columnOf g i - 1) (min (columnOf g i + 2) (g .columns)) (columnOf g j) (omega arith) (omega arith))))
+
+-- two cells are each in the other's square, or neither is
+pub square-sym : (g : Grid) (i j : ℕ) → i < size g → j < size g → has i (square g j) ≡ has j (square g i)
+square-sym g i j h k =
+    iff (has i (square g j)) (has j (square g i)) (λ t. →square g i j h k (close-sym g j i (square→ g j i k t .1)))
+    (λ t. →square g j i k h (close-sym g i j (square→ g i j h t .1)))
 
 pub in-own-square : (g : Grid) (i : ℕ) → i < size g → T (has i (square g i))
 in-own-square g i h = →square g i i h h (self-close g i)
