@@ -16,21 +16,12 @@ use Rattle.game.specs.Position.{Position, Tidy, closedSafe, closedUnits,
 use Rattle.game.specs.Rounds.{Round, Step, afterStep, before, choice, movesOf, randomFrom, randomRound, stepOf, width}
 use Rattle.game.proofs.Choices.{never-stuck}
 use Rattle.game.proofs.Draws.{IfSome, Used, draw-uses, used-on}
-use Rattle.game.proofs.Rounds.{steps-end}
+use Rattle.game.proofs.Rounds.{by-none, by-some, steps-end}
 use Rattle.game.proofs.Runs.{Fits, Run, choice-fits, fit-takes, sound, step-tidy}
 use Rattle.game.proofs.Tidy.{untouched-tidy}
 use Rattle.game.proofs.Units.{after-append, units-untouched}
 
 -- ---- one draw after another
-
--- one of two by a number: the first where it is 0
-pub by-none : {A : Type 0} (x y : A) (k : ℕ) → k ≡ 0 → elim k as (λ _. A) [ zero ↦ x | suc j ↦ y ] ≡ x
-by-none x y zero e = refl
-by-none x y (suc k) e = absurd (omega arith)
-
-pub by-some : {A : Type 0} (x y : A) (k : ℕ) → 1 ≤ k → elim k as (λ _. A) [ zero ↦ x | suc j ↦ y ] ≡ y
-by-some x y zero h = absurd (omega arith)
-by-some x y (suc k) h = refl
 
 -- the rest of a round of n steps at most, by its next draw
 abbrev pub by-draw : ℕ → Grid → Source → Position → Option Drawn → Option Round

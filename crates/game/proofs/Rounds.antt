@@ -26,6 +26,27 @@ use Rattle.game.proofs.Zeros.{Zero}
 
 -- ---- steps by the lowest index
 
+-- one of two by a number: the first where it is 0, else the second
+pub by-none : {A : Type 0} (x y : A) (k : ℕ) → k ≡ 0 → elim k as (λ _. A) [ zero ↦ x | suc j ↦ y ] ≡ x
+by-none x y zero e = refl
+by-none x y (suc k) e = absurd (omega arith)
+
+pub by-some : {A : Type 0} (x y : A) (k : ℕ) → 1 ≤ k → elim k as (λ _. A) [ zero ↦ x | suc j ↦ y ] ≡ y
+by-some x y zero h = absurd (omega arith)
+by-some x y (suc k) h = refl
+
+-- where a safe cell is closed, there is a step
+pub steps-on : (n : ℕ) (openedOnly : Bool) (g : Grid) (s : Position) → 1 ≤ closedSafe g s
+    → stepsFrom (suc n) openedOnly g s ≡ stepOf g s (choice openedOnly g s) 0 ∷ stepsFrom n openedOnly g (afterStep g s (stepOf g s (choice openedOnly g s) 0))
+steps-on n openedOnly g s h =
+    by-some [] (stepOf g s (choice openedOnly g s) 0 ∷ stepsFrom n openedOnly g (afterStep g s (stepOf g s (choice openedOnly g s) 0))) (closedSafe g s) h
+
+-- else there is none
+pub steps-none : (n : ℕ) (openedOnly : Bool) (g : Grid) (s : Position) → closedSafe g s ≡ 0 → stepsFrom n openedOnly g s ≡ []
+steps-none zero openedOnly g s e = refl
+steps-none (suc n) openedOnly g s e =
+    by-none [] (stepOf g s (choice openedOnly g s) 0 ∷ stepsFrom n openedOnly g (afterStep g s (stepOf g s (choice openedOnly g s) 0))) (closedSafe g s) e
+
 pub steps-run : (n : ℕ) (openedOnly : Bool) (g : Grid) (s : Position) → Tidy g s → Run g s (stepsFrom n openedOnly g s)
 steps-run zero openedOnly g s f = tt
 steps-run (suc n) openedOnly g s f =
