@@ -41,6 +41,10 @@ used-on bytes at mid next (inl e) (inr k) = inr (omega (arith, k .0), k .1)
 used-on bytes at mid next (inr h) (inl f) = inr (omega (arith, h .0), omega (arith, h .1))
 used-on bytes at mid next (inr h) (inr k) = inr (omega (arith, h .0, k .0), k .1)
 
+pub used-within : (bytes : List ℕ) (at next : ℕ) → Used bytes at next → at ≤ length bytes → (at ≤ next) × (next ≤ length bytes)
+used-within bytes at next (inl e) h = (omega arith, omega arith)
+used-within bytes at next (inr k) h = (omega (arith, k .0), k .1)
+
 -- so of a draw
 pub draw-uses : (bytes : List ℕ) (at n : ℕ) (d : Drawn) → draw bytes at n ≡ some d → Used bytes at (d .next)
 unfolding draw

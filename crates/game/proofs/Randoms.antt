@@ -2,7 +2,7 @@
 use Prim.Native.Nat.{ℕ, _≤_, suc, zero}
 use native.Mathlib.Omega.{arith}
 use mathlib.Core.Path.{_∙_, _≡_, ap, refl, subst}
-use mathlib.Core.Logic.{inl, inr}
+use mathlib.Core.Logic.{inl}
 use mathlib.Core.Bool.{false}
 use mathlib.Core.List.{List, []}
 use mathlib.Core.Option.{Option, none, some}
@@ -15,7 +15,7 @@ use Rattle.game.specs.Openings.{threeBV}
 use Rattle.game.specs.Position.{Position, Tidy, closedSafe, closedUnits, untouched}
 use Rattle.game.specs.Rounds.{Round, Step, afterStep, before, choice, movesOf, randomFrom, randomRound, stepOf, width}
 use Rattle.game.proofs.Choices.{never-stuck}
-use Rattle.game.proofs.Draws.{IfSome, Used, draw-uses, used-on}
+use Rattle.game.proofs.Draws.{IfSome, Used, draw-uses, used-on, used-within}
 use Rattle.game.proofs.Rounds.{by-none, by-some, steps-end}
 use Rattle.game.proofs.Runs.{Fits, Run, choice-fits, fit-takes, sound, step-tidy}
 use Rattle.game.proofs.Tidy.{untouched-tidy}
@@ -130,14 +130,12 @@ random-reads g source R c at r e = subst (IfSome (λ (x : Round). R at (x .next)
         }
 
 -- with lent bytes it uses none, or four at least
+pub lent-reads : (bytes : List ℕ) → Reading (lent bytes) (Used bytes)
+lent-reads bytes = record { stays = λ at. inl refl; goes-on = used-on bytes; draws = draw-uses bytes }
+
 pub random-uses : (g : Grid) (bytes : List ℕ) (at : ℕ) (r : Round) → randomRound g (lent bytes) at ≡ some r → Used bytes at (r .next)
-random-uses g bytes =
-    random-reads g (lent bytes) (Used bytes) (record { stays = λ at. inl refl; goes-on = used-on bytes; draws = draw-uses bytes })
+random-uses g bytes at r e = random-reads g (lent bytes) (Used bytes) (lent-reads bytes) at r e
 
 -- it reads on in the bytes
 pub random-within : (g : Grid) (bytes : List ℕ) (at : ℕ) (r : Round) → randomRound g (lent bytes) at ≡ some r → at ≤ length bytes → (at ≤ r .next) × (r .next ≤ length bytes)
-random-within g bytes at r e h = go (random-uses g bytes at r e)
-  where
-    go : Used bytes at (r .next) → (at ≤ r .next) × (r .next ≤ length bytes)
-    go (inl q) = (omega arith, omega arith)
-    go (inr k) = (omega (arith, k .0), k .1)
+random-within g bytes at r e h = used-within bytes at (r .next) (random-uses g bytes at r e) h

@@ -14,8 +14,8 @@ use Rattle.game.specs.Draws.{Places, Source, lent}
 use Rattle.game.specs.Grid.{Grid}
 use Rattle.game.specs.Lists.{Each}
 use Rattle.game.specs.Rounds.{Round, Searched, movesOf, randomRound, randomSearch, searchFrom}
-use Rattle.game.proofs.Draws.{IfSome, Used}
-use Rattle.game.proofs.Randoms.{random-sound, random-uses}
+use Rattle.game.proofs.Draws.{IfSome, Used, used-within}
+use Rattle.game.proofs.Randoms.{Reading, lent-reads, random-reads, random-sound, random-uses}
 
 -- what a round leaves for those after it
 abbrev pub left-by : ℕ → Round → Searched
@@ -106,6 +106,30 @@ still-same n left at g source e least q h z = go (eqb (e .next) at) refl z
         same-again n g source e least (ap (randomRound g source) (eqb→eq (e .next) at (rw y tt)) ∙ q) h
         ∙ ap (λ (m : ℕ). searchFrom m g source (left-by least e)) (sym k)
     go false y k = ap (λ (m : ℕ). searchFrom m g source (left-by least e)) (sym k)
+
+-- ---- where a search reads on
+
+later-reads : (n : ℕ) (g : Grid) (source : Source) (R : ℕ → ℕ → Type 0) → Reading source R → (at : ℕ) (b : Searched) → R at (b .next) → IfSome (λ (r : Searched). R at (r .next)) (searchFrom n g source b)
+later-reads zero g source R c at b h = h
+later-reads (suc n) g source R c at b h = go (λ e k. later-reads n g source R c at (onward b e) k) (randomRound g source (b .next)) refl
+  where
+    go : ((e : Round) → R at (e .next) → IfSome (λ (r : Searched). R at (r .next)) (searchFrom n g source (onward b e))) → (o : Option Round) → randomRound g source (b .next) ≡ o
+        → IfSome (λ (r : Searched). R at (r .next)) (goes-on n g source (onward b) o)
+    go l none q = tt
+    go l (some e) q = l e (c .goes-on at (b .next) (e .next) h (random-reads g source R c (b .next) e q))
+
+-- a search reads on as its draws do
+pub search-reads : (g : Grid) (source : Source) (R : ℕ → ℕ → Type 0) → Reading source R → (n : ℕ) (r : Searched) → randomSearch g source n ≡ some r → R 0 (r .next)
+unfolding randomSearch
+search-reads g source R c n r e = subst (IfSome (λ (x : Searched). R 0 (x .next))) e (go (randomRound g source 0) refl)
+  where
+    go : (o : Option Round) → randomRound g source 0 ≡ o → IfSome (λ (x : Searched). R 0 (x .next)) (goes-on (n - 1) g source first o)
+    go none q = tt
+    go (some e) q = later-reads (n - 1) g source R c 0 (first e) (random-reads g source R c 0 e q)
+
+-- with lent bytes it reads on in them
+pub search-within : (g : Grid) (bytes : List ℕ) (n : ℕ) (r : Searched) → randomSearch g (lent bytes) n ≡ some r → r .next ≤ length bytes
+search-within g bytes n r e = used-within bytes 0 (r .next) (search-reads g (lent bytes) (Used bytes) (lent-reads bytes) n r e) (omega arith) .1
 
 -- ---- few rounds are played
 
