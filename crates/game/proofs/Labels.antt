@@ -128,6 +128,7 @@ mine-none g i h m =
 
 -- ---- a cell without label, by its first label
 
+-- a cell's first place is 0 exactly if no opening holds it
 pub places-none : (g : Grid) (i k : ℕ) (os : List (List ℕ)) → eqb (getD (places g i (suc k) os) 0 0) 0 ≡ not (some-of (holds g i) os)
 places-none g i k [] = refl
 places-none g i k (o ∷ os) = go (holds g i o) (places-none g i (suc k) os)
@@ -144,6 +145,7 @@ first-label g i = ap (λ (b : Bool). safe g i && b) (sym (places-none g i 0 (ope
 
 -- ---- labels lie between 1 and the count of openings, and are in order
 
+-- a place lies between the first and the last
 pub places-from : (g : Grid) (i k : ℕ) (os : List (List ℕ)) → (x : ℕ) → T (has x (places g i k os)) → (k ≤ x) × (x < k + length os)
 places-from g i k [] x t = absurd t
 places-from g i k (o ∷ os) x t = go (holds g i o) t (places-from g i (suc k) os x)
@@ -180,11 +182,7 @@ pub labels-range : (g : Grid) (i x : ℕ) → T (has x (labels g i)) → (1 ≤ 
 unfolding labels
 labels-range g i x t = let h = places-from g i 1 (openings g) x t in omega arith
 
-pub labels-ordered : (g : Grid) (i : ℕ) → Ordered _<_ (labels g i)
-unfolding labels
-labels-ordered g i = places-ordered g i 1 (openings g)
-
--- a cell has as many labels as its two numbers show
+-- a cell's labels by its two numbers
 pub label-marks : (g : Grid) (i : ℕ) → i < size g → length (labels g i) ≡ bit (not (eqb (firstLabel g i) 0)) + bit (not (eqb (secondLabel g i) 0))
 label-marks g i h = go (labels g i) (at-most-two g i h) (λ x t. labels-range g i x t .0)
   where
@@ -196,6 +194,10 @@ label-marks g i h = go (labels g i) (at-most-two g i h) (λ x t. labels-range g 
     go (a ∷ []) l f = omega (arith, one a (first-of a [] f))
     go (a ∷ b ∷ []) l f = omega (arith, one a (first-of a (b ∷ []) f), one b (first-of b [] (rest-of a (b ∷ []) f)))
     go (a ∷ b ∷ c ∷ ls) l f = absurd (omega arith)
+
+pub labels-ordered : (g : Grid) (i : ℕ) → Ordered _<_ (labels g i)
+unfolding labels
+labels-ordered g i = places-ordered g i 1 (openings g)
 
 -- the two labels are all there are
 pub labels-all : (g : Grid) (i k : ℕ) → i < size g → T (has k (labels g i)) → (k ≡ firstLabel g i) ⊎ (k ≡ secondLabel g i)

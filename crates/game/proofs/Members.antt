@@ -31,6 +31,12 @@ first-of x xs h = h x (has-head x x xs refl)
 pub rest-of : {P : ℕ → Type 0} (x : ℕ) (xs : List ℕ) → ((y : ℕ) → T (has y (x ∷ xs)) → P y) → (y : ℕ) → T (has y xs) → P y
 rest-of x xs h y t = h y (has-tail y x xs t)
 
+-- what no member is above, none at a place is
+pub at-most : (xs : List ℕ) (k m : ℕ) → ((x : ℕ) → T (has x xs) → x ≤ m) → getD xs k 0 ≤ m
+at-most [] k m h = omega arith
+at-most (x ∷ xs) zero m h = first-of x xs h
+at-most (x ∷ xs) (suc k) m h = at-most xs k m (rest-of x xs h)
+
 -- ---- two lists, one after the other
 
 pub has-append-left : (x : ℕ) (xs ys : List ℕ) → T (has x xs) → T (has x (xs ++ ys))
@@ -167,12 +173,6 @@ pub getD-has : (xs : List ℕ) (k : ℕ) → k < length xs → T (has (getD xs k
 getD-has [] k h = absurd (omega arith)
 getD-has (x ∷ xs) zero h = has-head x x xs refl
 getD-has (x ∷ xs) (suc k) h = has-tail (getD xs k 0) x xs (getD-has xs k (omega arith))
-
--- what bounds a list's numbers bounds what is read at a place
-pub getD-most : (ls : List ℕ) (k m : ℕ) → ((x : ℕ) → T (has x ls) → x ≤ m) → getD ls k 0 ≤ m
-getD-most [] k m h = omega arith
-getD-most (x ∷ ls) zero m h = first-of x ls h
-getD-most (x ∷ ls) (suc k) m h = getD-most ls k m (rest-of x ls h)
 
 -- a number from 1 on that is read at a place is in the list
 pub getD-in : (ls : List ℕ) (k x : ℕ) → 1 ≤ x → getD ls k 0 ≡ x → T (has x ls)

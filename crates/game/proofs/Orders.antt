@@ -26,21 +26,21 @@ ordered-from (suc n) a = ((λ y t. has-from n (suc a) y t .0), ordered-from n (s
 pub ordered-range : (a b : ℕ) → Ordered _<_ (range a b)
 ordered-range a b = ordered-from (b - a) a
 
--- in order there is one list of the same numbers
+pub once-range : (a b : ℕ) → Once (range a b)
+once-range a b = ordered-once _<_ (range a b) (λ x h. omega arith) (ordered-range a b)
+
+-- two lists in order with the same members are the same
 pub ordered-same : (xs ys : List ℕ) → Ordered _<_ xs → Ordered _<_ ys → ((x : ℕ) → T (has x xs) → T (has x ys)) → ((x : ℕ) → T (has x ys) → T (has x xs)) → xs ≡ ys
-ordered-same [] ys o p f h = sym (none-there ys h)
-ordered-same (x ∷ xs) [] o p f h = absurd (first-of x xs f)
-ordered-same (x ∷ xs) (y ∷ ys) o p f h =
+ordered-same [] ys o p h l = sym (none-there ys l)
+ordered-same (x ∷ xs) [] o p h l = absurd (first-of x xs h)
+ordered-same (x ∷ xs) (y ∷ ys) o p h l =
     ap₂ (λ a b. a ∷ b) same-first (ordered-same xs ys (o .1) (p .1)
-    (λ z t. has-cases z y ys (λ e. absurd (omega (arith, o .0 z t, same-first))) (λ u. u) (rest-of x xs f z t))
-    (λ z t. has-cases z x xs (λ e. absurd (omega (arith, p .0 z t, same-first))) (λ u. u) (rest-of y ys h z t)))
+    (λ z t. has-cases z y ys (λ e. absurd (omega (arith, o .0 z t, same-first))) (λ u. u) (rest-of x xs h z t))
+    (λ z t. has-cases z x xs (λ e. absurd (omega (arith, p .0 z t, same-first))) (λ u. u) (rest-of y ys l z t)))
   where
     same-first : x ≡ y
     same-first =
-        has-cases x y ys (λ e. e) (λ t. has-cases y x xs (λ e. sym e) (λ u. absurd (omega (arith, o .0 y u, p .0 x t))) (first-of y ys h)) (first-of x xs f)
-
-pub once-range : (a b : ℕ) → Once (range a b)
-once-range a b = ordered-once _<_ (range a b) (λ x h. omega arith) (ordered-range a b)
+        has-cases x y ys (λ e. e) (λ t. has-cases y x xs (λ e. sym e) (λ u. absurd (omega (arith, o .0 y u, p .0 x t))) (first-of y ys l)) (first-of x xs h)
 
 pub ordered-keep : (R : ℕ → ℕ → Type 0) (f : ℕ → Bool) (xs : List ℕ) → Ordered R xs → Ordered R (keep f xs)
 ordered-keep R f [] o = tt

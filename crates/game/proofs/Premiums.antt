@@ -1,4 +1,4 @@
--- Gain and cost of a cell before any move, and how they and the premium change with one opened cell, one flag, one swept opening. Assumes nothing.
+-- How gain, cost and premium of every cell change with one opened cell, one flag, one swept opening. Assumes nothing.
 use Prim.Native.Nat.{ℕ, _+_, _<_}
 use native.Mathlib.Omega.{arith}
 use native.Mathlib.Decide.{ℕ-discrete}
@@ -9,44 +9,19 @@ use lib.Dec.{T, eqb, eqb→eq}
 use lib.IntN.{+ℤ-assoc, +ℤ-comm, +ℤ-negℤ-cancel, -ℤ-+ℤ-cancel, _+ℤ_, _-ℤ_, negℤ, negℤ-+ℤ, pos, ℤ}
 use lib.ListN.{getD, length, set}
 use lib.Seq.{getD-set-other, getD-set-same}
-use Rattle.game.specs.Grid.{Grid, mine, number, safe, size, square, zeroCell}
-use Rattle.game.specs.Lists.{bit, count, has}
+use Rattle.game.specs.Grid.{Grid, mine, safe, size, square, zeroCell}
+use Rattle.game.specs.Lists.{bit, has}
 use Rattle.game.specs.Moves.{reveal, sweep}
-use Rattle.game.specs.Openings.{holds, joinedTo, labels, openings, unlabelled}
-use Rattle.game.specs.Position.{Position, cellUnit, closed, cost, flagged, gain, openingClosed, premium, unflagged, untouched}
+use Rattle.game.specs.Openings.{holds, joinedTo, openings, unlabelled}
+use Rattle.game.specs.Position.{Position, cellUnit, closed, cost, flagged, gain, openingClosed, premium, unflagged}
 use Rattle.game.proofs.Counts.{bit-yes, count-drop, count-each, count-ext, count-split, each-map}
-use Rattle.game.proofs.Members.{all-ext, all-give}
+use Rattle.game.proofs.Members.{all-ext}
 use Rattle.game.proofs.Openings.{Full, good}
 use Rattle.game.proofs.Owners.{Even, even-closed, owner, same-holds}
-use Rattle.game.proofs.Ranges.{held-count}
 use Rattle.game.proofs.Reveal.{Revealed, flag-stays, getD-sweep, mine-off, opens, reveal-opening, revealed, stays, sweeps, unlabelled-off, unlabelled-safe, zero-safe}
 use Rattle.game.proofs.Squares.{once-square, square→}
 use Rattle.game.proofs.Truth.{T→true, and-false, and-inside, and-true, and-under, eqb-no, eqb-yes, no→false}
-use Rattle.game.proofs.Units.{closed-untouched, untouched-at}
 use Rattle.game.proofs.Zeros.{Zero}
-
--- ---- before any move
-
--- every unit is closed
-pub gain-untouched : (g : Grid) (i : ℕ) → i < size g → gain g (untouched g) i ≡ length (labels g i) + count (unlabelled g) (square g i)
-unfolding gain labels
-gain-untouched g i h =
-    let a = count-each (λ o. holds g i o && openingClosed (untouched g) o) (holds g i) (openings g)
-    (each-map (openings g) (λ o f. ap (λ (b : Bool). holds g i o && b) (T→true (openingClosed (untouched g) o)
-    (all-give (closed (untouched g)) o (λ x t. rw (closed-untouched g x (f .zero-cell x t .inside)) tt))) ∙ sym (and-true (holds g i o))) (good g .full)) in
-    let b = held-count g i 1 (openings g) in
-    let c = count-ext (cellUnit g (untouched g)) (unlabelled g) (square g i)
-    (λ j t. ap (λ (b : Bool). unlabelled g j && b) (closed-untouched g j (square→ g i j h t .0)) ∙ sym (and-true (unlabelled g j))) in
-    omega arith
-
--- and every mine is unflagged
-pub cost-untouched : (g : Grid) (i : ℕ) → i < size g → cost g (untouched g) i ≡ number g i + 2
-unfolding cost number
-cost-untouched g i h =
-    let a = count-ext (unflagged g (untouched g)) (mine g) (square g i)
-    (λ j t. ap (λ (k : ℕ). mine g j && not (eqb k 2)) (untouched-at g j (square→ g i j h t .0)) ∙ sym (and-true (mine g j))) in
-    let b = ap bit (closed-untouched g i h) in
-    omega arith
 
 -- ---- a difference whose two parts fall
 
