@@ -5,8 +5,8 @@ use native.Mathlib.Omega.{arith}
 use native.Mathlib.Nat.{add-zero}
 use mathlib.Core.Path.{_∙_, _≡_, ap, refl, subst, sym}
 use mathlib.Core.Logic.{_⊎_, inl, inr, ⊎-elim}
-use mathlib.Core.Bool.{Bool, _&&_, _||_, false, not, true}
-use mathlib.Core.List.{List, [], _∷_}
+use mathlib.Core.Bool.{Bool, _&&_, _||_, cond, false, not, true}
+use mathlib.Core.List.{List, [], _++_, _∷_}
 use lib.Dec.{T, eqb, eqb·suc-zero, not-T}
 use lib.ListN.{getD, length}
 use Rattle.game.specs.Grid.{Grid, mine, safe, size, square}
@@ -169,6 +169,21 @@ places-at g i k (suc n) (o ∷ os) h =
     go : (b : Bool) → has (k + suc n) (elim b [ true ↦ k ∷ places g i (suc k) os | false ↦ places g i (suc k) os ]) ≡ has (k + suc n) (places g i (suc k) os)
     go true = ap (λ (b : Bool). b || has (k + suc n) (places g i (suc k) os)) (eqb-no (k + suc n) k (λ e. omega arith))
     go false = refl
+
+-- one opening more adds its number, if it holds the cell
+pub places-snoc : (g : Grid) (i k : ℕ) (os : List (List ℕ)) (o : List ℕ) → places g i k (os ++ (o ∷ [])) ≡ places g i k os ++ cond (holds g i o) ((k + length os) ∷ []) []
+places-snoc g i k [] o = go (holds g i o)
+  where
+    go : (b : Bool) → _≡_ {A = List ℕ} (elim b [ true ↦ k ∷ [] | false ↦ [] ]) (cond b ((k + 0) ∷ []) [])
+    go true = ap (λ (m : ℕ). m ∷ []) (sym (add-zero k))
+    go false = refl
+places-snoc g i k (p ∷ os) o = go (holds g i p) (places-snoc g i (suc k) os o ∙ ap (λ (m : ℕ). places g i (suc k) os ++ cond (holds g i o) (m ∷ []) []) (suc-across k (length os)))
+  where
+    go : (b : Bool) → places g i (suc k) (os ++ (o ∷ [])) ≡ places g i (suc k) os ++ cond (holds g i o) ((k + suc (length os)) ∷ []) []
+        → _≡_ {A = List ℕ} (elim b [ true ↦ k ∷ places g i (suc k) (os ++ (o ∷ [])) | false ↦ places g i (suc k) (os ++ (o ∷ [])) ])
+        ((elim b as (λ x. List ℕ) [ true ↦ k ∷ places g i (suc k) os | false ↦ places g i (suc k) os ]) ++ cond (holds g i o) ((k + suc (length os)) ∷ []) [])
+    go true e = ap (λ (l : List ℕ). k ∷ l) e
+    go false e = e
 
 places-ordered : (g : Grid) (i k : ℕ) (os : List (List ℕ)) → Ordered _<_ (places g i k os)
 places-ordered g i k [] = tt

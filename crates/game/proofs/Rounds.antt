@@ -1,5 +1,5 @@
 -- Demand 3 of greedy and openings-first: their steps fit, and they end with all safe cells open. Assumes nothing.
-use Prim.Native.Nat.{ℕ, _+_, _<_, _≤_, suc, zero}
+use Prim.Native.Nat.{ℕ, _<_, _≤_, suc, zero}
 use native.Mathlib.Omega.{arith}
 use native.Mathlib.Decide.{decLe}
 use mathlib.Core.Path.{_∙_, _≡_, ap, refl}

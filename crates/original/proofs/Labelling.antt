@@ -1,7 +1,6 @@
 -- initboard's second loop numbers the openings as they are gathered, so each cell ends with its first and second label. Assumes nothing.
-use Prim.Native.Nat.{ℕ, _+_, _<_, _≤_, suc}
+use Prim.Native.Nat.{ℕ, _+_, _<_, _≤_}
 use native.Mathlib.Omega.{arith}
-use native.Mathlib.Nat.{add-zero}
 use mathlib.Core.Path.{_∙_, _≡_, ap, ap₂, refl, sym}
 use mathlib.Core.Bool.{Bool, _&&_, _||_, cond, false, not, true}
 use mathlib.Core.List.{List, [], _++_, _∷_}
@@ -13,7 +12,7 @@ use Rattle.game.specs.Lists.{Each, fold, has, range, some-of}
 use Rattle.game.specs.Openings.{firstLabel, gather, holds, joinedTo, labels, openings, places, secondLabel}
 use Rattle.original.specs.Cells.{Cells, Opened, Zcell, at, process-opening, set-opening}
 use Rattle.game.proofs.Chains.{joined-last, joined-sym}
-use Rattle.game.proofs.Labels.{holds-zero, places-from, places-none}
+use Rattle.game.proofs.Labels.{holds-zero, places-from, places-none, places-snoc}
 use Rattle.game.proofs.Members.{at-most, first-of, rest-of}
 use Rattle.game.proofs.Openings.{Full, Good, In, good-gather, good-none}
 use Rattle.game.proofs.Reveal.{zero-safe}
@@ -25,23 +24,6 @@ use Rattle.original.proofs.Spreads.{Begun, first-of-two, met, second-of
 use Rattle.original.proofs.Tables.{Table, table-ext}
 
 -- ---- places of the openings that hold a cell
-
-places-snoc : (g : Grid) (i k : ℕ) (os : List (List ℕ)) (o : List ℕ) → places g i k (os ++ (o ∷ [])) ≡ places g i k os ++ cond (holds g i o) ((k + length os) ∷ []) []
-places-snoc g i k [] o = go (holds g i o)
-  where
-    go : (b : Bool) → _≡_ {A = List ℕ} (elim b [ true ↦ k ∷ [] | false ↦ [] ]) (cond b ((k + 0) ∷ []) [])
-    go true = ap (λ (m : ℕ). m ∷ []) (sym (add-zero k))
-    go false = refl
-places-snoc g i k (p ∷ os) o = go (holds g i p) (places-snoc g i (suc k) os o ∙ ap (λ (m : ℕ). places g i (suc k) os ++ cond (holds g i o) (m ∷ []) []) next)
-  where
-    next : suc k + length os ≡ k + suc (length os)
-    next = omega arith
-
-    go : (b : Bool) → places g i (suc k) (os ++ (o ∷ [])) ≡ places g i (suc k) os ++ cond (holds g i o) ((k + suc (length os)) ∷ []) []
-        → _≡_ {A = List ℕ} (elim b [ true ↦ k ∷ places g i (suc k) (os ++ (o ∷ [])) | false ↦ places g i (suc k) (os ++ (o ∷ [])) ])
-        ((elim b as (λ x. List ℕ) [ true ↦ k ∷ places g i (suc k) os | false ↦ places g i (suc k) os ]) ++ cond (holds g i o) ((k + suc (length os)) ∷ []) [])
-    go true e = ap (λ (l : List ℕ). k ∷ l) e
-    go false e = e
 
 -- the first two of a list to which one more may come
 first-more : (op : ℕ) (m : Bool) (ls : List ℕ) → ((x : ℕ) → T (has x ls) → 1 ≤ x) → getD (ls ++ cond m (op ∷ []) []) 0 0 ≡ first-of-two op m (getD ls 0 0)

@@ -7,11 +7,11 @@ use mathlib.Core.Bool.{Bool, _&&_, _||_, cond, false, not, true}
 use mathlib.Core.Option.{none}
 use lib.Dec.{eqb}
 use lib.IntN.{+ℤ-comm, _+ℤ_, _-ℤ_, negℤ, negℤ-+ℤ, pos, ℤ}
-use lib.ListN.{getD, getD-replicate, length}
+use lib.ListN.{length}
 use Rattle.game.specs.Grid.{Grid, cells, mine, number, safe, size, square, zeroCell}
 use Rattle.game.specs.Lists.{bit, count, fold, has, range}
 use Rattle.game.specs.Openings.{firstLabel, labels, openings, secondLabel, unlabelled}
-use Rattle.game.specs.Position.{closed, gain, premium, untouched}
+use Rattle.game.specs.Position.{gain, premium, untouched}
 use Rattle.original.specs.Cells.{Cells, Zcell, add-premium, around, at, build-cells-ref, getadj3bv, initboard, set-number, set-opening, with-premium}
 use Rattle.original.specs.Entries.{prepared}
 use Rattle.game.proofs.Counts.{count-ext, count-none}
@@ -37,10 +37,6 @@ adjacent g i =
     (count (λ j. safe g j && eqb (firstLabel g j) 0) (square g i) + bit (not (eqb (firstLabel g i) 0)) + bit (not (eqb (secondLabel g i) 0)))
 
 -- ---- it is what a cell gains before any move
-
--- all cells are closed before any move
-pub untouched-at : (g : Grid) (j : ℕ) → j < size g → getD (untouched g) j 0 ≡ 0
-untouched-at g j h = getD-replicate (size g) j 0 0 h
 
 adjacent-gain : (g : Grid) (i : ℕ) → i < size g → adjacent g i ≡ gain g (untouched g) i
 unfolding adjacent
