@@ -1,7 +1,7 @@
 -- What a step chooses among: the cells of highest premium, exactly; and while a safe cell is closed, there is something to choose. Assumes nothing.
 use Prim.Native.Nat.{ℕ, _-_, _<_, _≤_, suc, zero}
 use native.Mathlib.Omega.{arith}
-use mathlib.Core.Path.{_≡_, refl}
+use mathlib.Core.Path.{_≡_, ap, refl}
 use mathlib.Core.Logic.{_⊎_, inl, inr, ⊎-elim}
 use mathlib.Core.Bool.{Bool, _&&_, _||_, cond, false, not, true}
 use mathlib.Core.List.{List, [], _∷_, map}
@@ -12,7 +12,7 @@ use Rattle.game.specs.Grid.{Grid, cells, safe, size, zeroCell}
 use Rattle.game.specs.Lists.{has, some-of}
 use Rattle.game.specs.Openings.{holds, openings, unlabelled}
 use Rattle.game.specs.Position.{Position, Tidy, closed, closedSafe, cost, gain, opened, premium}
-use Rattle.game.specs.Rounds.{choice, chords, clicks, closedUnitCell, highest, leastChosen, looked, same, topCells, unitCells, width}
+use Rattle.game.specs.Rounds.{Choice, choice, chords, clicks, closedUnitCell, highest, leastChosen, looked, same, topCells, unitCells, width}
 use Rattle.game.proofs.Counts.{count-find}
 use Rattle.game.proofs.Labels.{labelled→zero}
 use Rattle.game.proofs.Members.{first-of, has-cases, has-keep, has-length, keep-has, rest-of}
@@ -172,6 +172,20 @@ unit-some g s f h = go (unlabelled g j) refl
             which = inl (z .none);
           }),
         )
+
+-- where no premium is 0 or more the choice is for one L
+pub choice-none : (openedOnly : Bool) (g : Grid) (s : Position) → topCells openedOnly g s ≡ [] → choice openedOnly g s ≡ clicks (unitCells g s)
+unfolding choice
+choice-none openedOnly g s e = ap (λ (ts : List ℕ). elim ts [ [] ↦ clicks (unitCells g s) | x ∷ xs ↦ chords (x ∷ xs) ]) e
+
+-- else it is among the cells of highest premium
+pub choice-some : (openedOnly : Bool) (g : Grid) (s : Position) (x : ℕ) → T (has x (topCells openedOnly g s)) → choice openedOnly g s ≡ chords (topCells openedOnly g s)
+unfolding choice
+choice-some openedOnly g s x t = go (topCells openedOnly g s) t
+  where
+    go : (ts : List ℕ) → T (has x ts) → _≡_ {A = Choice} (elim ts [ [] ↦ clicks (unitCells g s) | x ∷ xs ↦ chords (x ∷ xs) ]) (chords ts)
+    go [] u = absurd u
+    go (y ∷ ys) u = refl
 
 -- the exit without a move is never reached: there is always something to choose
 pub never-stuck : (openedOnly : Bool) (g : Grid) (s : Position) → Tidy g s → 1 ≤ closedSafe g s → 1 ≤ width (choice openedOnly g s)

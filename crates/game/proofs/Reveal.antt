@@ -61,6 +61,14 @@ reveal-none g s c n = go (reveal g s c) (revealed g s c)
 pub getD-sweep : (g : Grid) (s : Position) (c j : ℕ) → j < size g → getD (sweep g s c) j 0 ≡ cond (holds g j (joinedTo g c)) 1 (getD s j 0)
 getD-sweep g s c j h = getD-cells g (λ j. cond (holds g j (joinedTo g c)) 1 (getD s j 0)) j h
 
+-- what is closed after a sweep was closed before it
+pub sweep-closed : (g : Grid) (s : Position) (c j : ℕ) → j < size g → T (closed (sweep g s c) j) → T (closed s j)
+sweep-closed g s c j h t = go (holds g j (joinedTo g c)) (getD s j 0) (subst (λ (k : ℕ). T (eqb k 0)) (getD-sweep g s c j h) t)
+  where
+    go : (b : Bool) (k : ℕ) → T (eqb (cond b 1 k) 0) → T (eqb k 0)
+    go true k u = absurd u
+    go false k u = u
+
 pub length-sweep : (g : Grid) (s : Position) (c : ℕ) → length (sweep g s c) ≡ size g
 length-sweep g s c = length-map (cells g) (λ j. cond (holds g j (joinedTo g c)) 1 (getD s j 0)) ∙ length-cells g
 

@@ -34,6 +34,14 @@ pub and-both : (a b : Bool) → T a → T b → T (a && b)
 and-both true b s t = t
 and-both false b s t = absurd s
 
+pub and-yes : (a b : Bool) → (a && b) ≡ true → (a ≡ true) × (b ≡ true)
+and-yes true b e = (refl, e)
+and-yes false b e = absurd (subst T (sym e) tt)
+
+pub and-no : (a b : Bool) → b ≡ false → (a && b) ≡ false
+and-no true b e = e
+and-no false b e = refl
+
 pub T→true : (b : Bool) → T b → b ≡ true
 T→true true t = refl
 T→true false t = absurd t
