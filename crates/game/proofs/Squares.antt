@@ -1,7 +1,8 @@
 -- A cell's square by rows and columns: exactly the cells one row and one column away at most, each once, by row, then column. Assumes nothing.
 use Prim.Native.Nat.{ℕ, _*_, _+_, _-_, _<_, _≤_, min, suc, zero}
 use native.Mathlib.Omega.{arith}
-use native.Mathlib.Nat.{add-zero, div-add-mod', div-eq-of-lt, div-lt-iff-lt-mul, mod-eq-of-lt, mod-lt, mul-add-div-right, mul-add-mod-self-right, mul-comm, mul-le-mul-right, zero-add}
+use native.Mathlib.Nat.{add-zero, div-add-mod', div-eq-of-lt, div-lt-iff-lt-mul, mod-eq-of-lt, mod-lt, mul-add-div-right, mul-add-mod-self-right, mul-comm, mul-le-mul-right, suc-mul, zero-add}
+use native.Mathlib.Numerals.{add-one}
 use mathlib.Core.Path.{_∙_, _≡_, ap, subst, sym}
 use mathlib.Core.Logic.{_⊎_, inl, inr, ⊎-elim}
 use mathlib.Core.Bool.{Bool, _&&_}
@@ -55,6 +56,10 @@ index-of g i = div-add-mod' i (g .rows)
 
 pub index-lt : (g : Grid) (r c : ℕ) → r < g .rows → c < g .columns → index g r c < size g
 index-lt g r c h k = omega (arith, mul-le-mul-right (g .rows) k)
+
+-- where the next column begins
+pub next-column : (rows column : ℕ) → column * rows + rows ≡ (column + 1) * rows
+next-column rows column = sym (rw (add-one, suc-mul))
 
 -- ---- the square
 
