@@ -1,8 +1,8 @@
 -- The work area by its places: each cell's five numbers, and what was there past them. Assumes nothing.
-use Prim.Native.Nat.{ℕ, _%_, _*_, _+_, _-_, _/_, _<_, _≤_, suc, zero}
+use Prim.Native.Nat.{ℕ, _%_, _*_, _+_, _-_, _/_, _<_, _≤_, suc, zero, zero-le}
 use native.Mathlib.Omega.{arith}
 use native.Mathlib.Decide.{ℕ-discrete, decLe}
-use native.Mathlib.Nat.{add-zero, zero-add}
+use native.Mathlib.Nat.{add-sub-of-le, add-zero, zero-add}
 use mathlib.Core.Path.{_∙_, _≡_, ap, refl, subst, sym}
 use mathlib.Core.Logic.{_⊎_, inl, inr}
 use mathlib.Core.List.{List, [], _∷_}
@@ -11,6 +11,7 @@ use lib.ListN.{List·getD-append, drop, getD, length, length-append, length-drop
 use lib.Seq.{ext-getD, getD-append-add, getD-drop, getD-set-other, getD-set-same, sets}
 use Rattle.game.specs.Area.{begun, laid}
 use Rattle.game.specs.Lists.{concat-map, fold, from, range}
+use Rattle.game.proofs.Members.{suc-across}
 
 -- ---- a run that begins with other entries
 
@@ -47,10 +48,7 @@ module _ {A : Type 0} (d : A) where
       ap (λ (m : ℕ). getD (sets (set l i v) (suc i) vs) m d) (add-zero i) ∙ sets-below vs (set l i v) (suc i) i (omega arith)
       ∙ getD-set-same l i v d (omega arith)
   sets-here (v ∷ vs) l i (suc k) h b =
-      ap (λ (m : ℕ). getD (sets (set l i v) (suc i) vs) m d) (up i k) ∙ sets-here vs (set l i v) (suc i) k (omega (arith, length-set l i v)) (omega arith)
-    where
-      up : (i k : ℕ) → i + suc k ≡ suc i + k
-      up i k = omega arith
+      ap (λ (m : ℕ). getD (sets (set l i v) (suc i) vs) m d) (sym (suc-across i k)) ∙ sets-here vs (set l i v) (suc i) k (omega (arith, length-set l i v)) (omega arith)
 
 -- ---- five numbers a cell
 
@@ -75,13 +73,10 @@ module _ (five : ℕ → List ℤ) (len : (i : ℕ) → length (five i) ≡ 5) w
       ap (λ (m : ℕ). getD (concat-map five (from a (suc n))) m (pos 0)) onwards
       ∙ getD-append-add (five a) (concat-map five (from (suc a) n)) (5 * j + k) (pos 0)
       ∙ front-at n (suc a) j k (omega arith) l
-      ∙ ap (λ (m : ℕ). getD (five m) k (pos 0)) there
+      ∙ ap (λ (m : ℕ). getD (five m) k (pos 0)) (suc-across a j)
     where
       onwards : 5 * suc j + k ≡ length (five a) + (5 * j + k)
       onwards = omega (arith, len a)
-
-      there : suc a + j ≡ a + suc j
-      there = omega arith
 
   -- the number k of the cell i
   pub laid-at : (n : ℕ) (old : List ℤ) (i k : ℕ) → i < n → k < 5 → getD (laid five n old) (5 * i + k) (pos 0) ≡ getD (five i) k (pos 0)
@@ -149,20 +144,14 @@ module _ (five : ℕ → List ℤ) (len : (i : ℕ) → length (five i) ≡ 5) (
     laid-from : (k i : ℕ) (w : List ℤ) → i + k ≤ n → LaidTo i w → LaidTo (i + k) (fold step w (from i k))
     laid-from zero i w h l = subst (λ (m : ℕ). LaidTo m w) (sym (add-zero i)) l
     laid-from (suc k) i w h l =
-        subst (λ (m : ℕ). LaidTo m (fold step w (from i (suc k)))) (up i k) (laid-from k (suc i) (step w i) (omega arith) (one-laid w i (omega arith) l))
-      where
-        up : (i k : ℕ) → suc i + k ≡ i + suc k
-        up i k = omega arith
+        subst (λ (m : ℕ). LaidTo m (fold step w (from i (suc k)))) (suc-across i k) (laid-from k (suc i) (step w i) (omega arith) (one-laid w i (omega arith) l))
 
     -- together they are laid
     pub laid-fold : fold step old (range 0 n) ≡ laid five n old
     laid-fold =
-        let l = subst (λ (m : ℕ). LaidTo m (fold step old (range 0 n))) (all n)
+        let l = subst (λ (m : ℕ). LaidTo m (fold step old (range 0 n))) (add-sub-of-le zero-le)
         (laid-from (n - 0) 0 old (omega arith) (record { long = refl; done = λ j k a b. absurd (omega arith); rest = λ m a. refl })) in
         laid-only five len n old (fold step old (range 0 n)) room (l .long) (l .done) (l .rest)
-      where
-        all : (n : ℕ) → 0 + (n - 0) ≡ n
-        all n = omega arith
 
 -- numbers laid over numbers laid: the later ones stand
 pub laid-again : (five other : ℕ → List ℤ) → ((i : ℕ) → length (five i) ≡ 5) → ((i : ℕ) → length (other i) ≡ 5) → (n : ℕ) (old : List ℤ) → 5 * n ≤ length old

@@ -1,7 +1,7 @@
 -- What a step chooses among: the cells of highest premium, exactly; and while a safe cell is closed, there is something to choose. Assumes nothing.
 use Prim.Native.Nat.{ℕ, _-_, _<_, _≤_, suc, zero}
 use native.Mathlib.Omega.{arith}
-use mathlib.Core.Path.{_≡_, refl, subst}
+use mathlib.Core.Path.{_≡_, ap, refl}
 use mathlib.Core.Logic.{_⊎_, inl, inr, ⊎-elim}
 use mathlib.Core.Bool.{Bool, _&&_, _||_, cond, false, not, true}
 use mathlib.Core.List.{List, [], _∷_, map}
@@ -12,18 +12,15 @@ use Rattle.game.specs.Grid.{Grid, cells, safe, size, zeroCell}
 use Rattle.game.specs.Lists.{has, some-of}
 use Rattle.game.specs.Openings.{holds, openings, unlabelled}
 use Rattle.game.specs.Position.{Position, Tidy, closed, closedSafe, cost, gain, opened, premium}
-use Rattle.game.specs.Rounds.{choice, chords, clicks, closedUnitCell, highest, leastChosen, looked, same, topCells, unitCells, width}
+use Rattle.game.specs.Rounds.{Choice, choice, chords, clicks, closedUnitCell, highest, leastChosen, looked, same, topCells, unitCells, width}
 use Rattle.game.proofs.Counts.{count-find}
 use Rattle.game.proofs.Labels.{labelled→zero}
 use Rattle.game.proofs.Members.{first-of, has-cases, has-keep, has-length, keep-has, rest-of}
 use Rattle.game.proofs.Reveal.{zero-safe}
-use Rattle.game.proofs.Squares.{cells→, close-sym, square→, →cells}
-use Rattle.game.proofs.Truth.{and-both, and-left, and-right, or-cases, or-left, or-right}
+use Rattle.game.proofs.Squares.{cells→, →cells}
+use Rattle.game.proofs.Truth.{and-both, and-left, and-not, and-right, or-cases, or-left, or-right}
 
 -- ---- the order of whole numbers
-
-le-refl : (a : ℤ) → T (leZ a a)
-le-refl a = ≤ℤ-refl a .le
 
 le-total : (a b : ℤ) → T (not (leZ a b)) → T (leZ b a)
 le-total (pos a) (pos b) t = lt→leb b a (nleb→lt a b t)
@@ -34,14 +31,14 @@ le-total (pos a) (negsuc b) t = tt
 le-total (negsuc a) (pos b) t = absurd t
 le-total (negsuc a) (negsuc b) t = le→leb a b (omega (arith, nleb→lt b a t))
 
-le-trans : (a b c : ℤ) → T (leZ a b) → T (leZ b c) → T (leZ a c)
-le-trans (pos a) (pos b) (pos c) t u = le→leb a c (omega (arith, leb→le a b t, leb→le b c u))
-le-trans (pos a) (pos b) (negsuc c) t u = absurd u
-le-trans (pos a) (negsuc b) c t u = absurd t
-le-trans (negsuc a) (pos b) (pos c) t u = tt
-le-trans (negsuc a) (pos b) (negsuc c) t u = absurd u
-le-trans (negsuc a) (negsuc b) (pos c) t u = tt
-le-trans (negsuc a) (negsuc b) (negsuc c) t u = le→leb c a (omega (arith, leb→le b a t, leb→le c b u))
+pub leZ-trans : (a b c : ℤ) → T (leZ a b) → T (leZ b c) → T (leZ a c)
+leZ-trans (pos a) (pos b) (pos c) t u = le→leb a c (omega (arith, leb→le a b t, leb→le b c u))
+leZ-trans (pos a) (pos b) (negsuc c) t u = absurd u
+leZ-trans (pos a) (negsuc b) c t u = absurd t
+leZ-trans (negsuc a) (pos b) (pos c) t u = tt
+leZ-trans (negsuc a) (pos b) (negsuc c) t u = absurd u
+leZ-trans (negsuc a) (negsuc b) (pos c) t u = tt
+leZ-trans (negsuc a) (negsuc b) (negsuc c) t u = le→leb c a (omega (arith, leb→le b a t, leb→le c b u))
 
 -- a difference of 0 or more
 difference-pays : (a b : ℕ) → T (leZ leastChosen (pos a -ℤ pos b)) → b ≤ a
@@ -61,8 +58,8 @@ highest-bound f (y ∷ xs) x t = go (leZ (f y) (highest (map f xs))) refl (λ r.
     go : (b : Bool) → leZ (f y) (highest (map f xs)) ≡ b → (T (has x xs) → T (leZ (f x) (highest (map f xs)))) → T (leZ (f x) (cond b (highest (map f xs)) (f y)))
     go true e r = has-cases x y xs (λ q. rw q (rw e tt)) r t
     go false e r =
-        has-cases x y xs (λ q. rw q (le-refl (f y)))
-        (λ u. le-trans (f x) (highest (map f xs)) (f y) (r u) (le-total (f y) (highest (map f xs)) (rw e tt))) t
+        has-cases x y xs (λ q. rw q (≤ℤ-refl (f y) .le))
+        (λ u. leZ-trans (f x) (highest (map f xs)) (f y) (r u) (le-total (f y) (highest (map f xs)) (rw e tt))) t
 
 highest-least : (f : ℕ → ℤ) (xs : List ℕ) (z : ℤ) → T (leZ (negsuc 0) z) → ((x : ℕ) → T (has x xs) → T (leZ (f x) z)) → T (leZ (highest (map f xs)) z)
 highest-least f [] z b h = b
@@ -86,8 +83,8 @@ top→ openedOnly g s x t =
     let u = and-right (leZ (premium g s x) m) (leZ m (premium g s x)) (and-right (leZ leastChosen m) (same (premium g s x) m) (a .1)) in
     record {
       is-looked = a .0;
-      reaches = le-trans leastChosen m (premium g s x) (and-left (leZ leastChosen m) (same (premium g s x) m) (a .1)) u;
-      none-higher = λ y v. le-trans (premium g s y) m (premium g s x) (highest-bound (premium g s) (looked openedOnly g s) y v) u;
+      reaches = leZ-trans leastChosen m (premium g s x) (and-left (leZ leastChosen m) (same (premium g s x) m) (a .1)) u;
+      none-higher = λ y v. leZ-trans (premium g s y) m (premium g s x) (highest-bound (premium g s) (looked openedOnly g s) y v) u;
     }
   where
     m : ℤ
@@ -97,9 +94,9 @@ pub →top : (openedOnly : Bool) (g : Grid) (s : Position) (x : ℕ) → Top ope
 unfolding topCells
 →top openedOnly g s x p =
     let up = highest-bound (premium g s) (looked openedOnly g s) x (p .is-looked) in
-    let down = highest-least (premium g s) (looked openedOnly g s) (premium g s x) (le-trans (negsuc 0) leastChosen (premium g s x) tt (p .reaches)) (p .none-higher) in
+    let down = highest-least (premium g s) (looked openedOnly g s) (premium g s x) (leZ-trans (negsuc 0) leastChosen (premium g s x) tt (p .reaches)) (p .none-higher) in
     has-keep (λ i. leZ leastChosen m && same (premium g s i) m) x (looked openedOnly g s) (p .is-looked)
-    (and-both (leZ leastChosen m) (same (premium g s x) m) (le-trans leastChosen (premium g s x) m (p .reaches) up)
+    (and-both (leZ leastChosen m) (same (premium g s x) m) (leZ-trans leastChosen (premium g s x) m (p .reaches) up)
     (and-both (leZ (premium g s x) m) (leZ m (premium g s x)) up down))
   where
     m : ℤ
@@ -162,15 +159,10 @@ unit-some g s f h = go (unlabelled g j) refl
     cj : T (closed s j)
     cj = and-right (safe g j) (closed s j) (w .2)
 
-    labelled : (a b : Bool) → T a → (a && not b) ≡ false → T b
-    labelled true true t e = tt
-    labelled true false t e = subst T e tt
-    labelled false b t e = absurd t
-
     go : (b : Bool) → unlabelled g j ≡ b → (i : ℕ) × T (has i (unitCells g s))
     go true e = (j, →unit g s j (record { inside = hj; is-safe = sj; is-closed = cj; which = inr (rw e tt) }))
     go false e =
-        let k = labelled→zero g j (labelled (safe g j) (some-of (holds g j) (openings g)) sj e) in
+        let k = labelled→zero g j (and-not (safe g j) (some-of (holds g j) (openings g)) sj e) in
         let z = k .2 in (
           k .0,
           →unit g s (k .0) (record {
@@ -180,6 +172,20 @@ unit-some g s f h = go (unlabelled g j) refl
             which = inl (z .none);
           }),
         )
+
+-- where no premium is 0 or more the choice is for one L
+pub choice-none : (openedOnly : Bool) (g : Grid) (s : Position) → topCells openedOnly g s ≡ [] → choice openedOnly g s ≡ clicks (unitCells g s)
+unfolding choice
+choice-none openedOnly g s e = ap (λ (ts : List ℕ). elim ts [ [] ↦ clicks (unitCells g s) | x ∷ xs ↦ chords (x ∷ xs) ]) e
+
+-- else it is among the cells of highest premium
+pub choice-some : (openedOnly : Bool) (g : Grid) (s : Position) (x : ℕ) → T (has x (topCells openedOnly g s)) → choice openedOnly g s ≡ chords (topCells openedOnly g s)
+unfolding choice
+choice-some openedOnly g s x t = go (topCells openedOnly g s) t
+  where
+    go : (ts : List ℕ) → T (has x ts) → _≡_ {A = Choice} (elim ts [ [] ↦ clicks (unitCells g s) | x ∷ xs ↦ chords (x ∷ xs) ]) (chords ts)
+    go [] u = absurd u
+    go (y ∷ ys) u = refl
 
 -- the exit without a move is never reached: there is always something to choose
 pub never-stuck : (openedOnly : Bool) (g : Grid) (s : Position) → Tidy g s → 1 ≤ closedSafe g s → 1 ≤ width (choice openedOnly g s)

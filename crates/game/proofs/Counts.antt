@@ -18,6 +18,9 @@ bit-le true true h = omega arith
 bit-le true false h = absurd (h tt)
 bit-le false b h = omega arith
 
+pub bit-small : (b : Bool) → bit b ≤ 1
+bit-small b = bit-le b true (λ t. tt)
+
 bit-same : (a b : Bool) → bit b ≤ bit a → T b → T a
 bit-same true b h t = tt
 bit-same false true h t = absurd (omega arith)
@@ -38,9 +41,9 @@ none-counted f [] e x t u = t
 none-counted f (y ∷ xs) e x t u =
     has-cases x y xs (λ q. let h = bit-yes (f y) (rw q at u) in absurd (omega arith)) (λ r. none-counted f xs (omega arith) x r u) t
 
-pub count-le : (f : ℕ → Bool) (xs : List ℕ) → count f xs ≤ length xs
+pub count-le {ℓ} : {A : Type ℓ} (f : A → Bool) (xs : List A) → count f xs ≤ length xs
 count-le f [] = omega arith
-count-le f (x ∷ xs) = omega (arith, bit-le (f x) true (λ t. tt), count-le f xs)
+count-le f (x ∷ xs) = omega (arith, bit-small (f x), count-le f xs)
 
 pub count-mono : (f h : ℕ → Bool) (xs : List ℕ) → ((x : ℕ) → T (f x) → T (h x)) → count f xs ≤ count h xs
 count-mono f h [] m = omega arith

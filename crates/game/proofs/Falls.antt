@@ -3,23 +3,23 @@ use Prim.Native.Nat.{ℕ, _+_, _<_, _≤_}
 use native.Mathlib.Omega.{arith}
 use native.Mathlib.Decide.{ℕ-discrete, decLt}
 use mathlib.Core.Path.{_≡_, ap₂, subst}
-use mathlib.Core.Bool.{Bool, _&&_, cond, false, true}
+use mathlib.Core.Bool.{_&&_}
 use mathlib.Core.List.{List, [], _∷_}
 use lib.Dec.{T, eqb, ltb}
-use lib.ListN.{List·getD-eq-default, getD, length, set}
+use lib.ListN.{List·getD-eq-default, length, set}
 use lib.Seq.{getD-set-other}
 use Rattle.game.specs.Grid.{Grid, cells, mine, safe, size, square}
-use Rattle.game.specs.Lists.{bit, count, fold}
+use Rattle.game.specs.Lists.{fold}
 use Rattle.game.specs.Moves.{AllLegal, Move, after, chord, flag, left, legal, play, reveal}
-use Rattle.game.specs.Openings.{holds, joinedTo, openings, threeBV, unlabelled}
+use Rattle.game.specs.Openings.{openings, threeBV, unlabelled}
 use Rattle.game.specs.Position.{Position, Tidy, cellUnit, closed, closedSafe, closedUnits, openingClosed}
 use Rattle.game.specs.Rounds.{Step, afterStep}
 use Rattle.game.proofs.Choices.{unit→}
-use Rattle.game.proofs.Counts.{count-each, count-ext, count-mono, count-same, each-map}
+use Rattle.game.proofs.Counts.{count-each, count-ext, count-le, count-mono, count-same, each-map}
 use Rattle.game.proofs.Members.{all-ext}
 use Rattle.game.proofs.Openings.{good}
 use Rattle.game.proofs.Tidy.{play-tidy, tidy-even}
-use Rattle.game.proofs.Reveal.{Revealed, getD-sweep, opens, reveal-length, revealed, stays, sweeps, unlabelled-safe, zero-safe}
+use Rattle.game.proofs.Reveal.{Revealed, opens, reveal-length, revealed, stays, sweep-closed, sweeps, unlabelled-safe, zero-safe}
 use Rattle.game.proofs.Runs.{Fits, fit-legal, fit-takes, moves-cost, pays, unit}
 use Rattle.game.proofs.Squares.{cells→, →cells}
 use Rattle.game.proofs.Truth.{and-both, and-left, and-right, and-under, iff}
@@ -44,16 +44,12 @@ set-fewer s i v c j t =
 reveal-fewer : (g : Grid) (s : Position) (i : ℕ) → length s ≡ size g → Fewer s (reveal g s i)
 reveal-fewer g s i l = go (reveal g s i) (revealed g s i)
   where
-    swept : (b : Bool) (k : ℕ) → T (eqb (cond b 1 k) 0) → T (eqb k 0)
-    swept true k t = absurd t
-    swept false k t = t
-
     go : (p : Position) → Revealed g s i p → Fewer s p
     go p (stays n) j t = t
     go p (opens a b n) j t = set-fewer s i 1 b j t
     go p (sweeps a b z) j t =
         elim (decLt j (size g)) [
-          | yes h ↦ swept (holds g j (joinedTo g i)) (getD s j 0) (subst (λ (k : ℕ). T (eqb k 0)) (getD-sweep g s i j h) t)
+          | yes h ↦ sweep-closed g s i j h t
           | no h ↦ past g s j l (omega arith)
         ]
 
@@ -113,14 +109,6 @@ step-pays g s t f (unit i u) =
 pub units-most : (g : Grid) (s : Position) → closedUnits g s ≤ threeBV g
 unfolding closedUnits threeBV
 units-most g s =
-    let a = at-most (openingClosed s) (openings g) in
+    let a = count-le (openingClosed s) (openings g) in
     let b = count-mono (cellUnit g s) (unlabelled g) (cells g) (λ i t. and-left (unlabelled g i) (closed s i) t) in
     omega arith
-  where
-    at-most : (f : List ℕ → Bool) (os : List (List ℕ)) → count f os ≤ length os
-    at-most f [] = omega arith
-    at-most f (o ∷ os) = let r = at-most f os in omega (arith, one (f o))
-      where
-        one : (b : Bool) → bit b ≤ 1
-        one true = omega arith
-        one false = omega arith

@@ -1,23 +1,23 @@
 -- Labels: which openings hold a cell. A 0-cell has exactly one, a mine none, any cell at most two in order; 0-cells share a label exactly when joined,
 -- and labels go up with the lowest 0-cell. Assumes nothing.
-use Prim.Native.Nat.{ℕ, _+_, _<_, _≤_, suc}
+use Prim.Native.Nat.{ℕ, _+_, _<_, _≤_, suc, zero}
 use native.Mathlib.Omega.{arith}
 use native.Mathlib.Nat.{add-zero}
 use mathlib.Core.Path.{_∙_, _≡_, ap, refl, subst, sym}
 use mathlib.Core.Logic.{_⊎_, inl, inr, ⊎-elim}
-use mathlib.Core.Bool.{Bool, _&&_, _||_, false, not, true}
-use mathlib.Core.List.{List, [], _∷_}
+use mathlib.Core.Bool.{Bool, _&&_, _||_, cond, false, not, true}
+use mathlib.Core.List.{List, [], _++_, _∷_}
 use lib.Dec.{T, eqb, eqb·suc-zero, not-T}
 use lib.ListN.{getD, length}
 use Rattle.game.specs.Grid.{Grid, mine, safe, size, square}
-use Rattle.game.specs.Lists.{Each, has, some-of}
+use Rattle.game.specs.Lists.{Each, bit, has, some-of}
 use Rattle.game.specs.Openings.{Joined, firstLabel, holds, labels, openings, places, secondLabel, unlabelled}
 use Rattle.game.proofs.Chains.{joined-close, joined-first, joined-last, joined-sym, three}
-use Rattle.game.proofs.Members.{has-cases, has-head, some-yes, yes-some}
+use Rattle.game.proofs.Members.{first-of, has-cases, has-head, rest-of, some-yes, suc-across, yes-some}
 use Rattle.game.proofs.Openings.{Apart, Full, In, covered, good}
 use Rattle.game.proofs.Orders.{Ordered}
 use Rattle.game.proofs.Squares.{Close, close-sym, in-own-square, self-close, square→}
-use Rattle.game.proofs.Truth.{iff, or-cases, or-left, or-right}
+use Rattle.game.proofs.Truth.{T→true, eqb-no, iff, no→false, or-cases, or-left, or-right}
 use Rattle.game.proofs.Zeros.{Zero, zero→}
 
 -- ---- at most two labels: of three 0-cells in one square two are joined
@@ -128,7 +128,8 @@ mine-none g i h m =
 
 -- ---- a cell without label, by its first label
 
-places-none : (g : Grid) (i k : ℕ) (os : List (List ℕ)) → eqb (getD (places g i (suc k) os) 0 0) 0 ≡ not (some-of (holds g i) os)
+-- a cell's first place is 0 exactly if no opening holds it
+pub places-none : (g : Grid) (i k : ℕ) (os : List (List ℕ)) → eqb (getD (places g i (suc k) os) 0 0) 0 ≡ not (some-of (holds g i) os)
 places-none g i k [] = refl
 places-none g i k (o ∷ os) = go (holds g i o) (places-none g i (suc k) os)
   where
@@ -144,7 +145,8 @@ first-label g i = ap (λ (b : Bool). safe g i && b) (sym (places-none g i 0 (ope
 
 -- ---- labels lie between 1 and the count of openings, and are in order
 
-places-from : (g : Grid) (i k : ℕ) (os : List (List ℕ)) → (x : ℕ) → T (has x (places g i k os)) → (k ≤ x) × (x < k + length os)
+-- a place lies between the first and the last
+pub places-from : (g : Grid) (i k : ℕ) (os : List (List ℕ)) → (x : ℕ) → T (has x (places g i k os)) → (k ≤ x) × (x < k + length os)
 places-from g i k [] x t = absurd t
 places-from g i k (o ∷ os) x t = go (holds g i o) t (places-from g i (suc k) os x)
   where
@@ -152,6 +154,36 @@ places-from g i k (o ∷ os) x t = go (holds g i o) t (places-from g i (suc k) o
         → (T (has x (places g i (suc k) os)) → (suc k ≤ x) × (x < suc k + length os)) → (k ≤ x) × (x < k + length (o ∷ os))
     go true u r = has-cases x k (places g i (suc k) os) (λ e. omega arith) (λ v. let h = r v in omega arith) u
     go false u r = let h = r u in omega arith
+
+-- the place n is listed exactly when the opening there holds the cell
+pub places-at : (g : Grid) (i k n : ℕ) (os : List (List ℕ)) → n < length os → has (k + n) (places g i k os) ≡ holds g i (getD os n [])
+places-at g i k n [] h = absurd (omega arith)
+places-at g i k zero (o ∷ os) h = ap (λ (x : ℕ). has x (places g i k (o ∷ os))) (add-zero k) ∙ go (holds g i o)
+  where
+    go : (b : Bool) → has k (elim b [ true ↦ k ∷ places g i (suc k) os | false ↦ places g i (suc k) os ]) ≡ b
+    go true = T→true (has k (k ∷ places g i (suc k) os)) (has-head k k (places g i (suc k) os) refl)
+    go false = no→false (has k (places g i (suc k) os)) (λ t. let p = places-from g i (suc k) os k t in omega arith)
+places-at g i k (suc n) (o ∷ os) h =
+    go (holds g i o) ∙ ap (λ (x : ℕ). has x (places g i (suc k) os)) (sym (suc-across k n)) ∙ places-at g i (suc k) n os (omega arith)
+  where
+    go : (b : Bool) → has (k + suc n) (elim b [ true ↦ k ∷ places g i (suc k) os | false ↦ places g i (suc k) os ]) ≡ has (k + suc n) (places g i (suc k) os)
+    go true = ap (λ (b : Bool). b || has (k + suc n) (places g i (suc k) os)) (eqb-no (k + suc n) k (λ e. omega arith))
+    go false = refl
+
+-- one opening more adds its number, if it holds the cell
+pub places-snoc : (g : Grid) (i k : ℕ) (os : List (List ℕ)) (o : List ℕ) → places g i k (os ++ (o ∷ [])) ≡ places g i k os ++ cond (holds g i o) ((k + length os) ∷ []) []
+places-snoc g i k [] o = go (holds g i o)
+  where
+    go : (b : Bool) → _≡_ {A = List ℕ} (elim b [ true ↦ k ∷ [] | false ↦ [] ]) (cond b ((k + 0) ∷ []) [])
+    go true = ap (λ (m : ℕ). m ∷ []) (sym (add-zero k))
+    go false = refl
+places-snoc g i k (p ∷ os) o = go (holds g i p) (places-snoc g i (suc k) os o ∙ ap (λ (m : ℕ). places g i (suc k) os ++ cond (holds g i o) (m ∷ []) []) (suc-across k (length os)))
+  where
+    go : (b : Bool) → places g i (suc k) (os ++ (o ∷ [])) ≡ places g i (suc k) os ++ cond (holds g i o) ((k + suc (length os)) ∷ []) []
+        → _≡_ {A = List ℕ} (elim b [ true ↦ k ∷ places g i (suc k) (os ++ (o ∷ [])) | false ↦ places g i (suc k) (os ++ (o ∷ [])) ])
+        ((elim b as (λ x. List ℕ) [ true ↦ k ∷ places g i (suc k) os | false ↦ places g i (suc k) os ]) ++ cond (holds g i o) ((k + suc (length os)) ∷ []) [])
+    go true e = ap (λ (l : List ℕ). k ∷ l) e
+    go false e = e
 
 places-ordered : (g : Grid) (i k : ℕ) (os : List (List ℕ)) → Ordered _<_ (places g i k os)
 places-ordered g i k [] = tt
@@ -164,6 +196,19 @@ places-ordered g i k (o ∷ os) = go (holds g i o) (places-ordered g i (suc k) o
 pub labels-range : (g : Grid) (i x : ℕ) → T (has x (labels g i)) → (1 ≤ x) × (x ≤ length (openings g))
 unfolding labels
 labels-range g i x t = let h = places-from g i 1 (openings g) x t in omega arith
+
+-- a cell's labels by its two numbers
+pub label-marks : (g : Grid) (i : ℕ) → i < size g → length (labels g i) ≡ bit (not (eqb (firstLabel g i) 0)) + bit (not (eqb (secondLabel g i) 0))
+label-marks g i h = go (labels g i) (at-most-two g i h) (λ x t. labels-range g i x t .0)
+  where
+    one : (x : ℕ) → 1 ≤ x → bit (not (eqb x 0)) ≡ 1
+    one x k = ap (λ (b : Bool). bit (not b)) (eqb-no x 0 (λ e. omega arith))
+
+    go : (ls : List ℕ) → length ls ≤ 2 → ((x : ℕ) → T (has x ls) → 1 ≤ x) → length ls ≡ bit (not (eqb (getD ls 0 0) 0)) + bit (not (eqb (getD ls 1 0) 0))
+    go [] l f = refl
+    go (a ∷ []) l f = omega (arith, one a (first-of a [] f))
+    go (a ∷ b ∷ []) l f = omega (arith, one a (first-of a (b ∷ []) f), one b (first-of b [] (rest-of a (b ∷ []) f)))
+    go (a ∷ b ∷ c ∷ ls) l f = absurd (omega arith)
 
 pub labels-ordered : (g : Grid) (i : ℕ) → Ordered _<_ (labels g i)
 unfolding labels
@@ -223,10 +268,7 @@ places-zero g a k (o ∷ os) z p e t =
     go true q u r =
         let n = none-held g a (suc k) os (apart-none g a os z (e .1) (λ v. p .0 a a (rw q tt) v (joined-close g a a z z (self-close g a)))) in
         ap (λ (l : List ℕ). k ∷ l) n ∙ ap (λ (m : ℕ). m ∷ []) (sym (add-zero k))
-    go false q u r = r u ∙ ap (λ (m : ℕ). m ∷ []) (next k (seat a os))
-      where
-        next : (m n : ℕ) → suc m + n ≡ m + suc n
-        next m n = omega arith
+    go false q u r = r u ∙ ap (λ (m : ℕ). m ∷ []) (suc-across k (seat a os))
 
 -- a 0-cell has exactly one label
 pub zero-label : (g : Grid) (a : ℕ) → Zero g a → labels g a ≡ (1 + seat a (openings g)) ∷ []

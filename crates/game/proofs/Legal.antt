@@ -22,9 +22,9 @@ use Rattle.game.proofs.Members.{all-give, all-has, first-of, has-keep, 
 use Rattle.game.proofs.Openings.{good}
 use Rattle.game.proofs.Orders.{once-keep}
 use Rattle.game.proofs.Owners.{owner}
-use Rattle.game.proofs.Reveal.{Revealed, no-zero-near, opens, revealed, stays, sweeps}
+use Rattle.game.proofs.Reveal.{Revealed, no-zero-near, opens, reveal-one, revealed, stays, sweeps}
 use Rattle.game.proofs.Squares.{close-sym, once-square, square→, →square}
-use Rattle.game.proofs.Truth.{and-both, and-left, and-right, eqb-no, eqb-yes, no→false}
+use Rattle.game.proofs.Truth.{T-other, and-both, and-left, and-right, eqb-no, eqb-yes, no→false}
 use Rattle.game.proofs.Units.{after-append}
 use Rattle.game.proofs.Zeros.{Zero}
 
@@ -112,20 +112,12 @@ record OpenedAt (g : Grid) (s t : Position) (i : ℕ) : Type 0 where
   others : (j : ℕ) → (j ≡ i → ⊥) → getD t j 0 ≡ getD s j 0
 
 module _ (g : Grid) (s : Position) (i : ℕ) (f : Tidy g s) (h : i < size g) (t : T (safe g i)) (n : T (zeroCell g i) → ⊥) where
-  reveal-one : T (closed s i) → reveal g s i ≡ set s i 1
-  reveal-one u = go (reveal g s i) (revealed g s i)
-    where
-      go : (p : Position) → Revealed g s i p → p ≡ set s i 1
-      go p (stays m) = absurd (m t u)
-      go p (opens a b m) = refl
-      go p (sweeps a b z) = absurd (n z)
-
   click-first : (b : Bool) → closed s i ≡ b → AllLegal g s (cond b (left i ∷ []) []) × OpenedAt g s (after g s (cond b (left i ∷ []) [])) i
   unfolding play
   click-first true e =
       let u : T (closed s i) = rw e tt in (
         (legal-left g s i h t u, tt),
-        subst (λ (p : Position). OpenedAt g s p i) (sym (reveal-one u))
+        subst (λ (p : Position). OpenedAt g s p i) (sym (reveal-one g s i t u n))
             (record {
               long = length-set s i 1 ∙ f .long;
               is-open = rw (getD-set-same s i 1 0 (omega (arith, f .long))) tt;
@@ -166,14 +158,10 @@ module _ (g : Grid) (s : Position) (i : ℕ) (f : Tidy g s) (h : i < size g) (t 
       no-mine : (j : ℕ) → T (mine g j) → j ≡ i → ⊥
       no-mine j u e = T-not (mine g i) t (rw e at u)
 
-      back : (a b : Bool) → a ≡ not b → T (not a) → T b
-      back a true e u = tt
-      back a false e u = subst (λ (c : Bool). T (not c)) e u
-
       shut : (j : ℕ) → T (has j ms) → T (closed s₁ j)
       shut j u =
           subst T (sym (ap (λ (v : ℕ). eqb v 0) (first .1 .others j (no-mine j (is-mine j u)))))
-          (back (flagged s j) (closed s j) (f .mines j (in-grid j u) (is-mine j u))
+          (T-other (flagged s j) (closed s j) (f .mines j (in-grid j u) (is-mine j u))
           (and-right (mine g j) (not (flagged s j)) (keep-has (unflagged g s) j (square g i) u .1)))
 
       at₂ : (j : ℕ) → j < size g → getD s₂ j 0 ≡ cond (has j ms) 2 (getD s₁ j 0)

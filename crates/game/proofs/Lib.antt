@@ -15,8 +15,11 @@ pub mod Premiums
 pub mod Tidy
 pub mod Choices
 pub mod Legal
+pub mod Reaches
 pub mod Runs
+pub mod Draws
 pub mod Rounds
+pub mod Randoms
 pub mod Falls
 pub mod Searches
 pub mod Ranges

@@ -2,7 +2,7 @@
 use Prim.Native.Nat.{ℕ, _*_, _+_, _-_, _<_, _≤_, suc, zero}
 use native.Mathlib.Omega.{arith}
 use native.Mathlib.Decide.{ℕ-discrete}
-use native.Mathlib.Nat.{add-zero, sub-zero, zero-add}
+use native.Mathlib.Nat.{add-sub-of-le, add-suc, add-zero, sub-self, sub-zero, suc-add, suc-mul, zero-add, zero-mul}
 use mathlib.Core.Path.{_∙_, _≡_, ap, refl, sym}
 use mathlib.Core.Logic.{_⊎_, inl, inr, ⊎-elim}
 use mathlib.Core.Bool.{Bool, _&&_, _||_, false, not, true}
@@ -30,6 +30,12 @@ first-of x xs h = h x (has-head x x xs refl)
 -- and of the rest
 pub rest-of : {P : ℕ → Type 0} (x : ℕ) (xs : List ℕ) → ((y : ℕ) → T (has y (x ∷ xs)) → P y) → (y : ℕ) → T (has y xs) → P y
 rest-of x xs h y t = h y (has-tail y x xs t)
+
+-- what no member is above, none at a place is
+pub at-most : (xs : List ℕ) (k m : ℕ) → ((x : ℕ) → T (has x xs) → x ≤ m) → getD xs k 0 ≤ m
+at-most [] k m h = omega arith
+at-most (x ∷ xs) zero m h = first-of x xs h
+at-most (x ∷ xs) (suc k) m h = at-most xs k m (rest-of x xs h)
 
 -- ---- two lists, one after the other
 
@@ -168,6 +174,17 @@ getD-has [] k h = absurd (omega arith)
 getD-has (x ∷ xs) zero h = has-head x x xs refl
 getD-has (x ∷ xs) (suc k) h = has-tail (getD xs k 0) x xs (getD-has xs k (omega arith))
 
+-- a number from 1 on that is read at a place is in the list
+pub getD-in : (ls : List ℕ) (k x : ℕ) → 1 ≤ x → getD ls k 0 ≡ x → T (has x ls)
+getD-in [] k x h e = absurd (omega arith)
+getD-in (y ∷ ls) zero x h e = has-head x y ls (sym e)
+getD-in (y ∷ ls) (suc k) x h e = has-tail x y ls (getD-in ls k x h e)
+
+-- a list that has none is empty
+pub none-there : (xs : List ℕ) → ((x : ℕ) → T (has x xs) → ⊥) → xs ≡ []
+none-there [] n = refl
+none-there (x ∷ xs) n = absurd (first-of x xs n)
+
 pub has-length : (x : ℕ) (xs : List ℕ) → T (has x xs) → 1 ≤ length xs
 has-length x [] t = absurd t
 has-length x (y ∷ xs) t = omega arith
@@ -181,28 +198,23 @@ fold-inv P f (x ∷ xs) h s p =
 
 -- ---- walks: one place more, and squares as rows of columns
 
+-- one more before is one more after
+pub suc-across : (a n : ℕ) → suc a + n ≡ a + suc n
+suc-across a n = suc-add a n ∙ sym (add-suc a n)
+
 from-more : (n a : ℕ) → from a (suc n) ≡ from a n ++ ((a + n) ∷ [])
 from-more zero a = ap (λ (k : ℕ). k ∷ []) (sym (add-zero a))
-from-more (suc n) a = ap (λ (l : List ℕ). a ∷ l) (from-more n (suc a) ∙ ap (λ (k : ℕ). from (suc a) n ++ (k ∷ [])) (move a n))
-  where
-    move : (a n : ℕ) → suc a + n ≡ a + suc n
-    move a n = omega arith
+from-more (suc n) a = ap (λ (l : List ℕ). a ∷ l) (from-more n (suc a) ∙ ap (λ (k : ℕ). from (suc a) n ++ (k ∷ [])) (suc-across a n))
 
 pub range-more : (a b : ℕ) → a ≤ b → range a (b + 1) ≡ range a b ++ (b ∷ [])
 range-more a b h =
-    ap (from a) (one (b + 1) b refl) ∙ from-more (b - a) a ∙ ap (λ (k : ℕ). range a b ++ (k ∷ [])) (there)
+    ap (from a) one ∙ from-more (b - a) a ∙ ap (λ (k : ℕ). range a b ++ (k ∷ [])) (add-sub-of-le h)
   where
-    one : (c d : ℕ) → c ≡ b + 1 → c - a ≡ suc (b - a)
-    one c d e = omega arith
-
-    there : a + (b - a) ≡ b
-    there = omega arith
+    one : b + 1 - a ≡ suc (b - a)
+    one = omega arith
 
 pub range-none : (a : ℕ) → range a a ≡ []
 range-none a = ap (from a) (sub-self a)
-  where
-    sub-self : (a : ℕ) → a - a ≡ 0
-    sub-self a = omega arith
 
 pub fold-append {ℓ} : {S : Type ℓ} (f : S → ℕ → S) (s : S) (xs ys : List ℕ) → fold f s (xs ++ ys) ≡ fold f (fold f s xs) ys
 fold-append f s [] ys = refl
@@ -242,20 +254,11 @@ concat-map-more f a b h =
 from-append : (m n a : ℕ) → from a (m + n) ≡ from a m ++ from (a + m) n
 from-append zero n a = ap (from a) (zero-add n) ∙ ap (λ (k : ℕ). from k n) (sym (add-zero a))
 from-append (suc m) n a =
-    ap (from a) (up m n) ∙ ap (λ (l : List ℕ). a ∷ l) (from-append m n (suc a) ∙ ap (λ (k : ℕ). from (suc a) m ++ from k n) (up′ a m))
-  where
-    up : (m n : ℕ) → suc m + n ≡ suc (m + n)
-    up m n = omega arith
-
-    up′ : (a m : ℕ) → suc a + m ≡ a + suc m
-    up′ a m = omega arith
+    ap (from a) (suc-add m n) ∙ ap (λ (l : List ℕ). a ∷ l) (from-append m n (suc a) ∙ ap (λ (k : ℕ). from (suc a) m ++ from k n) (suc-across a m))
 
 from-shift : (n a b : ℕ) → from (a + b) n ≡ map (λ (k : ℕ). a + k) (from b n)
 from-shift zero a b = refl
-from-shift (suc n) a b = ap (λ (l : List ℕ). (a + b) ∷ l) (ap (λ (k : ℕ). from k n) (up a b) ∙ from-shift n a (suc b))
-  where
-    up : (a b : ℕ) → suc (a + b) ≡ a + suc b
-    up a b = omega arith
+from-shift (suc n) a b = ap (λ (l : List ℕ). (a + b) ∷ l) (ap (λ (k : ℕ). from k n) (sym (add-suc a b)) ∙ from-shift n a (suc b))
 
 pub fold-columns {ℓ} : {S : Type ℓ} (f : S → ℕ → S) (rows : ℕ) (s : S) (columns : ℕ)
     → fold (λ t c. fold (λ u r. f u (c * rows + r)) t (range 0 rows)) s (range 0 columns) ≡ fold f s (range 0 (columns * rows))
@@ -272,16 +275,10 @@ fold-columns {S} f rows s columns =
         (ap (λ (n : ℕ). map (λ r. c * rows + r) (from 0 n)) (sub-zero rows) ∙ sym (from-shift rows (c * rows) 0) ∙ ap (λ (k : ℕ). from k rows) (add-zero (c * rows)))
 
     go : (n : ℕ) → fold column s (from 0 n) ≡ fold f s (from 0 (n * rows))
-    go zero = ap (λ (k : ℕ). fold f s (from 0 k)) (none rows)
-      where
-        none : (r : ℕ) → 0 ≡ 0 * r
-        none r = omega arith
+    go zero = ap (λ (k : ℕ). fold f s (from 0 k)) (sym (zero-mul rows))
     go (suc n) =
         ap (fold column s) (from-more n 0) ∙ fold-append column s (from 0 n) ((0 + n) ∷ []) ∙ ap (λ (k : ℕ). column (fold column s (from 0 n)) k) (zero-add n)
         ∙ ap (λ (t : S). column t n) (go n) ∙ one-column (fold f s (from 0 (n * rows))) n
         ∙ ap (λ (k : ℕ). fold f (fold f s (from 0 (n * rows))) (from k rows)) (sym (zero-add (n * rows)))
         ∙ sym (fold-append f s (from 0 (n * rows)) (from (0 + n * rows) rows)) ∙ ap (fold f s) (sym (from-append (n * rows) rows 0))
-        ∙ ap (λ (k : ℕ). fold f s (from 0 k)) (up n rows)
-      where
-        up : (n r : ℕ) → n * r + r ≡ suc n * r
-        up n r = omega arith
+        ∙ ap (λ (k : ℕ). fold f s (from 0 k)) (sym (suc-mul n rows))

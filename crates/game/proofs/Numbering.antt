@@ -14,7 +14,7 @@ use Rattle.game.specs.Lists.{Each, fold, from, has, some-of}
 use Rattle.game.specs.Openings.{Joined, firstLabel, gather, itself, joinedTo, openings}
 use Rattle.game.proofs.Chains.{joined-last, joined-sym}
 use Rattle.game.proofs.Labels.{first-seat, seat, seated}
-use Rattle.game.proofs.Members.{first-of, getD-has, has-cases, has-head, rest-of}
+use Rattle.game.proofs.Members.{first-of, getD-has, has-cases, has-head, rest-of, suc-across}
 use Rattle.game.proofs.Openings.{Apart, Full, Good, In, covered, gather-new, gather-old, good, good-gather, good-none, joinedTo→, ordered-joinedTo, →joinedTo}
 use Rattle.game.proofs.Orders.{Ordered}
 use Rattle.game.proofs.Truth.{T→true, and-left, and-right, no→false, or-left, or-right}
@@ -127,11 +127,8 @@ rising-gather g os i h r = go (zeroCell g i && not (some-of (has i) os)) refl
 rising-from : (g : Grid) (n i : ℕ) (os : List (List ℕ)) → i + n ≤ size g → Rising g i os → Rising g (i + n) (fold (gather g) os (from i n))
 rising-from g zero i os h r = rw (add-zero i) r
 rising-from g (suc n) i os h r =
-    subst (λ (k : ℕ). Rising g k (fold (gather g) os (from i (suc n)))) (move i n)
+    subst (λ (k : ℕ). Rising g k (fold (gather g) os (from i (suc n)))) (suc-across i n)
     (rising-from g n (suc i) (gather g os i) (omega arith) (rising-gather g os i (omega arith) r))
-  where
-    move : (i n : ℕ) → suc i + n ≡ i + suc n
-    move i n = omega arith
 
 all-rising : (g : Grid) → Ordered _<_ (lowests (openings g))
 unfolding openings

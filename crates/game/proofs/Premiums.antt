@@ -5,7 +5,7 @@ use native.Mathlib.Decide.{ℕ-discrete}
 use mathlib.Core.Path.{_∙_, _≡_, ap, refl, subst, sym}
 use mathlib.Core.Bool.{Bool, _&&_, cond, false, not, true}
 use mathlib.Core.List.{List}
-use lib.Dec.{T, T-not, eqb, eqb→eq}
+use lib.Dec.{T, eqb, eqb→eq}
 use lib.IntN.{+ℤ-assoc, +ℤ-comm, +ℤ-negℤ-cancel, -ℤ-+ℤ-cancel, _+ℤ_, _-ℤ_, negℤ, negℤ-+ℤ, pos, ℤ}
 use lib.ListN.{getD, length, set}
 use lib.Seq.{getD-set-other, getD-set-same}
@@ -18,7 +18,7 @@ use Rattle.game.proofs.Counts.{bit-yes, count-drop, count-each, count-e
 use Rattle.game.proofs.Members.{all-ext}
 use Rattle.game.proofs.Openings.{Full, good}
 use Rattle.game.proofs.Owners.{Even, even-closed, owner, same-holds}
-use Rattle.game.proofs.Reveal.{Revealed, getD-sweep, mine-off, opens, reveal-opening, revealed, stays, sweeps, unlabelled-off, unlabelled-safe, zero-safe}
+use Rattle.game.proofs.Reveal.{Revealed, flag-stays, getD-sweep, mine-off, opens, reveal-opening, revealed, stays, sweeps, unlabelled-off, unlabelled-safe, zero-safe}
 use Rattle.game.proofs.Squares.{once-square, square→}
 use Rattle.game.proofs.Truth.{T→true, and-false, and-inside, and-true, and-under, eqb-no, eqb-yes, no→false}
 use Rattle.game.proofs.Zeros.{Zero}
@@ -107,17 +107,14 @@ module _ (g : Grid) (s : Position) (c : ℕ) (inside : c < size g) (long : lengt
 -- ---- a mine is flagged
 
 module _ (g : Grid) (s : Position) (m : ℕ) (inside : m < size g) (long : length s ≡ size g) (shut : T (closed s m)) (is-mine : T (mine g m)) where
-  safe-stays : (x : ℕ) → T (safe g x) → closed (set s m 2) x ≡ closed s x
-  safe-stays x t = ap (λ (k : ℕ). eqb k 0) (getD-set-other s m x 2 0 (λ e. T-not (mine g x) t (rw e is-mine)))
-
   pub flag-gain : (x : ℕ) → gain g s x ≡ gain g (set s m 2) x + 0
   unfolding gain
   flag-gain x =
       let a = count-each (λ o. holds g x o && openingClosed (set s m 2) o) (λ o. holds g x o && openingClosed s o) (openings g)
       (each-map (openings g) (λ o f. ap (λ (b : Bool). holds g x o && b)
-      (all-ext (closed (set s m 2)) (closed s) o (λ z t. safe-stays z (zero-safe g z (f .zero-cell z t))))) (good g .full)) in
+      (all-ext (closed (set s m 2)) (closed s) o (λ z t. flag-stays g s m z is-mine (zero-safe g z (f .zero-cell z t))))) (good g .full)) in
       let b = count-ext (cellUnit g (set s m 2)) (cellUnit g s) (square g x)
-      (λ j t. and-under (unlabelled g j) (closed (set s m 2) j) (closed s j) (λ u. safe-stays j (unlabelled-safe g j u))) in
+      (λ j t. and-under (unlabelled g j) (closed (set s m 2) j) (closed s j) (λ u. flag-stays g s m j is-mine (unlabelled-safe g j u))) in
       omega arith
 
   -- each safe cell in its square costs one less
@@ -130,7 +127,7 @@ module _ (g : Grid) (s : Position) (m : ℕ) (inside : m < size g) (long : lengt
       let b = ap (λ (b : Bool). bit (has m (square g x) && b))
       (ap (λ (k : ℕ). mine g m && not (eqb k 2)) (eqb→eq (getD s m 0) 0 shut) ∙ ap (λ (b : Bool). b && true) (T→true (mine g m) is-mine)) in
       let c = ap bit (and-true (has m (square g x))) in
-      let d = ap bit (safe-stays x t) in
+      let d = ap bit (flag-stays g s m x is-mine t) in
       omega arith
 
   -- +1 in the mine's square

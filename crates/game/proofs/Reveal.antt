@@ -18,7 +18,7 @@ use Rattle.game.proofs.Chains.{joined-close, joined-last, joined-sym, j
 use Rattle.game.proofs.Labels.{zero→labelled}
 use Rattle.game.proofs.Members.{all-ext, all-has, first-of, rest-of, some-yes, yes-some}
 use Rattle.game.proofs.Openings.{Full, joinedTo→, →joinedTo}
-use Rattle.game.proofs.Squares.{close-sym, getD-cells, in-own-square, length-cells, self-close, square→}
+use Rattle.game.proofs.Squares.{Close, close-sym, getD-cells, in-own-square, length-cells, self-close, square→, →square}
 use Rattle.game.proofs.Truth.{T→true, and-both, and-false, and-left, and-right, and-true, eqb-no, eqb-yes, not-or, no→false}
 use Rattle.game.proofs.Zeros.{Zero, zero→}
 
@@ -39,9 +39,35 @@ revealed g s c = go (safe g c && closed s c) refl (zeroCell g c) refl
     go true e false k =
         opens (and-left (safe g c) (closed s c) (rw e tt)) (and-right (safe g c) (closed s c) (rw e tt)) (λ t. subst T k t)
 
+-- a closed safe cell of number 1 or more is opened alone
+pub reveal-one : (g : Grid) (s : Position) (c : ℕ) → T (safe g c) → T (closed s c) → (T (zeroCell g c) → ⊥) → reveal g s c ≡ set s c 1
+reveal-one g s c t u n = go (reveal g s c) (revealed g s c)
+  where
+    go : (p : Position) → Revealed g s c p → p ≡ set s c 1
+    go p (stays m) = absurd (m t u)
+    go p (opens a b m) = refl
+    go p (sweeps a b z) = absurd (n z)
+
+-- any other cell than a closed safe one stays as it is
+pub reveal-none : (g : Grid) (s : Position) (c : ℕ) → (T (safe g c) → T (closed s c) → ⊥) → reveal g s c ≡ s
+reveal-none g s c n = go (reveal g s c) (revealed g s c)
+  where
+    go : (p : Position) → Revealed g s c p → p ≡ s
+    go p (stays m) = refl
+    go p (opens a b m) = absurd (n a b)
+    go p (sweeps a b z) = absurd (n a b)
+
 -- the states after a sweep
 pub getD-sweep : (g : Grid) (s : Position) (c j : ℕ) → j < size g → getD (sweep g s c) j 0 ≡ cond (holds g j (joinedTo g c)) 1 (getD s j 0)
 getD-sweep g s c j h = getD-cells g (λ j. cond (holds g j (joinedTo g c)) 1 (getD s j 0)) j h
+
+-- what is closed after a sweep was closed before it
+pub sweep-closed : (g : Grid) (s : Position) (c j : ℕ) → j < size g → T (closed (sweep g s c) j) → T (closed s j)
+sweep-closed g s c j h t = go (holds g j (joinedTo g c)) (getD s j 0) (subst (λ (k : ℕ). T (eqb k 0)) (getD-sweep g s c j h) t)
+  where
+    go : (b : Bool) (k : ℕ) → T (eqb (cond b 1 k) 0) → T (eqb k 0)
+    go true k u = absurd u
+    go false k u = u
 
 pub length-sweep : (g : Grid) (s : Position) (c : ℕ) → length (sweep g s c) ≡ size g
 length-sweep g s c = length-map (cells g) (λ j. cond (holds g j (joinedTo g c)) 1 (getD s j 0)) ∙ length-cells g
@@ -55,6 +81,10 @@ reveal-length g s c l = go (reveal g s c) (revealed g s c)
     go t (sweeps a b z) = length-sweep g s c
 
 -- ---- which cells are closed afterwards
+
+-- a flag on a mine leaves safe cells closed or not
+pub flag-stays : (g : Grid) (s : Position) (m j : ℕ) → T (mine g m) → T (safe g j) → closed (set s m 2) j ≡ closed s j
+flag-stays g s m j t u = ap (λ (k : ℕ). eqb k 0) (getD-set-other s m j 2 0 (λ e. T-not (mine g j) u (rw e t)))
 
 pub zero-safe : (g : Grid) (i : ℕ) → Zero g i → T (safe g i)
 zero-safe g i z = not-T (mine g i) (zero→ g i i z (z .inside) (self-close g i))
@@ -139,6 +169,11 @@ held-joined g c a z za t =
     let w = yes-some (λ j. has j (joinedTo g c)) (square g a) t in
     let j = joinedTo→ g c (w .0) z (w .2) in
     joined-trans g c (w .0) a j (joined-close g (w .0) a (joined-last g c (w .0) j) za (close-sym g a (w .0) (square→ g a (w .0) (za .inside) (w .1) .1)))
+
+-- and it holds every cell near a 0-cell of it
+pub joined-held : (g : Grid) (c a x : ℕ) → x < size g → Joined g c a → Close g a x → T (holds g x (joinedTo g c))
+joined-held g c a x h j l =
+    some-yes (λ k. has k (joinedTo g c)) a (square g x) (→square g x a h (joined-last g c a j .inside) (close-sym g a x l)) (→joinedTo g c a j)
 
 -- of the openings a reveal opens the one that has the revealed cell
 pub reveal-opening : (g : Grid) (s : Position) (c : ℕ) (o : List ℕ) → c < size g → length s ≡ size g → Full g o → openingClosed (reveal g s c) o ≡ (openingClosed s o && not (has c o))

@@ -1,7 +1,8 @@
 -- A cell's square by rows and columns: exactly the cells one row and one column away at most, each once, by row, then column. Assumes nothing.
 use Prim.Native.Nat.{ℕ, _*_, _+_, _-_, _<_, _≤_, min, suc, zero}
 use native.Mathlib.Omega.{arith}
-use native.Mathlib.Nat.{add-zero, div-add-mod', div-eq-of-lt, div-lt-iff-lt-mul, mod-eq-of-lt, mod-lt, mul-add-div-right, mul-add-mod-self-right, mul-comm, mul-le-mul-right, zero-add}
+use native.Mathlib.Nat.{add-zero, div-add-mod', div-eq-of-lt, div-lt-iff-lt-mul, mod-eq-of-lt, mod-lt, mul-add-div-right, mul-add-mod-self-right, mul-comm, mul-le-mul-right, suc-mul, zero-add}
+use native.Mathlib.Numerals.{add-one}
 use mathlib.Core.Path.{_∙_, _≡_, ap, subst, sym}
 use mathlib.Core.Logic.{_⊎_, inl, inr, ⊎-elim}
 use mathlib.Core.Bool.{Bool, _&&_}
@@ -13,6 +14,7 @@ use Rattle.game.specs.Lists.{concat-map, count, from, has}
 use Rattle.game.proofs.Counts.{Once, count-once}
 use Rattle.game.proofs.Members.{concat-map-has, has-concat-map, has-map, has-range, length-from, map-has, range-has}
 use Rattle.game.proofs.Orders.{Ordered, once-range, ordered-concat-map, ordered-map, ordered-once, ordered-range}
+use Rattle.game.proofs.Truth.{iff}
 
 -- j is at most one row and one column from i
 pub record Close (g : Grid) (i j : ℕ) : Type 0 where
@@ -55,6 +57,10 @@ index-of g i = div-add-mod' i (g .rows)
 pub index-lt : (g : Grid) (r c : ℕ) → r < g .rows → c < g .columns → index g r c < size g
 index-lt g r c h k = omega (arith, mul-le-mul-right (g .rows) k)
 
+-- where the next column begins
+pub next-column : (rows column : ℕ) → column * rows + rows ≡ (column + 1) * rows
+next-column rows column = sym (rw (add-one, suc-mul))
+
 -- ---- the square
 
 pub square→ : (g : Grid) (i j : ℕ) → i < size g → T (has j (square g i)) → (j < size g) × Close g i j
@@ -82,6 +88,12 @@ unfolding square
     (subst (λ (k : ℕ). T (has k (map (λ c. index g (rowOf g j) c) (near (g .columns) (columnOf g i))))) (index-of g j)
     (has-map (λ c. index g (rowOf g j) c) (columnOf g j) (near (g .columns) (columnOf g i))
     (range-has (columnOf g i - 1) (min (columnOf g i + 2) (g .columns)) (columnOf g j) (omega arith) (omega arith))))
+
+-- two cells are each in the other's square, or neither is
+pub square-sym : (g : Grid) (i j : ℕ) → i < size g → j < size g → has i (square g j) ≡ has j (square g i)
+square-sym g i j h k =
+    iff (has i (square g j)) (has j (square g i)) (λ t. →square g i j h k (close-sym g j i (square→ g j i k t .1)))
+    (λ t. →square g j i k h (close-sym g i j (square→ g i j h t .1)))
 
 pub in-own-square : (g : Grid) (i : ℕ) → i < size g → T (has i (square g i))
 in-own-square g i h = →square g i i h h (self-close g i)

@@ -7,20 +7,20 @@ use mathlib.Core.Bool.{Bool, _&&_, cond, false, not, true}
 use mathlib.Core.List.{List, [], _∷_}
 use mathlib.Core.Option.{Option, none, some}
 use lib.Dec.{T, T-not, eqb, ltb, ltb→lt, not-T}
-use lib.ListN.{getD, getD-replicate, length, length-replicate, length-set, set}
+use lib.ListN.{getD, length-replicate, length-set, set}
 use lib.Seq.{getD-set-other, getD-set-same}
 use Rattle.game.specs.Grid.{Grid, mine, safe, size, square}
 use Rattle.game.specs.Lists.{fold, has}
 use Rattle.game.specs.Moves.{AllLegal, Move, Reached, after, cellOf, chord, chordable, flag, left, legal, legalRead, play, playRead, reveal, sweep}
-use Rattle.game.specs.Openings.{Joined, holds, joinedTo}
-use Rattle.game.specs.Position.{Position, Tidy, closed, flagged, opened, untouched}
+use Rattle.game.specs.Openings.{holds, joinedTo}
+use Rattle.game.specs.Position.{Position, Tidy, closed, untouched}
 use Rattle.game.proofs.Chains.{joined-first, joined-last, joined-sym, joined-trans}
-use Rattle.game.proofs.Members.{first-of, rest-of, some-yes}
-use Rattle.game.proofs.Openings.{→joinedTo}
+use Rattle.game.proofs.Members.{first-of, rest-of}
 use Rattle.game.proofs.Owners.{Even}
-use Rattle.game.proofs.Reveal.{Revealed, getD-sweep, held-joined, length-sweep, mine-off, opens, revealed, stays, sweeps, zero-safe}
-use Rattle.game.proofs.Squares.{Close, close-sym, self-close, square→, →square}
+use Rattle.game.proofs.Reveal.{Revealed, getD-sweep, held-joined, joined-held, length-sweep, mine-off, opens, revealed, stays, sweeps, zero-safe}
+use Rattle.game.proofs.Squares.{close-sym, self-close, square→}
 use Rattle.game.proofs.Truth.{and-both, and-left, and-right, no→false}
+use Rattle.game.proofs.Units.{closed-untouched, untouched-at}
 use Rattle.game.proofs.Zeros.{Zero}
 
 pub tidy-even : (g : Grid) (s : Position) → Tidy g s → Even g s
@@ -31,14 +31,11 @@ pub untouched-tidy : (g : Grid) → Tidy g (untouched g)
 untouched-tidy g =
     record {
       long = length-replicate (size g) 0;
-      even = λ a b j. ap (λ (k : ℕ). eqb k 0) (zero-at a (joined-first g a b j .inside) ∙ sym (zero-at b (joined-last g a b j .inside)));
-      around = λ z j h n c t. rw (zero-at z (square→ g j z h c .0)) tt;
-      safes = λ j h t. ap (λ (k : ℕ). eqb k 1) (zero-at j h) ∙ sym (ap (λ (k : ℕ). not (eqb k 0)) (zero-at j h));
-      mines = λ j h t. ap (λ (k : ℕ). eqb k 2) (zero-at j h) ∙ sym (ap (λ (k : ℕ). not (eqb k 0)) (zero-at j h));
+      even = λ a b j. closed-untouched g a (joined-first g a b j .inside) ∙ sym (closed-untouched g b (joined-last g a b j .inside));
+      around = λ z j h n c t. rw (closed-untouched g z (square→ g j z h c .0)) tt;
+      safes = λ j h t. ap (λ (k : ℕ). eqb k 1) (untouched-at g j h) ∙ sym (ap not (closed-untouched g j h));
+      mines = λ j h t. ap (λ (k : ℕ). eqb k 2) (untouched-at g j h) ∙ sym (ap not (closed-untouched g j h));
     }
-  where
-    zero-at : (j : ℕ) → j < size g → getD (untouched g) j 0 ≡ 0
-    zero-at j h = getD-replicate (size g) j 0 0 h
 
 -- ---- one cell that is no 0-cell gets a state that is not closed
 
@@ -77,10 +74,6 @@ set-tidy g s c v h f n e p q =
         ]
 
 -- ---- an opening is swept
-
-joined-held : (g : Grid) (c a x : ℕ) → x < size g → Joined g c a → Close g a x → T (holds g x (joinedTo g c))
-joined-held g c a x h j cl =
-    some-yes (λ k. has k (joinedTo g c)) a (square g x) (→square g x a h (joined-last g c a j .inside) (close-sym g a x cl)) (→joinedTo g c a j)
 
 sweep-tidy : (g : Grid) (s : Position) (c : ℕ) → Zero g c → Tidy g s → Tidy g (sweep g s c)
 sweep-tidy g s c z f =

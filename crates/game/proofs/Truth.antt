@@ -1,6 +1,6 @@
 -- Computed tests: what holds of `T`, `&&`, `||` and `not`, each by the cases of its tests. Assumes nothing.
 use Prim.Native.Nat.{ℕ}
-use mathlib.Core.Path.{_≡_, refl, sym}
+use mathlib.Core.Path.{_≡_, refl, subst, sym}
 use mathlib.Core.Logic.{_⊎_, inl, inr}
 use mathlib.Core.Bool.{Bool, _&&_, _||_, false, not, true}
 use lib.Dec.{T, eqb, eqb-refl, eqb→eq, not-T}
@@ -17,6 +17,11 @@ pub or-cases : (a b : Bool) → T (a || b) → T a ⊎ T b
 or-cases true b t = inl tt
 or-cases false b t = inr t
 
+-- neither of two tests passes
+pub or-no : (a b : Bool) → (a || b) ≡ false → (a ≡ false) × (b ≡ false)
+or-no true b e = absurd (subst T e tt)
+or-no false b e = (refl, e)
+
 pub and-left : (a b : Bool) → T (a && b) → T a
 and-left true b t = tt
 and-left false b t = t
@@ -29,6 +34,14 @@ pub and-both : (a b : Bool) → T a → T b → T (a && b)
 and-both true b s t = t
 and-both false b s t = absurd s
 
+pub and-yes : (a b : Bool) → (a && b) ≡ true → (a ≡ true) × (b ≡ true)
+and-yes true b e = (refl, e)
+and-yes false b e = absurd (subst T (sym e) tt)
+
+pub and-no : (a b : Bool) → b ≡ false → (a && b) ≡ false
+and-no true b e = e
+and-no false b e = refl
+
 pub T→true : (b : Bool) → T b → b ≡ true
 T→true true t = refl
 T→true false t = absurd t
@@ -40,6 +53,11 @@ T→false false t = refl
 -- a test that cannot pass fails
 pub no→false : (b : Bool) → (T b → ⊥) → b ≡ false
 no→false b f = T→false b (not-T b f)
+
+-- a fails, and b is its opposite: so b passes
+pub T-other : (a b : Bool) → a ≡ not b → T (not a) → T b
+T-other a true e t = tt
+T-other a false e t = subst (λ (c : Bool). T (not c)) e t
 
 -- two tests that pass together are the same
 pub iff : (a b : Bool) → (T a → T b) → (T b → T a) → a ≡ b
@@ -60,6 +78,12 @@ and-false false = refl
 pub and-under : (a b c : Bool) → (T a → b ≡ c) → (a && b) ≡ (a && c)
 and-under true b c h = h tt
 and-under false b c h = refl
+
+-- a passes, and not without b: so b passes
+pub and-not : (a b : Bool) → T a → (a && not b) ≡ false → T b
+and-not true true t e = tt
+and-not true false t e = subst T e tt
+and-not false b t e = absurd t
 
 pub not-or : (a b c : Bool) → (a && not b && not c) ≡ (a && not (b || c))
 not-or true true c = refl

@@ -6,9 +6,8 @@ use mathlib.Core.Logic.{_⊎_, ⊎-elim}
 use mathlib.Core.Bool.{Bool, _&&_, cond, false, not, true}
 use mathlib.Core.List.{List, [], _++_, _∷_, map}
 use mathlib.Core.Option.{none}
-use lib.Dec.{T, T-not, eqb, eqb→eq}
-use lib.ListN.{getD-replicate, length, length-append, length-set, set}
-use lib.Seq.{getD-set-other}
+use lib.Dec.{T, eqb, eqb→eq}
+use lib.ListN.{getD, getD-replicate, length, length-append, length-set, set}
 use Rattle.game.specs.Grid.{Grid, cells, mine, safe, size, square, zeroCell}
 use Rattle.game.specs.Lists.{bit, count, fold, has, keep, some-of}
 use Rattle.game.specs.Moves.{Move, after, chord, flag, left, play, reveal}
@@ -19,7 +18,7 @@ use Rattle.game.proofs.Counts.{bit-no, bit-yes, count-each, count-ext, 
 use Rattle.game.proofs.Members.{all-ext, all-give, first-of, keep-has, rest-of, some-yes}
 use Rattle.game.proofs.Openings.{Full, good}
 use Rattle.game.proofs.Owners.{Even, count-off, even-closed, owner}
-use Rattle.game.proofs.Reveal.{Unlabelled, fold-length, fold-opening, fold-unlabelled, reveal-length, reveal-opening, reveal-unlabelled, unlabelled-safe, zero-labelled, zero-safe}
+use Rattle.game.proofs.Reveal.{Unlabelled, flag-stays, fold-length, fold-opening, fold-unlabelled, reveal-length, reveal-opening, reveal-unlabelled, unlabelled-safe, zero-labelled, zero-safe}
 use Rattle.game.proofs.Squares.{cells→, count-square, in-own-square, length-cells, once-cells, square→, →cells}
 use Rattle.game.proofs.Truth.{T→true, absorb, and-both, and-inside, and-left, and-right, and-true}
 use Rattle.game.proofs.Zeros.{Zero}
@@ -83,7 +82,7 @@ flags-taken g (x ∷ js) s h l =
     (flags-taken g js (set s x 2) (rest-of x js h) (length-set s x 2 ∙ l))
   where
     other : (j : ℕ) → T (safe g j) → closed (set s x 2) j ≡ closed s j
-    other j t = ap (λ (k : ℕ). eqb k 0) (getD-set-other s x j 2 0 (λ e. T-not (mine g j) t (rw e (first-of x js h))))
+    other j t = flag-stays g s x j (first-of x js h) t
 
 click-taken : (g : Grid) (s : Position) (i : ℕ) → i < size g → length s ≡ size g → (b : Bool)
     → Taken g (λ j. b && eqb j i) (λ o. b && has i o) s (after g s (cond b (left i ∷ []) []))
@@ -171,8 +170,11 @@ count-all : (os : List (List ℕ)) → count (λ o. true) os ≡ length os
 count-all [] = refl
 count-all (o ∷ os) = let r = count-all os in omega arith
 
+pub untouched-at : (g : Grid) (j : ℕ) → j < size g → getD (untouched g) j 0 ≡ 0
+untouched-at g j h = getD-replicate (size g) j 0 0 h
+
 pub closed-untouched : (g : Grid) (j : ℕ) → j < size g → closed (untouched g) j ≡ true
-closed-untouched g j h = ap (λ (k : ℕ). eqb k 0) (getD-replicate (size g) j 0 0 h)
+closed-untouched g j h = ap (λ (k : ℕ). eqb k 0) (untouched-at g j h)
 
 pub units-untouched : (g : Grid) → closedUnits g (untouched g) ≡ threeBV g
 unfolding closedUnits threeBV

@@ -11,7 +11,7 @@ use lib.Seq.{getD-append-add}
 use Rattle.game.specs.Grid.{Grid, columnOf, mine, rowOf, size}
 use Rattle.game.specs.Lists.{concat-map, from, range}
 use Rattle.original.specs.Cells.{Cells, Zcell, at, build-cells-ref, built, nought}
-use Rattle.game.proofs.Members.{length-from}
+use Rattle.game.proofs.Members.{length-from, suc-across}
 use Rattle.game.proofs.Squares.{column-lt, index-of, row-lt}
 use Rattle.original.proofs.Tables.{Table, cell}
 
@@ -43,13 +43,10 @@ at-runs f h (suc n) a zero r k l =
     first = omega arith
 at-runs f h (suc n) a (suc c) r k l =
     ap (at (concat-map (run f h) (from a (suc n)))) (later (length-run f h a)) ∙ getD-append-add (run f h a) (concat-map (run f h) (from (suc a) n)) (c * h + r) nought
-    ∙ at-runs f h n (suc a) c r (omega arith) l ∙ ap (λ (k : ℕ). f k r) next
+    ∙ at-runs f h n (suc a) c r (omega arith) l ∙ ap (λ (k : ℕ). f k r) (suc-across a c)
   where
     later : length (run f h a) ≡ h → suc c * h + r ≡ length (run f h a) + (c * h + r)
     later e = omega arith
-
-    next : suc a + c ≡ a + suc c
-    next = omega arith
 
 length-runs : (f : ℕ → ℕ → Zcell) (h n a : ℕ) → length (concat-map (run f h) (from a n)) ≡ h * n
 length-runs f h zero a = omega arith

@@ -6,11 +6,12 @@ use mathlib.Core.Path.{_∙_, _≡_, ap, refl, subst, sym}
 use mathlib.Core.Bool.{Bool, _||_, false, true}
 use mathlib.Core.List.{List, [], _++_, _∷_}
 use mathlib.Core.Option.{Option, none, some}
-use borrow.Author.Tests.{eqb-false, ltb-false}
-use lib.Dec.{T, eqb, ltb}
+use borrow.Author.Tests.{eqb-false}
+use lib.Dec.{eqb}
 use lib.IntN.{ℤ}
 use lib.ListN.{length}
 use Rattle.game.specs.Calls.{Check, Refusal, boardCheck, drawnSearch, firstGiven, gives, greedyCall, gridChecks, listCheck, openingsFirstCall, playedRound, randomSearchCall, rounds, roundsCheck, shape, shapeCheck, sideOut, unless, unlessListed, workCheck}
+use Rattle.game.specs.Draws.{lent}
 use Rattle.game.specs.Grid.{Grid, size}
 use Rattle.game.specs.Lists.{Each}
 use Rattle.game.specs.Moves.{Move}
@@ -19,6 +20,8 @@ use Rattle.original.specs.Entries.{cal-hzini, cal-rzini, cal-zini}
 use Rattle.original.specs.Equal.{CallsEqual, Equal, Within, answerUnless, answered, searchAnswer}
 use Rattle.original.proofs.Lowest.{greedy-equal, openings-first-equal}
 use Rattle.original.proofs.Randoms.{random-equal}
+use Rattle.game.proofs.Truth.{or-no}
+use Rattle.game.proofs.Checks.{side-in}
 
 -- a grid within the limits has at most 65025 cells
 few-cells : (g : Grid) → Within g → size g ≤ 65025
@@ -33,17 +36,6 @@ equal g w =
     }
 
 -- ---- the calls
-
-or-no : (a b : Bool) → (a || b) ≡ false → (a ≡ false) × (b ≡ false)
-or-no false b e = (refl, e)
-or-no true b e = absurd (subst T e tt)
-
--- a side that is not out lies within the limits
-side-within : (n : ℕ) → sideOut n ≡ false → (1 ≤ n) × (n ≤ 255)
-side-within n e =
-    let h = or-no (eqb n 0) (ltb 255 n) e in
-    let f = eqb-false n 0 (h .0) in
-    (omega arith, ltb-false 255 n (h .1))
 
 -- where the checks refuse nothing, the first of them didn't
 first-passed : (b : Bool) (f : Refusal) (cs : List Check) → firstGiven (record { given = b; refusal = f } ∷ cs) ≡ none → b ≡ false
@@ -72,8 +64,8 @@ last-passed (c ∷ cs) b f e = go (c .given) (λ h. last-passed cs b f h) e
 checked-within : (g : Grid) (cs : List Check) → firstGiven (shapeCheck g ∷ cs) ≡ none → Within g
 checked-within g cs e =
     let h = or-no (sideOut (g .rows)) (sideOut (g .columns)) (first-passed (sideOut (g .rows) || sideOut (g .columns)) shape cs e) in
-    let r = side-within (g .rows) (h .0) in
-    let c = side-within (g .columns) (h .1) in
+    let r = side-in (g .rows) (h .0) in
+    let c = side-in (g .columns) (h .1) in
     record { some-rows = r .0; few-rows = r .1; some-columns = c .0; few-columns = c .1 }
 
 -- a call with a list answers the clicks of its round, unless it is refused
@@ -93,7 +85,7 @@ searched-answer g ws none = refl
 searched-answer g ws (some r) = refl
 
 search-answer : (g : Grid) (ws : List ℤ) (bytes : List ℕ) (n : ℕ) → Each (λ b. b < 256) bytes
-    → unless (firstGiven (gridChecks g ws ++ roundsCheck n ∷ [])) ws (drawnSearch g (randomSearch g bytes n) ws) .answer
+    → unless (firstGiven (gridChecks g ws ++ roundsCheck n ∷ [])) ws (drawnSearch g (randomSearch g (lent bytes) n) ws) .answer
     ≡ answerUnless (firstGiven (gridChecks g ws ++ roundsCheck n ∷ [])) (searchAnswer (cal-rzini g bytes n))
 search-answer g ws bytes n small =
     go (firstGiven (gridChecks g ws ++ roundsCheck n ∷ [])) (λ e. (checked-within g (boardCheck g ∷ workCheck g ws ∷ roundsCheck n ∷ []) e, some-rounds e))
@@ -101,10 +93,10 @@ search-answer g ws bytes n small =
     some-rounds : firstGiven (gridChecks g ws ++ roundsCheck n ∷ []) ≡ none → 1 ≤ n
     some-rounds e = let f = eqb-false n 0 (last-passed (gridChecks g ws) (eqb n 0) rounds e) in omega arith
 
-    go : (o : Option Refusal) → (o ≡ none → Within g × (1 ≤ n)) → unless o ws (drawnSearch g (randomSearch g bytes n) ws) .answer ≡ answerUnless o (searchAnswer (cal-rzini g bytes n))
+    go : (o : Option Refusal) → (o ≡ none → Within g × (1 ≤ n)) → unless o ws (drawnSearch g (randomSearch g (lent bytes) n) ws) .answer ≡ answerUnless o (searchAnswer (cal-rzini g bytes n))
     go (some f) w = refl
     go none w =
-        searched-answer g ws (randomSearch g bytes n) ∙ ap searchAnswer (sym (equal g (w refl .0) .random-search bytes n small (w refl .1)))
+        searched-answer g ws (randomSearch g (lent bytes) n) ∙ ap searchAnswer (sym (equal g (w refl .0) .random-search bytes n small (w refl .1)))
 
 -- the clicks that greedy, openings-first and random search answer are the Rust's
 pub calls-equal : (g : Grid) (ws : List ℤ) (ms : List ℕ) → CallsEqual g ws ms

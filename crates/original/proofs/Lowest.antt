@@ -26,10 +26,10 @@ use Rattle.game.proofs.Rounds.{clicks-run}
 use Rattle.game.proofs.Runs.{Run, moves-append, run-falls, run-tidy}
 use Rattle.game.proofs.Squares.{cells→, length-cells}
 use Rattle.game.proofs.Truth.{T→true, and-false, and-left, and-true}
-use Rattle.game.proofs.Units.{units-at-most-cells, units-untouched}
+use Rattle.game.proofs.Units.{units-at-most-cells, units-untouched, untouched-at}
 use Rattle.original.proofs.Loops.{loop-clicks}
 use Rattle.original.proofs.Positions.{Stands, board-ext, not-opened}
-use Rattle.original.proofs.Ready.{prepared-table, untouched-at}
+use Rattle.original.proofs.Ready.{prepared-table}
 use Rattle.original.proofs.Turns.{click-stands}
 
 -- ---- before any move

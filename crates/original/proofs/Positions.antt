@@ -18,8 +18,8 @@ use Rattle.original.specs.Play.{State, add-around, flag-cell, one-click,
 use Rattle.game.proofs.Counts.{bit-yes, count-drop, count-ext}
 use Rattle.game.proofs.Labels.{first-label}
 use Rattle.game.proofs.Premiums.{premium-flag, premium-open}
-use Rattle.game.proofs.Squares.{close-sym, once-cells, once-square, square→, →cells, →square}
-use Rattle.game.proofs.Truth.{T→true, and-both, and-false, and-true, and-under, eqb-no, eqb-yes, iff, no→false}
+use Rattle.game.proofs.Squares.{once-cells, once-square, square-sym, →cells}
+use Rattle.game.proofs.Truth.{T→true, and-both, and-false, and-true, and-under, eqb-no, eqb-yes, no→false}
 use Rattle.original.proofs.Ready.{plain}
 use Rattle.original.proofs.Tables.{Table, around-square, mixed, reads-celled, table-change, table-ext, table-fold}
 
@@ -129,12 +129,6 @@ shift true true p = +ℤ-assoc p (pos 1) (negsuc 0) ∙ sym (+ℤ-assoc p (negsu
 shift true false p = sym (+ℤ-idr (p +ℤ negsuc 0))
 shift false true p = ap (λ (z : ℤ). z +ℤ pos 1) (sym (+ℤ-idr p))
 shift false false p = sym (+ℤ-idr (p +ℤ pos 0) ∙ +ℤ-idr p)
-
--- two cells of the grid are each in the other's square
-square-sym : (g : Grid) (i j : ℕ) → i < size g → j < size g → has i (square g j) ≡ has j (square g i)
-square-sym g i j h k =
-    iff (has i (square g j)) (has j (square g i)) (λ t. →square g i j h k (close-sym g j i (square→ g j i k t .1)))
-    (λ t. →square g j i k h (close-sym g i j (square→ g i j h t .1)))
 
 -- a state that is 0 or 1 is not 2
 pub not-two : (x : ℕ) → eqb x 1 ≡ not (eqb x 0) → eqb x 2 ≡ false

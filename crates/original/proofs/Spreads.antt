@@ -21,6 +21,7 @@ use Rattle.game.proofs.Openings.{joinedTo→, →joinedTo}
 use Rattle.game.proofs.Squares.{Close, close-sym, in-own-square, length-cells, once-cells, square→, →cells, →square}
 use Rattle.game.proofs.Truth.{T→true, and-both, and-false, and-left, and-right, eqb-no, iff, or-cases, or-left, or-right}
 use Rattle.game.proofs.Zeros.{Zero}
+use Rattle.game.proofs.Reveal.{joined-held}
 use Rattle.original.proofs.Numbers.{lined}
 use Rattle.original.proofs.Tables.{Celled, Table, around-square, reads-celled, table-change, table-ext}
 
@@ -133,13 +134,9 @@ module _ (g : Grid) (op c : ℕ) (a b : ℕ → ℕ) (k : Begun g op c a b) wher
   border-more M i x j h l n =
       record {
         more = λ y t. or-right (eqb y x) (M y) t;
-        sound = λ y hy t. ⊎-elim (λ e. inr (rw (eqb→eq y x e) (near-held i x j h l))) (λ u. inl u) (or-cases (eqb y x) (M y) t);
+        sound = λ y hy t. ⊎-elim (λ e. inr (rw (eqb→eq y x e) (joined-held g c i x h j l))) (λ u. inl u) (or-cases (eqb y x) (M y) t);
         shut = λ y z t. ⊎-elim (λ e. absurd (n (subst (λ (w : ℕ). T (zeroCell g w)) (eqb→eq y x e) (z .none)))) (λ u. inl u) (or-cases (eqb y x) (M y) t);
       }
-    where
-      near-held : (i x : ℕ) → Joined g c i → x < size g → Close g i x → T (holds g x (joinedTo g c))
-      near-held i x j h l =
-          some-yes (λ y. has y (joinedTo g c)) i (square g x) (→square g x i h (joined-last g c i j .inside) (close-sym g i x l)) (→joinedTo g c i j)
 
   -- the 0-cells not yet met
   left : (ℕ → Bool) → ℕ

@@ -1,8 +1,7 @@
 -- reveal at a 0-cell open-as what carries its label, and that is what its opening holds; so reveal does what L does. Assumes nothing.
-use Prim.Native.Nat.{ℕ, _+_, _-_, _<_, _≤_, suc, zero}
+use Prim.Native.Nat.{ℕ, _+_, _-_, _<_, _≤_}
 use native.Mathlib.Omega.{arith}
 use native.Mathlib.Decide.{ℕ-discrete}
-use native.Mathlib.Nat.{add-zero}
 use mathlib.Core.Path.{_∙_, _≡_, ap, ap₂, refl, subst, subst₂, sym}
 use mathlib.Core.Logic.{⊎-elim}
 use mathlib.Core.Bool.{Bool, _&&_, _||_, cond, false, not, true}
@@ -14,12 +13,12 @@ use lib.ListN.{getD, length, set}
 use Rattle.game.specs.Grid.{Grid, cells, mine, safe, size, square, zeroCell}
 use Rattle.game.specs.Lists.{bit, count, fold, has, range}
 use Rattle.game.specs.Moves.{reveal, sweep}
-use Rattle.game.specs.Openings.{firstLabel, holds, joinedTo, labels, openings, places, secondLabel}
+use Rattle.game.specs.Openings.{firstLabel, holds, joinedTo, labels, openings, secondLabel}
 use Rattle.game.specs.Position.{Position, Tidy, closed, closedSafe, flagged, opened, premium}
 use Rattle.original.specs.Cells.{Zcell, add-premium}
 use Rattle.original.specs.Play.{State, open-cell, reveal-cell, reveal-one, with-cells}
 use Rattle.game.proofs.Counts.{Once, count-ext, count-split}
-use Rattle.game.proofs.Labels.{Seated, at-most-two, first-seat, labels-range, seat, seated}
+use Rattle.game.proofs.Labels.{Seated, at-most-two, first-seat, labels-range, places-at, seat, seated}
 use Rattle.game.proofs.Members.{first-of, has-cases, has-head, has-tail, rest-of}
 use Rattle.game.proofs.Openings.{covered, good}
 use Rattle.game.proofs.Owners.{same-holds}
@@ -29,26 +28,9 @@ use Rattle.game.proofs.Reveal.{Revealed, getD-sweep, mine-off, opens, revealed,
 use Rattle.game.proofs.Squares.{cells→, once-cells, →cells}
 use Rattle.game.proofs.Truth.{T→true, and-false, and-inside, and-true, and-under, eqb-no, eqb-yes, iff, no→false, or-cases, or-left, or-right}
 use Rattle.game.proofs.Zeros.{Zero}
-use Rattle.original.proofs.Labelling.{places-from}
 use Rattle.original.proofs.Positions.{Board, Stands, after-open, board-ext, board-premium, not-opened, not-two, one-at, open-board, open-stands, shift}
 
 -- ---- the label of a 0-cell stands at what its opening holds
-
-places-at : (g : Grid) (i k n : ℕ) (os : List (List ℕ)) → n < length os → has (k + n) (places g i k os) ≡ holds g i (getD os n [])
-places-at g i k n [] h = absurd (omega arith)
-places-at g i k zero (o ∷ os) h = ap (λ (x : ℕ). has x (places g i k (o ∷ os))) (add-zero k) ∙ go (holds g i o)
-  where
-    go : (b : Bool) → has k (elim b [ true ↦ k ∷ places g i (suc k) os | false ↦ places g i (suc k) os ]) ≡ b
-    go true = T→true (has k (k ∷ places g i (suc k) os)) (has-head k k (places g i (suc k) os) refl)
-    go false = no→false (has k (places g i (suc k) os)) (λ t. let p = places-from g i (suc k) os k t in omega arith)
-places-at g i k (suc n) (o ∷ os) h = go (holds g i o) ∙ ap (λ (x : ℕ). has x (places g i (suc k) os)) next ∙ places-at g i (suc k) n os (omega arith)
-  where
-    next : k + suc n ≡ suc k + n
-    next = omega arith
-
-    go : (b : Bool) → has (k + suc n) (elim b [ true ↦ k ∷ places g i (suc k) os | false ↦ places g i (suc k) os ]) ≡ has (k + suc n) (places g i (suc k) os)
-    go true = ap (λ (b : Bool). b || has (k + suc n) (places g i (suc k) os)) (eqb-no (k + suc n) k (λ e. omega arith))
-    go false = refl
 
 -- what the loop of reveal tests
 abbrev carries : Grid → ℕ → ℕ → Bool

@@ -26,7 +26,7 @@ use Rattle.game.proofs.Tidy.{flag-tidy, reveal-tidy}
 use Rattle.game.proofs.Reveal.{Revealed, getD-sweep, mine-off, opens, revealed, stays, sweeps}
 use Rattle.game.proofs.Runs.{moves-cost}
 use Rattle.game.proofs.Squares.{once-square, square→}
-use Rattle.game.proofs.Truth.{T→true, and-left, and-right, and-under, no→false}
+use Rattle.game.proofs.Truth.{T-other, T→true, and-left, and-not, and-right, and-under, no→false}
 use Rattle.game.proofs.Units.{after-moves}
 use Rattle.original.proofs.Positions.{Stands, board-around, flag-stands, not-opened}
 use Rattle.original.proofs.Sweeps.{reveal-stands}
@@ -91,17 +91,13 @@ turn-stays g s n st x h k e = ap by (k .board .reads x h) ∙ go (mine g x) (fla
 turn-flags : (g : Grid) (s : Position) (n : ℕ) (st : State) (x : ℕ) → x < size g → Tidy g s → Stands g s n st → T (unflagged g s x) → Stands g (set s x 2) (n + 1) (flag-turn g st x)
 turn-flags g s n st x h f k t =
     subst (λ (b : Bool). Stands g (set s x 2) (n + 1) (by b)) (sym (ap (λ (z : Zcell). z .mine) (k .board .reads x h) ∙ T→true (mine g x) m))
-    (flag-stands g s n st x h f m (back (flagged s x) (closed s x) (f .mines x h m) (and-right (mine g x) (not (flagged s x)) t)) k)
+    (flag-stands g s n st x h f m (T-other (flagged s x) (closed s x) (f .mines x h m) (and-right (mine g x) (not (flagged s x)) t)) k)
   where
     m : T (mine g x)
     m = and-left (mine g x) (not (flagged s x)) t
 
     by : Bool → State
     by b = elim b [ true ↦ flag-cell (g .rows) st x | false ↦ st ]
-
-    back : (a b : Bool) → a ≡ not b → T (not a) → T b
-    back a true e u = tt
-    back a false e u = subst (λ (c : Bool). T (not c)) e u
 
 flags-all : (g : Grid) (xs : List ℕ) (s : Position) (n : ℕ) (st : State) → Once xs → ((x : ℕ) → T (has x xs) → x < size g) → Tidy g s → Stands g s n st
     → Flags g s n xs (keep (unflagged g s) xs) (fold (flag-turn g) st xs)
@@ -130,11 +126,6 @@ flags-all g (x ∷ xs) s n st o h f k =
     flag-stays j (yes e) t = rw (e, here) tt
     flag-stays j (no e) t = rw (getD-set-other s x j 2 0 e) t
 
-    passed : (a b : Bool) → (a && not b) ≡ false → T a → T b
-    passed true true e t = tt
-    passed true false e t = subst T e tt
-    passed false b e t = absurd t
-
     more : (m : ℕ) → n + 1 + m ≡ n + suc m
     more m = omega arith
 
@@ -147,7 +138,7 @@ flags-all g (x ∷ xs) s n st o h f k =
           stands = r .stands;
           played = r .played;
           stay = r .stay;
-          all = λ j u m. has-cases j x xs (λ d. rw d (r .stay x hx (passed (mine g x) (flagged s x) e (rw d at m)))) (λ v. r .all j v m) u;
+          all = λ j u m. has-cases j x xs (λ d. rw d (r .stay x hx (and-not (mine g x) (flagged s x) (rw d at m) e))) (λ v. r .all j v m) u;
         }
     go true e pass hit =
         let r = subst (λ (ys : List ℕ). Flags g (set s x 2) (n + 1) xs ys done) others (hit (rw e tt)) in
