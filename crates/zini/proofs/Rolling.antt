@@ -6,12 +6,13 @@ use mathlib.Core.List.{List, [], _∷_}
 use mathlib.Core.Option.{Option, none, some}
 use lib.IntN.{ℤ, pos}
 use lib.ListN.{length}
+use Rattle.game.specs.Draws.{Places, Source}
 use Rattle.game.specs.Grid.{Grid, size}
 use Rattle.game.specs.Position.{Position}
 use Rattle.game.specs.Area.{areaOf}
 use Rattle.game.specs.Rounds.{Round, Searched, movesOf, randomRound}
 use Rattle.game.specs.Calls.{Answer, draws, drawnRound, drawnSearch, gives, refuses}
-use Rattle.game.proofs.Rounds.{random-sound}
+use Rattle.game.proofs.Randoms.{random-sound}
 use Rattle.area.specs.Stages.{held}
 use Rattle.random.specs.Promises.{Rolling, Searching}
 use Rattle.random.specs.declared.Rolled.{Rolled}
@@ -59,5 +60,5 @@ module _ (rows columns : ℕ) (g : Grid) (old w w′ : List ℤ) (x : Rolled) wh
   search-dry (some r) h e cw p = absurd (differ _ _ (sym (p .answer) ∙ e))
 
 -- the moves of a random round are no more than the cells
-pub few-moves : (g : Grid) (bytes : List ℕ) (n : ℕ) (r : Round) → size g ≤ n → randomRound g bytes 0 ≡ some r → length (movesOf (r .steps)) ≤ n
-few-moves g bytes n r h e = let d = random-sound g bytes 0 r e in omega (arith, d .at-most-units, d .units-at-most)
+pub few-moves : (g : Grid) (source : Source) → Places source → (n : ℕ) (r : Round) → size g ≤ n → randomRound g source 0 ≡ some r → length (movesOf (r .steps)) ≤ n
+few-moves g source p n r h e = let d = random-sound g source p 0 r e in omega (arith, d .at-most-units, d .units-at-most)

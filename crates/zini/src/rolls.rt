@@ -9,6 +9,7 @@ ghost use mathlib.Core.Option.{Option};
 ghost use Prim.Native.Nat.{ℕ, _*_, _≤_};
 ghost use lib.IntN.{ℤ};
 ghost use lib.ListN.{length};
+ghost use Rattle.game.specs.Draws.{Places, Source, lent};
 ghost use Rattle.game.specs.Grid.{Grid, size};
 ghost use Rattle.game.specs.Rounds.{Searched, randomRound, randomSearch};
 ghost use Rattle.game.specs.Calls.{drawnRound, drawnSearch, randomRoundCall, randomSearchCall};
@@ -27,9 +28,9 @@ fn end_round(
 ) -> Rolled
     requires { ⌜ Shape rows columns ⌝ }
     requires { ⌜ (5 * (rows * columns) ≤ length (now work)) × (rows * columns ≤ length (now list)) ⌝ }
-    ensures { λ r. ⌜ ((g : Grid) (bytes : List ℕ) (old : List ℤ) (before : List ℕ) → size g ≡ rows * columns → 5 * size g ≤ length old → size g ≤ length before
-        → Rolling rows columns g old (randomRound g bytes 0) before (now (work .entry)) (now (list .entry)) rolled
-        → KeptList (drawnRound g (randomRound g bytes 0) old before) (rolledAnswer r) (now (work .exit)) (now (list .exit))) ⌝ }
+    ensures { λ r. ⌜ ((g : Grid) (source : Source) (old : List ℤ) (before : List ℕ) → Places source → size g ≡ rows * columns → 5 * size g ≤ length old → size g ≤ length before
+        → Rolling rows columns g old (randomRound g source 0) before (now (work .entry)) (now (list .entry)) rolled
+        → KeptList (drawnRound g (randomRound g source 0) old before) (rolledAnswer r) (now (work .exit)) (now (list .exit))) ⌝ }
 {
     match rolled {
         random::Rolled::Ended(clicks, used) => {
@@ -74,7 +75,7 @@ fn roll_checked(
 ) -> Rolled
     requires { ⌜ Shape rows columns ⌝ }
     requires { ⌜ (length (now grid) ≡ rows * columns) × (5 * (rows * columns) ≤ length (now work)) × (rows * columns ≤ length (now list)) ⌝ }
-    ensures { λ r. ⌜ KeptList (drawnRound (gridOf rows columns (now (grid .entry))) (randomRound (gridOf rows columns (now (grid .entry))) (now (draws .entry)) 0) (now (work .entry)) (now (list .entry))) (rolledAnswer r) (now (work .exit)) (now (list .exit)) ⌝ }
+    ensures { λ r. ⌜ KeptList (drawnRound (gridOf rows columns (now (grid .entry))) (randomRound (gridOf rows columns (now (grid .entry))) (lent (now (draws .entry))) 0) (now (work .entry)) (now (list .entry))) (rolledAnswer r) (now (work .exit)) (now (list .exit)) ⌝ }
 {
     let counts = start::begin::set_up(grid, rows, columns, work);
     let safe = counts.safe;
@@ -93,7 +94,7 @@ fn search_checked(
 ) -> Rolled
     requires { ⌜ Shape rows columns ⌝ }
     requires { ⌜ (length (now grid) ≡ rows * columns) × (5 * (rows * columns) ≤ length (now work)) × (1 ≤ rounds) ⌝ }
-    ensures { λ r. ⌜ Kept (drawnSearch (gridOf rows columns (now (grid .entry))) (randomSearch (gridOf rows columns (now (grid .entry))) (now (draws .entry)) rounds) (now (work .entry))) (rolledAnswer r) (now (work .exit)) ⌝ }
+    ensures { λ r. ⌜ Kept (drawnSearch (gridOf rows columns (now (grid .entry))) (randomSearch (gridOf rows columns (now (grid .entry))) (lent (now (draws .entry))) rounds) (now (work .entry))) (rolledAnswer r) (now (work .exit)) ⌝ }
 {
     let counts = start::begin::set_up(grid, rows, columns, work);
     let safe = counts.safe;
