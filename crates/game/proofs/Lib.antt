@@ -22,6 +22,7 @@ pub mod Randoms
 pub mod Falls
 pub mod Searches
 pub mod Ranges
+pub mod Onwards
 pub mod Table
 pub mod Replays
 pub mod Areas
