@@ -9,11 +9,13 @@ use lib.IntN.{ℤ}
 use lib.ListN.{getD, length}
 use lib.Seq.{sets}
 use Rattle.game.specs.Grid.{Grid, size}
+use Rattle.game.specs.Lists.{keep, range}
 use Rattle.game.specs.Position.{Position, untouched, closedSafe}
 use Rattle.game.specs.Moves.{Move, after, left, word}
-use Rattle.game.specs.Draws as Game
+use Rattle.game.specs.Draws.{Drawn}
 use Rattle.game.specs.Rounds.{Round, Searched, choice, movesAt, movesOf, stepOf}
 use Rattle.area.specs.Stages.{Stands}
+use Rattle.ties.specs.Candidates.{candidateAt, candidatesOf, forClick}
 use Rattle.moves.specs.Promises.{Made}
 use Rattle.moves.specs.declared.State.{State}
 use Rattle.random.specs.declared.Stepped.{Stepped}
@@ -24,6 +26,11 @@ use Rattle.random.specs.declared.Rolled.the-variants as Rolls
 -- the moves of a step at the cell that it took: one L where the highest raised premium is below 10
 abbrev pub takenMoves : Grid → Position → ℕ → ℕ → List Move
 takenMoves g s top i = cond (ltb top 10) (left i ∷ []) (movesAt g s i)
+
+-- so high a raised premium tells the cells of a choice from the others, and whether it is for one L
+pub record Tells (g : Grid) (s : Position) (w : List ℤ) (cells top : ℕ) : Type 0 where
+  pub one-click : ltb top 10 ≡ forClick (choice false g s)
+  pub candidates : keep (candidateAt top w) (range 0 cells) ≡ candidatesOf (choice false g s)
 
 -- a step was drawn and made; the state after it, and where the next draw reads on, are handed on
 pub record Went (rows columns : ℕ) (g : Grid) (s : Position) (old : List ℤ) (ms : List Move) (next : ℕ) (list : List ℕ) (t : State) (w′ : List ℤ) (list′ : List ℕ) (r : Stepped) : Type 0 where
@@ -38,7 +45,7 @@ pub record Dried (r : Stepped) (w w′ : List ℤ) (list list′ : List ℕ) : T
   pub same-list : list′ ≡ list
 
 -- what a random step comes to, by its draw
-abbrev pub Stepping : (rows columns : ℕ) → Grid → Position → List ℤ → Option Game.Drawn → List ℕ → State → List ℤ → List ℤ → List ℕ → Stepped → Type 0
+abbrev pub Stepping : (rows columns : ℕ) → Grid → Position → List ℤ → Option Drawn → List ℕ → State → List ℤ → List ℤ → List ℕ → Stepped → Type 0
 Stepping rows columns g s old none list t w w′ list′ r = Dried r w w′ list list′
 Stepping rows columns g s old (some d) list t w w′ list′ r =
     Went rows columns g s old (stepOf g s (choice false g s) (d .place) .moves) (d .next) list t w′ list′ r

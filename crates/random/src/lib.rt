@@ -12,12 +12,19 @@ ghost use lib.ListN.{length};
 ghost use Rattle.game.specs.Grid.{Grid, safe, zeroCell};
 ghost use Rattle.game.specs.Position.{Position, Tidy, closed as isClosed, closedSafe, untouched};
 ghost use Rattle.game.specs.Moves.{Move, after};
-ghost use Rattle.game.specs.Draws.{draw};
-ghost use Rattle.game.specs.Rounds.{choice, topCells, width, randomRound, randomSearch, searchFrom};
+ghost use Rattle.game.specs.Draws.{lent};
+ghost use Rattle.game.specs.Rounds.{choice, stepOf, topCells, width, randomRound, randomSearch, searchFrom};
 ghost use Rattle.area.specs.Stages.{Shape, Stands};
 ghost use Rattle.choices.specs.Tops.{Kept, UnitsKept};
+ghost use Rattle.moves.specs.Promises.{Made};
 ghost use Rattle.rounds.specs.Promises.{MadeKept, Fresh};
-ghost use Rattle.random.specs.Promises.{Counted, takenMoves, once, Stepping, Rolling, Searching};
+ghost use Rattle.random.specs.Promises.{Counted, Tells, takenMoves, once, Stepping, Rolling, Searching};
+
+// What a step draws among: so many cells, and the highest raised premium; below 10 the step is one L.
+struct Candidates {
+    top: usize,
+    count: usize,
+}
 
 // What a step hands on: the state after it, and the place at which the next draw reads on.
 pub struct Onward {
@@ -60,7 +67,51 @@ fn take(
     steps::act_at(work, rows, columns, list, tops, state, index)
 }
 
-// A step at a cell drawn among those of highest premium, or, if none reaches 0, among the closed units. The draw reads from the place next on.
+// The cells that a step may take, counted.
+fn count_candidates(
+    work: &[i32],
+    rows: usize,
+    columns: usize,
+    tops: &mut [u8],
+    units: &mut [u8],
+) -> Candidates
+    requires { ⌜ Shape rows columns ⌝ }
+    requires { ⌜ (5 * (rows * columns) ≤ length (now work)) × Kept false (now work) rows columns (now tops) × UnitsKept (now work) rows columns (now tops) (now units) ⌝ }
+    ensures { λ _. ⌜ (length (now (tops .exit)) ≡ length (now (tops .entry))) × Kept false (now (work .entry)) rows columns (now (tops .exit)) ⌝ }
+    ensures { λ _. ⌜ (length (now (units .exit)) ≡ length (now (units .entry))) × UnitsKept (now (work .entry)) rows columns (now (units .exit)) (now (units .exit)) ⌝ }
+    ensures { λ r. ⌜ ((g : Grid) (s : Position) (old : List ℤ) → Stands rows columns g s old (now (work .entry)) → Tells g s (now (work .entry)) (rows * columns) (r .top) × (r .count ≡ width (choice false g s))) ⌝ }
+{
+    let top = ties::top(work, rows, columns, tops, units);
+    let count = ties::count(work, rows, columns, tops, units, top);
+    Candidates { top, count }
+}
+
+// The candidate at a place, in index order, is taken: the moves of a step there.
+fn take_place(
+    work: &mut [i32],
+    rows: usize,
+    columns: usize,
+    list: &mut [u32],
+    tops: &mut [u8],
+    units: &mut [u8],
+    state: State,
+    top: usize,
+    place: usize,
+) -> State
+    requires { ⌜ Shape rows columns ⌝ }
+    requires { ⌜ (5 * (rows * columns) ≤ length (now work)) × (state .moves ≤ 2 ^ 45) ⌝ }
+    requires { ⌜ Kept false (now work) rows columns (now tops) × UnitsKept (now work) rows columns (now units) (now units) ⌝ }
+    ensures { λ r. ⌜ ((g : Grid) (s : Position) (old : List ℤ) → Stands rows columns g s old (now (work .entry)) → Tidy g s → Tells g s (now (work .entry)) (rows * columns) top
+        → place < width (choice false g s) → state .closed ≡ closedSafe g s
+        → Made rows columns g s old (stepOf g s (choice false g s) place .moves) (now (list .entry)) state (now (work .exit)) (now (list .exit)) r
+        × Kept false (now (work .exit)) rows columns (now (tops .exit))
+        × UnitsKept (now (work .exit)) rows columns (now (tops .exit)) (now (units .exit))) ⌝ }
+{
+    let index = ties::pick(work, rows, columns, tops, units, top, place);
+    take(work, rows, columns, list, tops, state, top, index)
+}
+
+// A step: the candidates are counted, one is drawn, from the place next on, and the drawn one is taken.
 pub fn step(
     work: &mut [i32],
     rows: usize,
@@ -77,18 +128,18 @@ pub fn step(
     requires { ⌜ Kept false (now work) rows columns (now tops) × UnitsKept (now work) rows columns (now tops) (now units) ⌝ }
     ensures { λ r. ⌜ ((g : Grid) (s : Position) (old : List ℤ) → Stands rows columns g s old (now (work .entry)) → Tidy g s
         → 1 ≤ closedSafe g s → state .closed ≡ closedSafe g s
-        → Stepping rows columns g s old (draw (now (draws .entry)) next (width (choice false g s))) (now (list .entry)) state (now (work .entry)) (now (work .exit)) (now (list .exit)) r
+        → Stepping rows columns g s old (lent (now (draws .entry)) next (width (choice false g s))) (now (list .entry)) state (now (work .entry)) (now (work .exit)) (now (list .exit)) r
         × Kept false (now (work .exit)) rows columns (now (tops .exit))
         × UnitsKept (now (work .exit)) rows columns (now (tops .exit)) (now (units .exit))) ⌝ }
 {
-    let top = ties::top(work, rows, columns, tops, units);
-    let candidates = ties::count(work, rows, columns, tops, units, top);
-    let drawn = reads::draw_from(draws, next, candidates);
+    let candidates = count_candidates(work, rows, columns, tops, units);
+    let count = candidates.count;
+    let top = candidates.top;
+    let drawn = reads::draw_from(draws, next, count);
     let Drawn::Place(place, after) = drawn else {
         return Stepped::Dry;
     };
-    let index = ties::pick(work, rows, columns, tops, units, top, place);
-    let taken = take(work, rows, columns, list, tops, state, top, index);
+    let taken = take_place(work, rows, columns, list, tops, units, state, top, place);
     Stepped::Went(Onward {
         state: taken,
         next: after,
@@ -112,7 +163,7 @@ fn roll_on(
     requires { ⌜ Fresh rows columns (now work) safe ⌝ }
     requires { ⌜ Kept false (now work) rows columns (now tops) × UnitsKept (now work) rows columns (now tops) (now units) ⌝ }
     ensures { λ r. ⌜ ((g : Grid) (old : List ℤ) → Stands rows columns g (untouched g) old (now (work .entry))
-        → Rolling rows columns g old (randomRound g (now (draws .entry)) next) (now (list .entry)) (now (work .exit)) (now (list .exit)) r) ⌝ }
+        → Rolling rows columns g old (randomRound g (lent (now (draws .entry))) next) (now (list .entry)) (now (work .exit)) (now (list .exit)) r) ⌝ }
 {
     let mut state = State {
         moves: 0,
@@ -144,7 +195,7 @@ pub fn round(
     requires { ⌜ 5 * (rows * columns) ≤ length (now work) ⌝ }
     requires { ⌜ Fresh rows columns (now work) safe ⌝ }
     ensures { λ r. ⌜ ((g : Grid) (old : List ℤ) → Stands rows columns g (untouched g) old (now (work .entry))
-        → Rolling rows columns g old (randomRound g (now (draws .entry)) next) (now (list .entry)) (now (work .exit)) (now (list .exit)) r) ⌝ }
+        → Rolling rows columns g old (randomRound g (lent (now (draws .entry))) next) (now (list .entry)) (now (work .exit)) (now (list .exit)) r) ⌝ }
 {
     let mut tops = [0u8; 255];
     let mut units = [0u8; 255];
@@ -174,7 +225,7 @@ fn unlisted(
     requires { ⌜ 5 * (rows * columns) ≤ length (now work) ⌝ }
     requires { ⌜ Fresh rows columns (now work) safe ⌝ }
     ensures { λ r. ⌜ ((g : Grid) (old : List ℤ) → Stands rows columns g (untouched g) old (now (work .entry))
-        → Searching rows columns g old (once (randomRound g (now (draws .entry)) next)) (now (work .exit)) r) ⌝ }
+        → Searching rows columns g old (once (randomRound g (lent (now (draws .entry))) next)) (now (work .exit)) r) ⌝ }
 {
     let mut none = [0u32; 0];
     round(work, rows, columns, &mut none, draws, safe, next)
@@ -193,7 +244,7 @@ fn again(
     requires { ⌜ 5 * (rows * columns) ≤ length (now work) ⌝ }
     requires { ⌜ Counted rows columns (now work) safe ⌝ }
     ensures { λ r. ⌜ ((g : Grid) (s : Position) (old : List ℤ) → Stands rows columns g s old (now (work .entry))
-        → Searching rows columns g old (once (randomRound g (now (draws .entry)) next)) (now (work .exit)) r) ⌝ }
+        → Searching rows columns g old (once (randomRound g (lent (now (draws .entry))) next)) (now (work .exit)) r) ⌝ }
 {
     start::begin::reset(work, rows, columns);
     unlisted(work, rows, columns, draws, safe, next)
@@ -228,7 +279,7 @@ fn search_on(
     requires { ⌜ 5 * (rows * columns) ≤ length (now work) ⌝ }
     requires { ⌜ Counted rows columns (now work) safe ⌝ }
     ensures { λ r. ⌜ ((g : Grid) (old : List ℤ) (ms : List Move) → Stands rows columns g (after g (untouched g) ms) old (now (work .entry))
-        → Searching rows columns g old (searchFrom more g (now (draws .entry)) (record { least = clicks; next = next; moves = ms })) (now (work .exit)) r) ⌝ }
+        → Searching rows columns g old (searchFrom more g (lent (now (draws .entry))) (record { least = clicks; next = next; moves = ms })) (now (work .exit)) r) ⌝ }
 {
     let mut least = clicks;
     let mut at = next;
@@ -258,7 +309,7 @@ pub fn search(
     requires { ⌜ (5 * (rows * columns) ≤ length (now work)) × (1 ≤ rounds) ⌝ }
     requires { ⌜ Fresh rows columns (now work) safe ⌝ }
     ensures { λ r. ⌜ ((g : Grid) (old : List ℤ) → Stands rows columns g (untouched g) old (now (work .entry))
-        → Searching rows columns g old (randomSearch g (now (draws .entry)) rounds) (now (work .exit)) r) ⌝ }
+        → Searching rows columns g old (randomSearch g (lent (now (draws .entry))) rounds) (now (work .exit)) r) ⌝ }
 {
     let rolled = unlisted(work, rows, columns, draws, safe, 0);
     let Rolled::Ended(clicks, next) = rolled else {
