@@ -12,7 +12,7 @@ use Rattle.moves.specs.declared.State.{State}
 use Rattle.random.specs.declared.Onward.{Onward}
 use Rattle.random.specs.declared.Stepped.{Stepped}
 use Rattle.random.specs.declared.Stepped.the-variants as Steps
-use Rattle.random.specs.declared.Rolled.the-variants as Rolls
+use Rattle.random.specs.declared.Finish.the-variants as Finishes
 use Rattle.area.specs.Stages.{Stands}
 use Rattle.game.specs.Draws.{Drawn, Places, Source}
 use Rattle.game.specs.Grid.{Grid}
@@ -86,15 +86,15 @@ module _ (rows columns : ℕ) (g : Grid) (old : List ℤ) (source : Source) (saf
   here = after g (untouched g) (o .done)
 
   -- all safe cells are open
-  pub course-ends : u .closed ≡ 0 → Rolling rows columns g old (randomRound g source at) list v l (Rolls.Ended (u .moves) next)
+  pub course-ends : u .closed ≡ 0 → Rolling rows columns g old (randomRound g source at) list v l (Finishes.Ended (u .moves) next)
   course-ends z =
       let c = o .rest in
       let e = draws-none (o .left-over) g source here next (sym (o .made .left-closed) ∙ z) in
       let m : u .moves ≡ length (movesOf (c .steps)) = omega (arith, o .made .clicks, ap (λ (ms : List Move). length ms) (c .moves-are)) in
-      subst (λ (x : Option Round). Rolling rows columns g old x list v l (Rolls.Ended (u .moves) next))
+      subst (λ (x : Option Round). Rolling rows columns g old x list v l (Finishes.Ended (u .moves) next))
       (sym (c .all ∙ ap (ahead (c .steps)) e ∙ ap (λ (ts : List Step). some (record { steps = ts; next = next })) (append-nil (c .steps))))
       (record {
-        answer = ap (λ (k : ℕ). Rolls.Ended k next) m;
+        answer = ap (λ (k : ℕ). Finishes.Ended k next) m;
         stands = subst (λ (ms : List Move). Stands rows columns g (after g (untouched g) ms) old v) (c .moves-are) (o .made .stands);
         noted = o .made .noted ∙ ap (λ (ms : List Move). sets list 0 (map word ms)) (c .moves-are);
       })
@@ -109,15 +109,15 @@ module _ (rows columns : ℕ) (g : Grid) (old : List ℤ) (source : Source) (saf
     came = q here (o .made .stands) (o .made .tidy) some-closed (o .made .left-closed)
 
     -- the draws ran dry
-    pub course-breaks : r ≡ Steps.Dry → Rolling rows columns g old (randomRound g source at) list w′ list′ Rolls.Dry
+    pub course-breaks : r ≡ Steps.Dry → Rolling rows columns g old (randomRound g source at) list w′ list′ Finishes.Dry
     course-breaks y = go (source next (width (choice false g here))) refl came
       where
         go : (x : Option Drawn) → source next (width (choice false g here)) ≡ x → Stepping rows columns g here old x l u v w′ list′ r
-            → Rolling rows columns g old (randomRound g source at) list w′ list′ Rolls.Dry
+            → Rolling rows columns g old (randomRound g source at) list w′ list′ Finishes.Dry
         go none e k =
             let n = partway-more rows columns g (untouched g) old list (fresh safe) (Left g source at next) v l u o some-closed in
             let f = k .same-list ∙ o .made .noted in
-            subst (λ (x : Option Round). Rolling rows columns g old x list w′ list′ Rolls.Dry)
+            subst (λ (x : Option Round). Rolling rows columns g old x list w′ list′ Finishes.Dry)
             (sym (n .1 .all ∙ ap (ahead (n .1 .steps)) (draws-on (n .0) g source here next some-closed ∙ ap (by-draw (n .0) g source here) e)))
             (record {
               answer = refl;

@@ -10,8 +10,8 @@ use lib.Dec.{T, eqb}
 use borrow.Author.Tests.{eq-eqb}
 use lib.IntN.{ℤ}
 use lib.ListN.{length}
-use Rattle.random.specs.declared.Rolled.{Rolled}
-use Rattle.random.specs.declared.Rolled.the-variants.{Dry, Ended}
+use Rattle.random.specs.declared.Finish.{Finish}
+use Rattle.random.specs.declared.Finish.the-variants.{Dry, Ended}
 use Rattle.area.specs.Stages.{Stands, held}
 use Rattle.game.specs.Draws.{Source, lent}
 use Rattle.game.specs.Grid.{Grid}
@@ -27,7 +27,7 @@ use Rattle.game.proofs.Searches.{first, goes-on, onward, still-same}
 
 -- ---- one round
 
-pub once-searched : (rows columns : ℕ) (g : Grid) (old : List ℤ) (o : Option Round) (list : List ℕ) (w′ : List ℤ) (list′ : List ℕ) (r : Rolled)
+pub once-searched : (rows columns : ℕ) (g : Grid) (old : List ℤ) (o : Option Round) (list : List ℕ) (w′ : List ℤ) (list′ : List ℕ) (r : Finish)
     → Rolling rows columns g old o list w′ list′ r → Searching rows columns g old (once o) w′ r
 once-searched rows columns g old none list w′ list′ r q = record { answer = q .answer; position = q .position; stands = q .stands }
 once-searched rows columns g old (some e) list w′ list′ r q = record { answer = q .answer; stands = q .stands }
@@ -64,7 +64,7 @@ record Drawn (rows columns : ℕ) (g : Grid) (old : List ℤ) (source : Source) 
   clicks : paid ≡ length (movesOf (round .steps))
   place : next ≡ round .next
 
-module _ (rows columns : ℕ) (g : Grid) (old : List ℤ) (source : Source) (at : ℕ) (w′ : List ℤ) (r : Rolled) (q : Searching rows columns g old (once (randomRound g source at)) w′ r) where
+module _ (rows columns : ℕ) (g : Grid) (old : List ℤ) (source : Source) (at : ℕ) (w′ : List ℤ) (r : Finish) (q : Searching rows columns g old (once (randomRound g source at)) w′ r) where
   drawn : (paid next : ℕ) → r ≡ Ended paid next → Drawn rows columns g old source at w′ paid next
   drawn paid next y = go (randomRound g source at) refl q
     where
@@ -137,7 +137,7 @@ turns-used bytes at next (suc left) still h u z = go (eqb next at) refl still z 
 
 -- ---- the first round
 
-module _ (rows columns : ℕ) (g : Grid) (old : List ℤ) (source : Source) (w′ : List ℤ) (r : Rolled) (q : Searching rows columns g old (once (randomRound g source 0)) w′ r) (rounds : ℕ) where
+module _ (rows columns : ℕ) (g : Grid) (old : List ℤ) (source : Source) (w′ : List ℤ) (r : Finish) (q : Searching rows columns g old (once (randomRound g source 0)) w′ r) (rounds : ℕ) where
   pub first-breaks : r ≡ Dry → Searching rows columns g old (randomSearch g source rounds) w′ Dry
   unfolding randomSearch
   first-breaks y =
@@ -171,7 +171,7 @@ still-counted rows columns w source clicks next more w′ least at left safe m f
     record { grid = f .grid; old = f .old; moves = s .moves; stands = s .stands; counts = f .counts }
 
 -- each round played leaves fewer that can still be played
-pub turns-fall : (rows columns : ℕ) (bytes : List ℕ) (at : ℕ) (w w′ : List ℤ) (r : Rolled) (safe : ℕ) → Counted rows columns w safe
+pub turns-fall : (rows columns : ℕ) (bytes : List ℕ) (at : ℕ) (w w′ : List ℤ) (r : Finish) (safe : ℕ) → Counted rows columns w safe
     → ((g : Grid) (s : Position) (old : List ℤ) → Stands rows columns g s old w → Searching rows columns g old (once (randomRound g (lent bytes) at)) w′ r)
     → (paid next left still : ℕ) → r ≡ Ended paid next → 0 < left → still ≡ cond (eqb next at) 0 (left - 1) → turns (length bytes) next still < turns (length bytes) at left
 turns-fall rows columns bytes at w w′ r safe f q paid next left still y h z =

@@ -38,8 +38,8 @@ pub enum Stepped {
     Dry,
 }
 
-// Clicks and the place after the last draw, or the draws ran dry.
-pub enum Rolled {
+// How a round or a search ends: its clicks and the place after the last draw, or the draws ran dry.
+pub enum Finish {
     Ended(usize, usize),
     Dry,
 }
@@ -157,7 +157,7 @@ fn roll_on(
     units: &mut [u8],
     safe: usize,
     next: usize,
-) -> Rolled
+) -> Finish
     requires { ⌜ Shape rows columns ⌝ }
     requires { ⌜ 5 * (rows * columns) ≤ length (now work) ⌝ }
     requires { ⌜ Fresh rows columns (now work) safe ⌝ }
@@ -173,12 +173,12 @@ fn roll_on(
     while 0 < state.closed {
         let stepped = step(work, rows, columns, list, draws, tops, units, state, at);
         let Stepped::Went(onward) = stepped else {
-            return Rolled::Dry;
+            return Finish::Dry;
         };
         state = onward.state;
         at = onward.next;
     }
-    Rolled::Ended(state.moves, at)
+    Finish::Ended(state.moves, at)
 }
 
 // A round from the position before any move, of so many safe cells, that reads its draws from a place on.
@@ -190,7 +190,7 @@ pub fn round(
     draws: &[u8],
     safe: usize,
     next: usize,
-) -> Rolled
+) -> Finish
     requires { ⌜ Shape rows columns ⌝ }
     requires { ⌜ 5 * (rows * columns) ≤ length (now work) ⌝ }
     requires { ⌜ Fresh rows columns (now work) safe ⌝ }
@@ -220,7 +220,7 @@ fn unlisted(
     draws: &[u8],
     safe: usize,
     next: usize,
-) -> Rolled
+) -> Finish
     requires { ⌜ Shape rows columns ⌝ }
     requires { ⌜ 5 * (rows * columns) ≤ length (now work) ⌝ }
     requires { ⌜ Fresh rows columns (now work) safe ⌝ }
@@ -239,7 +239,7 @@ fn again(
     draws: &[u8],
     safe: usize,
     next: usize,
-) -> Rolled
+) -> Finish
     requires { ⌜ Shape rows columns ⌝ }
     requires { ⌜ 5 * (rows * columns) ≤ length (now work) ⌝ }
     requires { ⌜ Counted rows columns (now work) safe ⌝ }
@@ -257,8 +257,8 @@ fn fewer(least: usize, clicks: usize) -> usize
     if clicks < least { clicks } else { least }
 }
 
-// The rounds still to play: none after one that used no bytes, since each later one would be the same.
-fn still(rounds: usize, began: usize, next: usize) -> usize
+// The rounds still to play: none after one that stayed at its place, since each later one would be the same.
+fn rounds_left(rounds: usize, began: usize, next: usize) -> usize
     ensures { λ r. ⌜ (r ≡ cond (eqb next began) 0 rounds) × (r ≤ rounds) ⌝ }
 {
     if next == began { 0 } else { rounds }
@@ -274,7 +274,7 @@ fn search_on(
     clicks: usize,
     next: usize,
     more: usize,
-) -> Rolled
+) -> Finish
     requires { ⌜ Shape rows columns ⌝ }
     requires { ⌜ 5 * (rows * columns) ≤ length (now work) ⌝ }
     requires { ⌜ Counted rows columns (now work) safe ⌝ }
@@ -286,14 +286,14 @@ fn search_on(
     let mut left = more;
     while 0 < left {
         let rolled = again(work, rows, columns, draws, safe, at);
-        let Rolled::Ended(paid, onward) = rolled else {
-            return Rolled::Dry;
+        let Finish::Ended(paid, onward) = rolled else {
+            return Finish::Dry;
         };
         least = fewer(least, paid);
-        left = still(left - 1, at, onward);
+        left = rounds_left(left - 1, at, onward);
         at = onward;
     }
-    Rolled::Ended(least, at)
+    Finish::Ended(least, at)
 }
 
 // So many rounds one after another through the same draws: the least clicks.
@@ -304,7 +304,7 @@ pub fn search(
     draws: &[u8],
     safe: usize,
     rounds: usize,
-) -> Rolled
+) -> Finish
     requires { ⌜ Shape rows columns ⌝ }
     requires { ⌜ (5 * (rows * columns) ≤ length (now work)) × (1 ≤ rounds) ⌝ }
     requires { ⌜ Fresh rows columns (now work) safe ⌝ }
@@ -312,9 +312,9 @@ pub fn search(
         → Searching rows columns g old (randomSearch g (lent (now (draws .entry))) rounds) (now (work .exit)) r) ⌝ }
 {
     let rolled = unlisted(work, rows, columns, draws, safe, 0);
-    let Rolled::Ended(clicks, next) = rolled else {
-        return Rolled::Dry;
+    let Finish::Ended(clicks, next) = rolled else {
+        return Finish::Dry;
     };
-    let more = still(rounds - 1, 0, next);
+    let more = rounds_left(rounds - 1, 0, next);
     search_on(work, rows, columns, draws, safe, clicks, next, more)
 }

@@ -15,22 +15,22 @@ use Rattle.game.specs.Calls.{Answer, draws, drawnRound, drawnSearch, gives, ref
 use Rattle.game.proofs.Randoms.{random-sound}
 use Rattle.area.specs.Stages.{held}
 use Rattle.random.specs.Promises.{Rolling, Searching}
-use Rattle.random.specs.declared.Rolled.{Rolled}
-use Rattle.random.specs.declared.Rolled.the-variants.{Dry, Ended}
+use Rattle.random.specs.declared.Finish.{Finish}
+use Rattle.random.specs.declared.Finish.the-variants.{Dry, Ended}
 use Rattle.rounds.proofs.Ending.{listed-moves}
 use Rattle.zini.specs.Answers.{Kept, KeptList}
 use Rattle.zini.specs.Clearing.{Cleared}
 use Rattle.zini.proofs.Clearing.{area-cleared, list-cleared}
 
 -- the answer to be given for it
-abbrev answerOf : Rolled → Answer
+abbrev answerOf : Finish → Answer
 answerOf (Ended n k) = gives (n ∷ k ∷ [])
 answerOf Dry = refuses draws
 
 differ : (n k : ℕ) → Ended n k ≡ Dry → ⊥
-differ n k e = let q : _≡_ {A = ℕ} 0 6 = ap (λ (r : Rolled). answerOf r .number) e in omega arith
+differ n k e = let q : _≡_ {A = ℕ} 0 6 = ap (λ (r : Finish). answerOf r .number) e in omega arith
 
-module _ (rows columns : ℕ) (g : Grid) (old w w′ : List ℤ) (x : Rolled) where
+module _ (rows columns : ℕ) (g : Grid) (old w w′ : List ℤ) (x : Finish) where
   pub round-ended : (o : Option Round) (before l : List ℕ) (n k : ℕ) → ((r : Round) → o ≡ some r → length (movesOf (r .steps)) ≤ length before)
       → x ≡ Ended n k → ((s : Position) → w ≡ held g s old → w′ ≡ areaOf g s old) → Rolling rows columns g old o before w l x → KeptList (drawnRound g o old before) (gives (n ∷ k ∷ [])) w′ l
   round-ended none before l n k few e f p = absurd (differ n k (sym e ∙ p .answer))

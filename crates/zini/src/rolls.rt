@@ -20,7 +20,7 @@ ghost use Rattle.zini.specs.Answers.{Kept, KeptList, rolledAnswer};
 
 // A random round's lent memory is handed back: settled, or filled with 0 where the draws ran dry.
 fn end_round(
-    rolled: random::Rolled,
+    rolled: random::Finish,
     rows: usize,
     columns: usize,
     work: &mut [i32],
@@ -33,11 +33,11 @@ fn end_round(
         → KeptList (drawnRound g (randomRound g source 0) old before) (rolledAnswer r) (now (work .exit)) (now (list .exit))) ⌝ }
 {
     match rolled {
-        random::Rolled::Ended(clicks, used) => {
+        random::Finish::Ended(clicks, used) => {
             start::begin::settle(work, rows * columns);
             Rolled::Clicks(clicks, used)
         }
-        random::Rolled::Dry => {
+        random::Finish::Dry => {
             clears::clear_area(work, 5 * (rows * columns));
             clears::clear_list(list, rows * columns);
             Rolled::Refused(Refusal::Draws)
@@ -46,18 +46,18 @@ fn end_round(
 }
 
 // A random search's lent memory is handed back: settled, or filled with 0 where the draws ran dry.
-fn end_search(rolled: random::Rolled, rows: usize, columns: usize, work: &mut [i32]) -> Rolled
+fn end_search(rolled: random::Finish, rows: usize, columns: usize, work: &mut [i32]) -> Rolled
     requires { ⌜ Shape rows columns ⌝ }
     requires { ⌜ 5 * (rows * columns) ≤ length (now work) ⌝ }
     ensures { λ r. ⌜ ((g : Grid) (o : Option Searched) (old : List ℤ) → size g ≡ rows * columns → 5 * size g ≤ length old
         → Searching rows columns g old o (now (work .entry)) rolled → Kept (drawnSearch g o old) (rolledAnswer r) (now (work .exit))) ⌝ }
 {
     match rolled {
-        random::Rolled::Ended(least, used) => {
+        random::Finish::Ended(least, used) => {
             start::begin::settle(work, rows * columns);
             Rolled::Clicks(least, used)
         }
-        random::Rolled::Dry => {
+        random::Finish::Dry => {
             clears::clear_area(work, 5 * (rows * columns));
             Rolled::Refused(Refusal::Draws)
         }

@@ -27,11 +27,11 @@ returns c =
     let a = x .before .before .before .args in
     λ g old st. first-breaks (a .rows) (a .columns) g old (lent (a .draws .now)) (x .unlisted .last .0) (x .unlisted .result) (x .unlisted .ensures g old st) (a .rounds) (c .enum-told .given .1)
 
-sub-still : tie.Need-sub-still
-sub-still c = search needs
+sub-rounds-left : tie.Need-sub-rounds-left
+sub-rounds-left c = search needs
 
-still-requires : tie.Need-still-requires
-still-requires c κs = search needs
+rounds-left-requires : tie.Need-rounds-left-requires
+rounds-left-requires c κs = search needs
 
 search-on-requires : tie.Need-search-on-requires
 search-on-requires c κs =
@@ -42,7 +42,7 @@ search-on-requires c κs =
     let a = b .args in
     let f = b .pre .1 .1 in
     let d = first-ends (a .rows) (a .columns) (f .grid) (f .old) (lent (a .draws .now)) (x .unlisted .last .0) (x .unlisted .result) (x .unlisted .ensures (f .grid) (f .old) (f .stands)) (a .rounds)
-    _ _ (z .still .result) (o .rolled .given .1) (z .still .ensures .0) in
+    _ _ (z .rounds-left .result) (o .rolled .given .1) (z .rounds-left .ensures .0) in
     (b .pre .0, (search needs, record { grid = f .grid; old = f .old; moves = d .moves; stands = d .stands; counts = f .counts }))
 
 same-length-2 : tie.Need-same-length-2
@@ -57,7 +57,7 @@ returns-2 c =
     let a = x .before .before .before .args in
     λ g old st.
     let d = first-ends (a .rows) (a .columns) g old (lent (a .draws .now)) (x .unlisted .last .0) (x .unlisted .result) (x .unlisted .ensures g old st) (a .rounds)
-    _ _ (z .still .result) (o .rolled .given .1) (z .still .ensures .0) in
+    _ _ (z .rounds-left .result) (o .rolled .given .1) (z .rounds-left .ensures .0) in
     subst (λ (s : Option Searched). Searching (a .rows) (a .columns) g old s (y .search-on .last .0) (y .search-on .result)) (sym (d .rest)) (y .search-on .ensures g old (d .moves) (d .stands))
 
 pub search-spec : {M : Type 1} → statement M
@@ -69,8 +69,8 @@ search-spec =
     enum-told
     same-length
     returns
-    sub-still
-    still-requires
+    sub-rounds-left
+    rounds-left-requires
     search-on-requires
     same-length-2
     returns-2)

@@ -57,11 +57,11 @@ returns c =
 fewer-requires : tie.Need-fewer-requires Inv-loop μ-loop
 fewer-requires c κs = search needs
 
-sub-still : tie.Need-sub-still Inv-loop μ-loop
-sub-still c = search needs
+sub-rounds-left : tie.Need-sub-rounds-left Inv-loop μ-loop
+sub-rounds-left c = search needs
 
-still-requires : tie.Need-still-requires Inv-loop μ-loop
-still-requires c κs = search needs
+rounds-left-requires : tie.Need-rounds-left-requires Inv-loop μ-loop
+rounds-left-requires c κs = search needs
 
 loop-less : tie.Need-loop-less Inv-loop μ-loop
 loop-less c =
@@ -73,7 +73,7 @@ loop-less c =
     let f = still-counted (a .rows) (a .columns) (a .work .now) (lent (a .draws .now)) (a .clicks) (a .next) (a .more) (l .loop .work) (l .loop .least) (l .loop .at) (l .loop .left) (a .safe)
     (l .loop .inv .1) (b .pre .1 .1) in
     turns-fall (a .rows) (a .columns) (a .draws .now) (l .loop .at) (l .loop .work) (x .again .last .0) (x .again .result) (a .safe) f (x .again .ensures)
-    _ _ (l .loop .left) (c .still .result) (o .rolled .given .1) (omega arith) (c .still .ensures .0)
+    _ _ (l .loop .left) (c .rounds-left .result) (o .rolled .given .1) (omega arith) (c .rounds-left .ensures .0)
 
 loop-again : tie.Need-loop-again Inv-loop μ-loop
 loop-again c =
@@ -88,7 +88,7 @@ loop-again c =
             let f = l .loop .inv .1 .sofar g old ms st in
             search-goes-on (a .rows) (a .columns) g old (lent (a .draws .now)) (l .loop .at) (x .again .last .0) (x .again .result) (x .again .ensures g (after g (untouched g) (f .moves)) old (f .stands))
             (searchFrom (a .more) g (lent (a .draws .now)) (record { least = a .clicks; next = a .next; moves = ms })) (l .loop .work) (l .loop .least) (l .loop .left) f (omega arith)
-            _ _ (c .before .fewer .result) (c .still .result) (o .rolled .given .1) (c .before .fewer .ensures) (c .still .ensures .0);
+            _ _ (c .before .fewer .result) (c .rounds-left .result) (o .rolled .given .1) (c .before .fewer .ensures) (c .rounds-left .ensures .0);
       },
     )
 
@@ -115,8 +115,8 @@ search-on-spec =
     same-length
     returns
     fewer-requires
-    sub-still
-    still-requires
+    sub-rounds-left
+    rounds-left-requires
     loop-less
     loop-again
     same-length-2
