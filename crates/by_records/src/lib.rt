@@ -1,6 +1,6 @@
 // The rounds over runs of move records: the flat list that is lent beside the run is written by the covered call, and its words become the run's records.
-use checks::Checked;
-use checks::Refusal;
+use refusals::Checked;
+use refusals::Refusal;
 use records::MoveRecord;
 use zini::Priced;
 use zini::Replayed;
@@ -11,7 +11,7 @@ ghost use lib.IntN.{ℤ};
 ghost use lib.ListN.{length};
 ghost use Rattle.game.specs.Calls.{firstGiven, greedyCall, gridChecks, openingsFirstCall, randomRoundCall, replayCall};
 ghost use Rattle.area.specs.Numbers.{gridOf};
-ghost use Rattle.checks.specs.Refusals.{refusalOf};
+ghost use Rattle.refusals.specs.Names.{refusalOf};
 ghost use Rattle.zini.specs.Answers.{Kept, KeptList, pricedAnswer, replayedAnswer, rolledAnswer};
 ghost use Rattle.zini.specs.declared.Priced.the-variants as Prices;
 ghost use Rattle.by_records.specs.Promises.{KeptReplay, KeptRun, copiedIf, priceCall, replayChecks, replayWithin, roomCheck, within, writtenBy};

@@ -5,14 +5,14 @@ use native.Mathlib.Decide.{decLe, ℕ-discrete}
 use mathlib.Core.Path.{_≡_, ap, refl, sym, _∙_}
 use mathlib.Core.Bool.{Bool}
 use mathlib.Core.List.{List, [], _∷_, _++_}
-use mathlib.Core.Option.{Option, none, some}
+use mathlib.Core.Option.{Option, Option·some-ne-none, none, some}
 use lib.Dec.{eqb, ltb}
 use lib.IntN.{ℤ}
 use Rattle.game.specs.Grid.{Grid}
 use borrow.Author.Tests.{eq-eqb, le-ltb, lt-ltb, ne-eqb}
 use Rattle.game.specs.Calls.{Check, Refusal, firstGiven, gridChecks}
 use Rattle.game.proofs.Checks.{given-append, orElse}
-use Rattle.checks.proofs.Verdict.{Passed, none≢some, passed}
+use Rattle.checks.proofs.Verdict.{Passed, passed}
 
 -- the check that a value reaches its least
 abbrev pub reaches : ℕ → ℕ → Refusal → List Check
@@ -42,11 +42,11 @@ first-none cs ds e = go (firstGiven cs) (λ f h. first-stands cs ds f h) e
   where
     go : (o : Option Refusal) → ((f : Refusal) → some f ≡ o → some f ≡ firstGiven (cs ++ ds)) → firstGiven (cs ++ ds) ≡ none → o ≡ none
     go none k e = refl
-    go (some f) k e = absurd (none≢some (k f refl ∙ e))
+    go (some f) k e = absurd (Option·some-ne-none _ (k f refl ∙ e))
 
 -- where a call's checks refuse nothing: the first of them passed, and the value reaches its least
 pub all-passed : (g : Grid) (w : List ℤ) (a b : ℕ) (f : Refusal) → firstGiven (gridChecks g w ++ reaches a b f) ≡ none → Passed g w × (b ≤ a)
-all-passed g w a b f e = (passed g w first, elim (decLe b a) [ yes h ↦ h | no h ↦ absurd (none≢some (too-low (gridChecks g w) a b f (sym first) (omega arith) ∙ e)) ])
+all-passed g w a b f e = (passed g w first, elim (decLe b a) [ yes h ↦ h | no h ↦ absurd (Option·some-ne-none _ (too-low (gridChecks g w) a b f (sym first) (omega arith) ∙ e)) ])
   where
     first : firstGiven (gridChecks g w) ≡ none
     first = first-none (gridChecks g w) (reaches a b f) e

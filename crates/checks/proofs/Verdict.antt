@@ -2,10 +2,10 @@
 use Prim.Native.Nat.{_*_, _<_, _≤_}
 use native.Mathlib.Omega.{arith}
 use native.Mathlib.Decide.{decLe, ℕ-discrete}
-use mathlib.Core.Path.{_≡_, refl, subst, sym, _∙_}
+use mathlib.Core.Path.{_≡_, refl, sym, _∙_}
 use mathlib.Core.Bool.{Bool, true, false, not, _||_}
 use mathlib.Core.List.{List, [], _∷_}
-use mathlib.Core.Option.{Option, none, some}
+use mathlib.Core.Option.{Option, Option·some-ne-none, none, some}
 use lib.Dec.{eqb, ltb}
 use lib.IntN.{ℤ}
 use lib.ListN.{length}
@@ -62,27 +62,20 @@ pub record Passed (g : Grid) (w : List ℤ) : Type 0 where
   pub whole : length (g .values) ≡ size g
   pub room : 5 * size g ≤ length w
 
-pub none≢some : {A : Type 0} {x : A} → some x ≡ none → ⊥
-none≢some {A} e = subst given e tt
-  where
-    given : Option A → Type 0
-    given none = ⊥
-    given (some y) = Unit {0}
-
 pub passed : (g : Grid) (w : List ℤ) → firstGiven (gridChecks g w) ≡ none → Passed g w
 passed g w e =
     elim (ℕ-discrete (g .rows) 0) [
-      | yes h ↦ absurd (none≢some (no-rows g w h ∙ e))
+      | yes h ↦ absurd (Option·some-ne-none _ (no-rows g w h ∙ e))
       | no rows ↦ elim (decLe (g .rows) 255) [
-        | no h ↦ absurd (none≢some (many-rows g w rows (omega arith) ∙ e))
+        | no h ↦ absurd (Option·some-ne-none _ (many-rows g w rows (omega arith) ∙ e))
         | yes few-rows ↦ elim (ℕ-discrete (g .columns) 0) [
-          | yes h ↦ absurd (none≢some (no-columns g w rows few-rows h ∙ e))
+          | yes h ↦ absurd (Option·some-ne-none _ (no-columns g w rows few-rows h ∙ e))
           | no columns ↦ elim (decLe (g .columns) 255) [
-            | no h ↦ absurd (none≢some (many-columns g w rows few-rows columns (omega arith) ∙ e))
+            | no h ↦ absurd (Option·some-ne-none _ (many-columns g w rows few-rows columns (omega arith) ∙ e))
             | yes few-columns ↦ elim (ℕ-discrete (length (g .values)) (size g)) [
-              | no h ↦ absurd (none≢some (other-board g w rows few-rows columns few-columns h ∙ e))
+              | no h ↦ absurd (Option·some-ne-none _ (other-board g w rows few-rows columns few-columns h ∙ e))
               | yes whole ↦ elim (decLe (5 * size g) (length w)) [
-                | no h ↦ absurd (none≢some (short-work g w rows few-rows columns few-columns whole (omega arith) ∙ e))
+                | no h ↦ absurd (Option·some-ne-none _ (short-work g w rows few-rows columns few-columns whole (omega arith) ∙ e))
                 | yes room ↦ record { shaped = record { some-rows = omega arith; few-rows = few-rows; some-columns = omega arith; few-columns = few-columns }; whole = whole; room = room }
               ]
             ]

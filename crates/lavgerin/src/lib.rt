@@ -1,5 +1,5 @@
 // The calls under C names. Each returns the refusal's number, 0 for success; answers go through pointers, and what stands there is left alone where an answer has no such value.
-use checks::number_of;
+use refusals::number_of;
 use zini::Counted;
 use zini::Priced;
 use zini::Replayed;

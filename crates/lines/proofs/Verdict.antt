@@ -4,9 +4,9 @@ use native.Mathlib.Omega.{arith}
 use native.Mathlib.Decide.{decLe}
 use native.Mathlib.Nat.{mul-le-mul-left}
 use mathlib.Core.Path.{_≡_, ap, refl, subst, sym, _∙_}
-use mathlib.Core.Bool.{Bool, true, false, not, _||_}
+use mathlib.Core.Bool.{Bool, true, false, not, true≢false, _||_}
 use mathlib.Core.List.{List, [], _∷_}
-use mathlib.Core.Option.{Option, none, some}
+use mathlib.Core.Option.{Option, Option·some-ne-none, none, some}
 use lib.Dec.{eqb, ltb}
 use lib.ListN.{getD, length, length-take, take}
 use lib.Seq.{take-all}
@@ -18,16 +18,6 @@ use Rattle.hex.specs.Hex.{bytesOf, isWrong}
 use Rattle.lines.specs.BoardLine.{bitBetween, bitBytes, digitsRefused, gridOfBytes, lineGrid, lineRefusal, mineBit, valueOf}
 use Rattle.hex.proofs.Bytes.{length-bytes}
 use Rattle.lines.proofs.Runs.{length-cells}
-
-pub none≢some : {x : Refusal} → some x ≡ none → ⊥
-none≢some e = subst given e tt
-  where
-    given : Option Refusal → Type 0
-    given none = ⊥
-    given (some y) = Unit {0}
-
-pub true≢false : true ≡ false → ⊥
-true≢false e = let z : _≡_ {A = ℕ} 0 1 = cc in omega arith
 
 -- ---- the digits alone
 
@@ -180,13 +170,13 @@ either-false false b e = (refl, e)
 
 -- none of the tests
 none-given : (a b c s o n p : Bool) → verdict a b c s o n p ≡ none → ((a || (b || (c || false))) ≡ false) × (s ≡ false) × (o ≡ false) × (n ≡ false)
-none-given true b c s o n p e = absurd (none≢some e)
-none-given false true c s o n p e = absurd (none≢some e)
-none-given false false true s o n p e = absurd (none≢some e)
-none-given false false false true o n p e = absurd (none≢some e)
-none-given false false false false true n p e = absurd (none≢some e)
-none-given false false false false false true p e = absurd (none≢some e)
-none-given false false false false false false true e = absurd (none≢some e)
+none-given true b c s o n p e = absurd (Option·some-ne-none _ e)
+none-given false true c s o n p e = absurd (Option·some-ne-none _ e)
+none-given false false true s o n p e = absurd (Option·some-ne-none _ e)
+none-given false false false true o n p e = absurd (Option·some-ne-none _ e)
+none-given false false false false true n p e = absurd (Option·some-ne-none _ e)
+none-given false false false false false true p e = absurd (Option·some-ne-none _ e)
+none-given false false false false false false true e = absurd (Option·some-ne-none _ e)
 none-given false false false false false false false e = (refl, refl, refl, refl)
 
 pub passed : (line : List ℕ) → lineRefusal line ≡ none → Passed line

@@ -5,7 +5,7 @@ use zini::Rolled;
 fn taken_apart(answer: Rolled) -> Plain {
     match answer {
         Rolled::Clicks(clicks, used) => made_plain(0, clicks as u64, used as u64),
-        Rolled::Refused(refusal) => made_plain(checks::number_of(refusal) as u64, 0, 0),
+        Rolled::Refused(refusal) => made_plain(refusals::number_of(refusal) as u64, 0, 0),
     }
 }
 

@@ -6,12 +6,11 @@ use native.Mathlib.Nat.{div-lt-iff-lt-mul, le-div-iff-mul-le}
 use mathlib.Core.Path.{_≡_, refl, ap, sym, _∙_}
 use mathlib.Core.Bool.{Bool, _||_, false, true}
 use mathlib.Core.List.{List, [], _∷_}
-use mathlib.Core.Option.{Option, none, some}
+use mathlib.Core.Option.{Option, Option·some-ne-none, none, some}
 use lib.Dec.{ltb}
 use lib.ListN.{length, take}
 use borrow.Author.Tests.{le-ltb, lt-ltb}
 use Rattle.game.specs.Calls.{Refusal, firstGiven, gives, refuses, trace, work}
-use Rattle.checks.proofs.Verdict.{none≢some}
 use Rattle.reader.specs.Blocks.{Desk, blockCall, cutFrom, deskAfter, endCall, heldCheck, lastLine, outCheck, unlessDesk}
 use Rattle.reader.specs.Bytes.{Room, blockRead, byteRead, deskOf}
 use Rattle.reader.specs.Answers.{KeptDesk}
@@ -56,11 +55,11 @@ room-by m n h = omega (arith, le-div-iff-mul-le {k = 15} {x = n} {y = m} (omega 
 pub room-given : (held : List ℕ) (count : ℕ) (out : List ℕ) (n : ℕ) → given held count out n ≡ none → Room (deskOf held count out) n
 room-given held count out n e =
     elim (decLe 517 (length held)) [
-      | no h ↦ absurd (none≢some (short-held held count out n (omega arith) ∙ e))
+      | no h ↦ absurd (Option·some-ne-none _ (short-held held count out n (omega arith) ∙ e))
       | yes held-room ↦ elim (decLe count 517) [
-        | no h ↦ absurd (none≢some (many-kept held count out n held-room (omega arith) ∙ e))
+        | no h ↦ absurd (Option·some-ne-none _ (many-kept held count out n held-room (omega arith) ∙ e))
         | yes few ↦ elim (decLe (15 * n) (length out)) [
-          | no h ↦ absurd (none≢some (short-out held count out n held-room few (omega arith) ∙ e))
+          | no h ↦ absurd (Option·some-ne-none _ (short-out held count out n held-room few (omega arith) ∙ e))
           | yes out-room ↦ record { held-room = held-room; few = few; out-room = omega arith }
         ]
       ]

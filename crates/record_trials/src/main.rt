@@ -138,7 +138,7 @@ fn plain(number: u64, first: u64, second: u64) -> Plain {
 fn of_priced(answer: Priced) -> Plain {
     match answer {
         Priced::Clicks(clicks) => plain(0, clicks as u64, 0),
-        Priced::Refused(refusal) => plain(checks::number_of(refusal) as u64, 0, 0),
+        Priced::Refused(refusal) => plain(refusals::number_of(refusal) as u64, 0, 0),
     }
 }
 
@@ -146,7 +146,7 @@ fn of_priced(answer: Priced) -> Plain {
 fn of_rolled(answer: Rolled) -> Plain {
     match answer {
         Rolled::Clicks(clicks, used) => plain(0, clicks as u64, used as u64),
-        Rolled::Refused(refusal) => plain(checks::number_of(refusal) as u64, 0, 0),
+        Rolled::Refused(refusal) => plain(refusals::number_of(refusal) as u64, 0, 0),
     }
 }
 
@@ -155,7 +155,7 @@ fn of_replayed(answer: Replayed) -> Plain {
     match answer {
         Replayed::Played(made, closed) => plain(0, made as u64, closed as u64),
         Replayed::Move(place) => plain(7, place as u64, 0),
-        Replayed::Refused(refusal) => plain(checks::number_of(refusal) as u64, 0, 0),
+        Replayed::Refused(refusal) => plain(refusals::number_of(refusal) as u64, 0, 0),
     }
 }
 

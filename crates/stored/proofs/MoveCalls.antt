@@ -13,7 +13,7 @@ use Rattle.game.specs.Calls.{Answer, Refusal, firstGiven, frame, gives, refuses
 use Rattle.hex.specs.Hex.{isWrong}
 use Rattle.stored.specs.MoveLine.{RunOutcome, moveLine, moveLineChecks, readMovesCall, storedOf, unlessGiven, writeChecks, writeMovesCall}
 use Rattle.stored.specs.Answers.{KeptRun}
-use Rattle.lines.proofs.Verdict.{columnsByte, either-false, none≢some, rowsByte, side-fine, side-in, side-none}
+use Rattle.lines.proofs.Verdict.{columnsByte, either-false, rowsByte, side-fine, side-in, side-none}
 use Rattle.stored.proofs.Words.{wordsIn}
 
 second-holds : (a b : Bool) → b ≡ true → (a || b) ≡ true
@@ -90,10 +90,10 @@ pub record PassedMoves (line lent : List ℕ) : Type 0 where
   pub room : length (wordsIn line) ≤ length lent
 
 none-given : (a b s t : Bool) → readVerdict a b s t ≡ none → (a ≡ false) × (b ≡ false) × (s ≡ false) × (t ≡ false)
-none-given true b s t e = absurd (none≢some e)
-none-given false true s t e = absurd (none≢some e)
-none-given false false true t e = absurd (none≢some e)
-none-given false false false true e = absurd (none≢some e)
+none-given true b s t e = absurd (Option·some-ne-none _ e)
+none-given false true s t e = absurd (Option·some-ne-none _ e)
+none-given false false true t e = absurd (Option·some-ne-none _ e)
+none-given false false false true e = absurd (Option·some-ne-none _ e)
 none-given false false false false e = (refl, refl, refl, refl)
 
 pub passed-moves : (line lent : List ℕ) → firstGiven (moveLineChecks line lent) ≡ none → PassedMoves line lent
@@ -158,9 +158,9 @@ pub record PassedWrite (rows columns : ℕ) (list : List ℕ) (n : ℕ) (lent : 
   pub room : 4 + 8 * n ≤ length lent
 
 none-written : (s t f : Bool) → writeVerdict s t f ≡ none → (s ≡ false) × (t ≡ false) × (f ≡ false)
-none-written true t f e = absurd (none≢some e)
-none-written false true f e = absurd (none≢some e)
-none-written false false true e = absurd (none≢some e)
+none-written true t f e = absurd (Option·some-ne-none _ e)
+none-written false true f e = absurd (Option·some-ne-none _ e)
+none-written false false true e = absurd (Option·some-ne-none _ e)
 none-written false false false e = (refl, refl, refl)
 
 pub passed-write : (rows columns : ℕ) (list : List ℕ) (n : ℕ) (lent : List ℕ) → firstGiven (writeChecks rows columns list n lent) ≡ none → PassedWrite rows columns list n lent

@@ -149,7 +149,7 @@ fn taken_apart(answer: Rolled) -> Search {
             used,
         },
         Rolled::Refused(refusal) => Search {
-            number: checks::number_of(refusal) as usize,
+            number: refusals::number_of(refusal) as usize,
             clicks: 0,
             used: 0,
         },

@@ -8,9 +8,9 @@ use lib.IntN.{ℤ}
 use lib.Dec.{eqb}
 use lib.ListN.{getD}
 use Rattle.game.specs.Calls.{Answer, ListOutcome, Outcome, move, numberOf, refuses}
-use Rattle.checks.specs.Refusals.{named}
-use Rattle.checks.specs.declared.Refusal.{Refusal}
-use Rattle.checks.specs.declared.Refusal.the-variants.{Shape, Board, Work, Trace, Rounds, Draws}
+use Rattle.refusals.specs.Names.{named}
+use Rattle.refusals.specs.declared.Refusal.{Refusal}
+use Rattle.refusals.specs.declared.Refusal.the-variants.{Shape, Board, Work, Trace, Rounds, Draws}
 use Rattle.checks.proofs.Once.{refusalBy}
 use Rattle.zini.specs.Answers.{Kept, KeptList, countedAnswer, pricedAnswer, replayedAnswer, rolledAnswer}
 use Rattle.zini.specs.declared.Counted.{Counted}

@@ -4,7 +4,7 @@ use mathlib.Core.Path.{_≡_}
 use mathlib.Core.List.{List, [], _∷_}
 use lib.IntN.{ℤ}
 use Rattle.game.specs.Calls.{Answer, ListOutcome, Outcome, gives, move, numberOf, refuses}
-use Rattle.checks.specs.Refusals.{named}
+use Rattle.refusals.specs.Names.{named}
 use Rattle.replay.specs.declared.Replay.{Replay}
 use Rattle.replay.specs.declared.Replay.the-variants as Runs
 use Rattle.zini.specs.declared.Counted.{Counted}

@@ -1,6 +1,6 @@
 // The 3BV count.
 use crate::Counted;
-use checks::Checked;
+use refusals::Checked;
 ghost use Rattle.game.specs.Calls.{threeBVCall};
 ghost use Rattle.area.specs.Numbers.{gridOf};
 ghost use Rattle.zini.specs.Answers.{Kept, countedAnswer};

@@ -1,5 +1,5 @@
 // The public calls: each checks its input in document 01's order, and answers an enum.
-use checks::Refusal;
+use refusals::Refusal;
 
 pub mod count; // 3BV
 pub mod replays; // a stored list played on a board

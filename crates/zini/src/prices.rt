@@ -1,6 +1,6 @@
 // Greedy and openings-first rounds: clicks, and the moves listed.
 use crate::Priced;
-use checks::Checked;
+use refusals::Checked;
 ghost use mathlib.Core.Path.{_≡_};
 ghost use mathlib.Core.List.{[], _∷_, _++_};
 ghost use Prim.Native.Nat.{_*_, _≤_};

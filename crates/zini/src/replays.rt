@@ -1,7 +1,7 @@
 // Replay of a stored move list.
 use crate::Replayed;
-use checks::Checked;
-use checks::Refusal;
+use refusals::Checked;
+use refusals::Refusal;
 ghost use mathlib.Core.Path.{_≡_};
 ghost use Prim.Native.Nat.{_*_, _≤_};
 ghost use lib.ListN.{length, take};

@@ -1,8 +1,8 @@
 // Random rounds and searches: clicks, and draw bytes used.
 use crate::Rolled;
 use crate::clears;
-use checks::Checked;
-use checks::Refusal;
+use refusals::Checked;
+use refusals::Refusal;
 ghost use mathlib.Core.Path.{_≡_};
 ghost use mathlib.Core.List.{List};
 ghost use mathlib.Core.Option.{Option};

@@ -9,7 +9,7 @@ use denote.Ref.{now}
 use borrow.Author.Needs.{needs}
 use Rattle.game.specs.Calls.{Answer, ListOutcome, Refusal, firstGiven, gridChecks}
 use Rattle.area.specs.Numbers.{gridOf}
-use Rattle.checks.specs.Refusals.{refusalOf}
+use Rattle.refusals.specs.Names.{refusalOf}
 use Rattle.zini.specs.Answers.{KeptList}
 use Rattle.zini.proofs.Promises.{list-else, list-refused}
 use Rattle.by_records.specs.Promises.{priceCall, roomCheck, within}

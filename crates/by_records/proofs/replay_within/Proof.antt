@@ -6,7 +6,7 @@ use denote.Ref.{now}
 use borrow.Author.Needs.{needs}
 use Rattle.game.specs.Calls.{Outcome, Refusal, firstGiven, gridChecks, replayCall}
 use Rattle.area.specs.Numbers.{gridOf}
-use Rattle.checks.specs.Refusals.{refusalOf}
+use Rattle.refusals.specs.Names.{refusalOf}
 use Rattle.zini.proofs.Promises.{kept-else, kept-refused}
 use Rattle.by_records.specs.Promises.{aboveCheck}
 use Rattle.by_records.proofs.replay_within.Statement.{statement}

@@ -4,7 +4,7 @@ use mathlib.Core.Path.{sym, ap}
 use borrow.Author.Needs.{needs}
 use Rattle.zini.specs.Answers.{pricedAnswer}
 use Rattle.zini.specs.declared.Priced.the-variants as Prices
-use Rattle.checks.specs.declared.Refusal.{Refusal}
+use Rattle.refusals.specs.declared.Refusal.{Refusal}
 use Rattle.by_records.specs.Promises.{writtenBy}
 use Rattle.by_records.proofs.written_on.Statement.{statement}
 use Rattle.by_records.proofs.written_on.Tie as tie

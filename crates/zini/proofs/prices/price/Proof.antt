@@ -7,7 +7,7 @@ use lib.ListN.{length}
 use Rattle.game.specs.Rounds.{movesOf, roundSteps}
 use Rattle.game.specs.Calls.{ListOutcome, Refusal, firstGiven, gridChecks, playedRound, trace}
 use Rattle.area.specs.Numbers.{gridOf}
-use Rattle.checks.specs.Refusals.{refusalOf}
+use Rattle.refusals.specs.Names.{refusalOf}
 use Rattle.checks.proofs.More.{reaches, all-passed}
 use Rattle.zini.proofs.Promises.{list-else, list-refused}
 use borrow.Author.Needs.{needs}

@@ -7,7 +7,7 @@ use Rattle.game.specs.Moves.{replayFrom}
 use Rattle.game.specs.Calls.{Outcome, Refusal, firstGiven, gridChecks, replayCall, replayed, trace}
 use Rattle.area.specs.Numbers.{gridOf}
 use lib.ListN.{length, take}
-use Rattle.checks.specs.Refusals.{refusalOf}
+use Rattle.refusals.specs.Names.{refusalOf}
 use Rattle.checks.proofs.More.{reaches, all-passed}
 use Rattle.zini.proofs.Promises.{kept-else, kept-refused}
 use borrow.Author.Needs.{needs}

@@ -5,7 +5,7 @@ use mathlib.Core.Option.{Option, none}
 use Prim.Native.Nat.{_*_}
 use lib.ListN.{length}
 use Rattle.area.specs.Numbers.{gridOf}
-use Rattle.checks.specs.Refusals.{refusalOf}
+use Rattle.refusals.specs.Names.{refusalOf}
 use Rattle.game.specs.Rounds.{randomRound}
 use Rattle.game.specs.Calls.{ListOutcome, Refusal, drawnRound, firstGiven, gridChecks, randomRoundCall, trace}
 use Rattle.checks.proofs.More.{reaches, all-passed}

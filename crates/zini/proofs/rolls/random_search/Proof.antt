@@ -3,7 +3,7 @@ use mathlib.Core.Path.{_≡_, ap, sym, _∙_}
 use mathlib.Core.List.{_++_}
 use mathlib.Core.Option.{Option, none}
 use Rattle.area.specs.Numbers.{gridOf}
-use Rattle.checks.specs.Refusals.{refusalOf}
+use Rattle.refusals.specs.Names.{refusalOf}
 use mathlib.Core.Bool.{Bool}
 use mathlib.Core.List.{[], _∷_}
 use lib.Dec.{eqb, ltb}
