@@ -11,7 +11,7 @@ use Rattle.game.specs.Calls.{Refusal, gives, refuses}
 use Rattle.game.proofs.Members.{concat-map-append}
 use Rattle.reader.specs.Prices.{answerLine}
 use Rattle.reader.specs.Blocks.{Desk, DeskOutcome, blockCall, cutFrom, deskAfter, endCall, lastLine, unlessDesk}
-use Rattle.reader.specs.Answers.{KeptDesk}
+use Rattle.reader.specs.Answers.{KeepsDesk}
 use Rattle.reader.specs.Sessions.{Fits, KeptOf, joined}
 use Rattle.reader.proofs.Desks.{Keeps}
 use Rattle.reader.proofs.Sessions.{block-comes, end-comes, kept-keeps, kept-on, kept-room, left, left-passed, passed-not-refused, said-first}
@@ -70,10 +70,10 @@ module _ (kept : Kept) (s : Sofar kept) where
     came : unlessDesk none (kept .bytes) out (deskAfter (cutOn kept block) (kept .bytes) out) ≡ blockCall block (kept .bytes) (kept .count) out
     came = block-comes (cutFrom [] (joined (s .blocks)) .goes-on) (kept .bytes) (kept .count) keeps room block out fits
 
-    pub block-passed : (held′ out′ : List ℕ) (f : Refusal) → KeptDesk (blockCall block (kept .bytes) (kept .count) out) (refuses f) held′ out′ → ⊥
+    pub block-passed : (held′ out′ : List ℕ) (f : Refusal) → KeepsDesk (blockCall block (kept .bytes) (kept .count) out) (refuses f) held′ out′ → ⊥
     block-passed held′ out′ f k = passed-not-refused (kept .bytes) out (deskAfter (cutOn kept block) (kept .bytes) out) (blockCall block (kept .bytes) (kept .count) out) came held′ out′ f k
 
-    pub block-left : (held′ out′ : List ℕ) (count written : ℕ) → KeptDesk (blockCall block (kept .bytes) (kept .count) out) (gives (count ∷ written ∷ [])) held′ out′
+    pub block-left : (held′ out′ : List ℕ) (count written : ℕ) → KeepsDesk (blockCall block (kept .bytes) (kept .count) out) (gives (count ∷ written ∷ [])) held′ out′
         → Left (cutOn kept block .ended) (keptAfter kept block) held′ out′ count written
     block-left held′ out′ count written k =
         let d = deskAfter (cutOn kept block) (kept .bytes) out in
@@ -86,10 +86,10 @@ module _ (kept : Kept) (s : Sofar kept) where
     end-came : unlessDesk none (kept .bytes) out ended ≡ endCall (kept .bytes) (kept .count) out
     end-came = end-comes (cutFrom [] (joined (s .blocks)) .goes-on) (kept .bytes) (kept .count) keeps room out fits
 
-    pub end-passed : (held′ out′ : List ℕ) (f : Refusal) → KeptDesk (endCall (kept .bytes) (kept .count) out) (refuses f) held′ out′ → ⊥
+    pub end-passed : (held′ out′ : List ℕ) (f : Refusal) → KeepsDesk (endCall (kept .bytes) (kept .count) out) (refuses f) held′ out′ → ⊥
     end-passed held′ out′ f k = passed-not-refused (kept .bytes) out ended (endCall (kept .bytes) (kept .count) out) end-came held′ out′ f k
 
-    pub end-left : (held′ out′ : List ℕ) (count written : ℕ) → KeptDesk (endCall (kept .bytes) (kept .count) out) (gives (count ∷ written ∷ [])) held′ out′
+    pub end-left : (held′ out′ : List ℕ) (count written : ℕ) → KeepsDesk (endCall (kept .bytes) (kept .count) out) (gives (count ∷ written ∷ [])) held′ out′
         → Left (lastLine (take (kept .count) (kept .bytes))) (record { bytes = ended .held; count = ended .count }) held′ out′ count written
     end-left held′ out′ count written k =
         desk-left (lastLine (take (kept .count) (kept .bytes))) (ended .held) out held′ out′ (ended .count) count written (left-passed (kept .bytes) out ended (endCall (kept .bytes) (kept .count) out) end-came held′ out′ count written k)

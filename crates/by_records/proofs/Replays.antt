@@ -18,7 +18,7 @@ use Rattle.game.proofs.Tidy.{legal-inside}
 use Rattle.game.proofs.Truth.{and-both, no→false}
 use Rattle.area.specs.Stages.{Shape}
 use Rattle.checks.proofs.More.{all-passed, enough, reaches}
-use Rattle.zini.specs.Answers.{Kept}
+use Rattle.zini.specs.Answers.{Keeps}
 use Rattle.records.specs.Records.{moveWord, over, placed, recordOf}
 use Rattle.records.specs.declared.MoveRecord.{MoveRecord}
 use Rattle.records.proofs.Copies.{length-over, over-begun}
@@ -169,12 +169,12 @@ module _ (g : Grid) (ws : List ℤ) (n : ℕ) where
 
 -- a run replays as the list of its words, if the lent list has room for the count
 pub words-replay : (g : Grid) (ws : List ℤ) (ms : List ℕ) (run : List MoveRecord) (n : ℕ) (answer : Answer) (work : List ℤ) (list : List ℕ)
-    → n ≤ length ms → KeptReplay g ws ms run n answer work list → Kept (replayCall g ws (map (moveWord (g .rows)) run) n) answer work
+    → n ≤ length ms → KeptReplay g ws ms run n answer work list → Keeps (replayCall g ws (map (moveWord (g .rows)) run) n) answer work
 words-replay g ws ms run n answer work list h k =
-    subst (λ (o : Outcome). Kept o answer work) (ap (λ (l : List ℕ). replayWithin g ws (length run) n (replayCall g ws l n)) (k .words) ∙ comes-to g ws n ms run h) (k .flat)
+    subst (λ (o : Outcome). Keeps o answer work) (ap (λ (l : List ℕ). replayWithin g ws (length run) n (replayCall g ws l n)) (k .words) ∙ comes-to g ws n ms run h) (k .flat)
 
 -- so the records of a list, replayed as a run, come to what the flat replay of the list comes to
 pub list-replay : (g : Grid) (ws : List ℤ) (ms moves : List ℕ) (n : ℕ) (answer : Answer) (work : List ℤ) (list : List ℕ)
-    → n ≤ length ms → KeptReplay g ws ms (map (recordOf (g .rows)) moves) n answer work list → Kept (replayCall g ws moves n) answer work
+    → n ≤ length ms → KeptReplay g ws ms (map (recordOf (g .rows)) moves) n answer work list → Keeps (replayCall g ws moves n) answer work
 list-replay g ws ms moves n answer work list h k =
-    subst (λ (o : Outcome). Kept o answer work) (records-replay g ws n moves) (words-replay g ws ms (map (recordOf (g .rows)) moves) n answer work list h k)
+    subst (λ (o : Outcome). Keeps o answer work) (records-replay g ws n moves) (words-replay g ws ms (map (recordOf (g .rows)) moves) n answer work list h k)

@@ -10,7 +10,7 @@ use lib.ListN.{length, take}
 use borrow.Author.Tests.{eqb-true}
 use Rattle.game.specs.Grid.{Grid, size}
 use Rattle.game.specs.Calls.{Answer, ListOutcome, Refusal, board, firstGiven, gridChecks, shape, shapeCheck, trace, work, workCheck}
-use Rattle.zini.specs.Answers.{KeptList}
+use Rattle.zini.specs.Answers.{KeepsList}
 use Rattle.records.specs.Records.{over, recordOf}
 use Rattle.records.specs.declared.MoveRecord.{MoveRecord}
 use Rattle.by_records.specs.Promises.{KeptRun, roomCheck, writtenBy}
@@ -30,7 +30,7 @@ room-checked g ws room = go (shapeCheck g .given) (eqb (length (g .values)) (siz
     go false false e w = refl
 
 -- the flat call's promise, how many words are copied, and the copy
-pub kept-run : (g : Grid) (promise : ListOutcome) (before : List MoveRecord) (a : Answer) (w : List ℤ) (l : List ℕ) (after : List MoveRecord) (count : ℕ) → KeptList promise a w l → count ≡ writtenBy (length (g .values)) a
+pub kept-run : (g : Grid) (promise : ListOutcome) (before : List MoveRecord) (a : Answer) (w : List ℤ) (l : List ℕ) (after : List MoveRecord) (count : ℕ) → KeepsList promise a w l → count ≡ writtenBy (length (g .values)) a
     → after ≡ over (map (recordOf (g .rows)) (take count l)) before → KeptRun g promise before a w l after
 kept-run g promise before a w l after count k e r =
     record {

@@ -47,7 +47,7 @@ use denote.Triple.Table.{entered, cited}
 use denote.Triple.Walked.{says, Stays, stay-slice, gave-slice, stay-none, stay-none-slice, walkOf, Walks, ends-at, walked, goes-slice, goes-gave-slice, goes-none, goes-none-slice, walk-meets}
 use denote.Exit.{yes}
 use Rattle.area.specs.Numbers.{gridOf}
-use Rattle.zini.specs.Answers.{KeptList, pricedAnswer}
+use Rattle.zini.specs.Answers.{KeepsList, pricedAnswer}
 use Rattle.zini.specs.declared.Priced.{Priced}
 use Rattle.zini.proofs.Priced as S
 use Rattle.zini.proofs.Priced.Laws as S′
@@ -175,7 +175,7 @@ module _ {M : Type 1} (𝓤 : URA M) (H : Heap 𝓤) (A : Atoms 𝓤) (W : Given
 
   -- what the flat call keeps
   abbrev Promised : Priced → List ℤ → List ℕ → Type 0
-  Promised r w l = KeptList (within (gridOf rows columns (now grid)) (now work) ms (length (now records)) (priceCall openings-first (gridOf rows columns (now grid)) (now work) ms)) (pricedAnswer r) w l
+  Promised r w l = KeepsList (within (gridOf rows columns (now grid)) (now work) ms (length (now records)) (priceCall openings-first (gridOf rows columns (now grid)) (now work) ms)) (pricedAnswer r) w l
 
   abbrev OwnGrid : Fml
   OwnGrid = ShrSlice (named 0) κg i32 .own grid (vg ∷ [])

@@ -9,7 +9,7 @@ use lib.Dec.{eqb, ltb}
 use lib.ListN.{getD, length, take}
 use Rattle.game.specs.Grid.{Grid, size}
 use Rattle.game.specs.Calls.{Answer, Check, ListOutcome, Outcome, Refusal, draws, firstGiven, greedyCall, gridChecks, numberOf, openingsFirstCall, replayCall, trace, unless, unlessListed}
-use Rattle.zini.specs.Answers.{Kept, KeptList}
+use Rattle.zini.specs.Answers.{Keeps, KeepsList}
 use Rattle.records.specs.Records.{moveWord, over, recordOf}
 use Rattle.records.specs.declared.MoveRecord.{MoveRecord}
 
@@ -36,7 +36,7 @@ runAfter g o run = over (map (recordOf (g .rows)) (take (writtenBy (length (g .v
 
 -- a call over a run keeps its promise: that of the flat call, and the run's
 pub record KeptRun (g : Grid) (promise : ListOutcome) (before : List MoveRecord) (answer : Answer) (work : List ℤ) (list : List ℕ) (run : List MoveRecord) : Type 0 where
-  pub flat : KeptList promise answer work list
+  pub flat : KeepsList promise answer work list
   pub in-records : run ≡ runAfter g promise before
 
 -- ---- replay
@@ -65,4 +65,4 @@ replayWithin g ws room n o = unless (firstGiven (gridChecks g ws ++ aboveCheck r
 -- a replay over a run keeps its promise: that of the flat replay of its words, and the list's
 pub record KeptReplay (g : Grid) (ws : List ℤ) (ms : List ℕ) (run : List MoveRecord) (n : ℕ) (answer : Answer) (work : List ℤ) (list : List ℕ) : Type 0 where
   pub words : list ≡ replayedList g ws ms run n
-  pub flat : Kept (replayWithin g ws (length run) n (replayCall g ws list n)) answer work
+  pub flat : Keeps (replayWithin g ws (length run) n (replayCall g ws list n)) answer work

@@ -12,7 +12,7 @@ ghost use lib.ListN.{length};
 ghost use Rattle.game.specs.Calls.{firstGiven, greedyCall, gridChecks, openingsFirstCall, randomRoundCall, replayCall};
 ghost use Rattle.area.specs.Numbers.{gridOf};
 ghost use Rattle.refusals.specs.Names.{refusalOf};
-ghost use Rattle.zini.specs.Answers.{Kept, KeptList, pricedAnswer, replayedAnswer, rolledAnswer};
+ghost use Rattle.zini.specs.Answers.{Keeps, KeepsList, pricedAnswer, replayedAnswer, rolledAnswer};
 ghost use Rattle.zini.specs.declared.Priced.the-variants as Prices;
 ghost use Rattle.by_records.specs.Promises.{KeptReplay, KeptRun, copiedIf, priceCall, replayChecks, replayWithin, roomCheck, within, writtenBy};
 
@@ -33,7 +33,7 @@ pub(crate) fn price_within(
     room: usize,
     openings_first: bool,
 ) -> Priced
-    ensures { λ r. ⌜ KeptList (within (gridOf rows columns (now (grid .entry))) (now (work .entry)) (now (list .entry)) room (priceCall «openings_first» (gridOf rows columns (now (grid .entry))) (now (work .entry)) (now (list .entry)))) (pricedAnswer r) (now (work .exit)) (now (list .exit)) ⌝ }
+    ensures { λ r. ⌜ KeepsList (within (gridOf rows columns (now (grid .entry))) (now (work .entry)) (now (list .entry)) room (priceCall «openings_first» (gridOf rows columns (now (grid .entry))) (now (work .entry)) (now (list .entry)))) (pricedAnswer r) (now (work .exit)) (now (list .exit)) ⌝ }
 {
     let checked = check_room(rows, columns, grid, work, room);
     match checked {
@@ -58,12 +58,12 @@ pub(crate) fn random_within(
     draws: &[u8],
     room: usize,
 ) -> Rolled
-    ensures { λ r. ⌜ KeptList (within (gridOf rows columns (now (grid .entry))) (now (work .entry)) (now (list .entry)) room (randomRoundCall (gridOf rows columns (now (grid .entry))) (now (work .entry)) (now (list .entry)) (now (draws .entry)))) (rolledAnswer r) (now (work .exit)) (now (list .exit)) ⌝ }
+    ensures { λ r. ⌜ KeepsList (within (gridOf rows columns (now (grid .entry))) (now (work .entry)) (now (list .entry)) room (randomRoundCall (gridOf rows columns (now (grid .entry))) (now (work .entry)) (now (list .entry)) (now (draws .entry)))) (rolledAnswer r) (now (work .exit)) (now (list .exit)) ⌝ }
 {
     let checked = check_room(rows, columns, grid, work, room);
     match checked {
         Checked::Refused(refusal) => Rolled::Refused(refusal),
-        Checked::Fine => zini::rolls::random_round(rows, columns, grid, work, list, draws),
+        Checked::Fine => zini::random_calls::random_round(rows, columns, grid, work, list, draws),
     }
 }
 
@@ -190,7 +190,7 @@ pub(crate) fn replay_within(
     count: usize,
     room: usize,
 ) -> Replayed
-    ensures { λ r. ⌜ Kept (replayWithin (gridOf rows columns (now (grid .entry))) (now (work .entry)) room count (replayCall (gridOf rows columns (now (grid .entry))) (now (work .entry)) (now (list .entry)) count)) (replayedAnswer r) (now (work .exit)) ⌝ }
+    ensures { λ r. ⌜ Keeps (replayWithin (gridOf rows columns (now (grid .entry))) (now (work .entry)) room count (replayCall (gridOf rows columns (now (grid .entry))) (now (work .entry)) (now (list .entry)) count)) (replayedAnswer r) (now (work .exit)) ⌝ }
 {
     let checked = checks::check_more(rows, columns, grid, work, room, count, Refusal::Trace);
     match checked {

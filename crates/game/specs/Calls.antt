@@ -10,7 +10,7 @@ use Rattle.game.specs.Grid.{Grid, size}
 use Rattle.game.specs.Openings.{threeBV}
 use Rattle.game.specs.Position.{untouched, closedSafe}
 use Rattle.game.specs.Moves.{Move, after, Replayed, whole, stopped, replayFrom}
-use Rattle.game.specs.Rounds.{movesOf, greedySteps, openingsFirstSteps, Round, randomRound, Searched, randomSearch}
+use Rattle.game.specs.Rounds.{movesOf, roundSteps, Round, randomRound, Searched, randomSearch}
 use Rattle.game.specs.Area.{areaOf, listOf, clearedArea, clearedList}
 
 -- ---- answers and refusals
@@ -83,21 +83,33 @@ boardCheck g = record { given = not (eqb (length (g .values)) (size g)); refusal
 abbrev pub workCheck : Grid → List ℤ → Check
 workCheck g ws = record { given = ltb (length ws) (5 * size g); refusal = work }
 
+-- TRACE: room for fewer moves than cells
+abbrev pub roomCheck : Grid → ℕ → Check
+roomCheck g room = record { given = ltb room (size g); refusal = trace }
+
 -- TRACE: the list is below cells long
 abbrev pub listCheck : Grid → List ℕ → Check
-listCheck g ms = record { given = ltb (length ms) (size g); refusal = trace }
+listCheck g ms = roomCheck g (length ms)
+
+-- TRACE in replay: the move count is above so many
+abbrev pub aboveCheck : ℕ → ℕ → Check
+aboveCheck room n = record { given = ltb room n; refusal = trace }
 
 -- TRACE in replay: the move count is above the list's length
 abbrev pub countCheck : ℕ → List ℕ → Check
-countCheck n ms = record { given = ltb (length ms) n; refusal = trace }
+countCheck n ms = aboveCheck (length ms) n
 
 -- ROUNDS: 0 rounds
 abbrev pub roundsCheck : ℕ → Check
 roundsCheck n = record { given = eqb n 0; refusal = rounds }
 
--- the checks of every call, in their order
+-- the checks of a board, in their order
+abbrev pub boardChecks : Grid → List Check
+boardChecks g = shapeCheck g ∷ boardCheck g ∷ []
+
+-- the checks of every call, in their order: the board's, then the work area's
 abbrev pub gridChecks : Grid → List ℤ → List Check
-gridChecks g ws = shapeCheck g ∷ boardCheck g ∷ workCheck g ws ∷ []
+gridChecks g ws = boardChecks g ++ workCheck g ws ∷ []
 
 -- ---- the calls
 
@@ -121,15 +133,22 @@ abbrev pub playedRound : Grid → List Move → List ℤ → List ℕ → ListOu
 playedRound g played ws ms =
     record { answer = gives (length played ∷ []); work = areaOf g (after g (untouched g) played) ws; list = listOf played ms }
 
+-- a round in the greedy order, or in the openings-first order
+abbrev pub pricedRound : Bool → Grid → List ℤ → List ℕ → ListOutcome
+pricedRound openingsFirst g ws ms = playedRound g (movesOf (roundSteps openingsFirst g)) ws ms
+
+-- greedy, or openings-first
+unfoldable pub priceCall : Bool → Grid → List ℤ → List ℕ → ListOutcome
+priceCall openingsFirst g ws ms =
+    unlessListed (firstGiven (gridChecks g ws ++ listCheck g ms ∷ [])) ws ms (pricedRound openingsFirst g ws ms)
+
 -- greedy
-unfoldable pub greedyCall : Grid → List ℤ → List ℕ → ListOutcome
-greedyCall g ws ms =
-    unlessListed (firstGiven (gridChecks g ws ++ listCheck g ms ∷ [])) ws ms (playedRound g (movesOf (greedySteps g)) ws ms)
+abbrev pub greedyCall : Grid → List ℤ → List ℕ → ListOutcome
+greedyCall = priceCall false
 
 -- openings-first
-unfoldable pub openingsFirstCall : Grid → List ℤ → List ℕ → ListOutcome
-openingsFirstCall g ws ms =
-    unlessListed (firstGiven (gridChecks g ws ++ listCheck g ms ∷ [])) ws ms (playedRound g (movesOf (openingsFirstSteps g)) ws ms)
+abbrev pub openingsFirstCall : Grid → List ℤ → List ℕ → ListOutcome
+openingsFirstCall = priceCall true
 
 -- what a random round comes to: clicks and bytes used, or DRAWS, which fills work area and list with 0
 abbrev pub drawnRound : Grid → Option Round → List ℤ → List ℕ → ListOutcome
@@ -164,7 +183,10 @@ replayed g n (whole s) ws = record { answer = gives (n ∷ closedSafe g s ∷ []
 replayed g n (stopped k s) ws =
     record { answer = record { number = numberOf move; values = k ∷ [] }; work = areaOf g s ws }
 
+-- the first n moves of a list played from the untouched grid on
+abbrev pub replayedList : Grid → List ℤ → List ℕ → ℕ → Outcome
+replayedList g ws ms n = replayed g n (replayFrom g 0 (untouched g) (take n ms)) ws
+
 -- replay of the first n moves of a list, which stays as it is
 unfoldable pub replayCall : Grid → List ℤ → List ℕ → ℕ → Outcome
-replayCall g ws ms n =
-    unless (firstGiven (gridChecks g ws ++ countCheck n ms ∷ [])) ws (replayed g n (replayFrom g 0 (untouched g) (take n ms)) ws)
+replayCall g ws ms n = unless (firstGiven (gridChecks g ws ++ countCheck n ms ∷ [])) ws (replayedList g ws ms n)

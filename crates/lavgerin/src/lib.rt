@@ -87,7 +87,7 @@ pub extern "C" fn lavgerin_random_round(
 ) -> u8
     ensures { λ r. ⌜ ReturnedListTwo (randomRoundCall (gridOf rows columns (now (grid .entry))) (now (work .entry)) (now (list .entry)) (now (draws .entry))) r (now (work .exit)) (now (list .exit)) (now (clicks .entry)) (now (clicks .exit)) (now (used .entry)) (now (used .exit)) ⌝ }
 {
-    let answer = zini::rolls::random_round(rows, columns, grid, work, list, draws);
+    let answer = zini::random_calls::random_round(rows, columns, grid, work, list, draws);
     match answer {
         Rolled::Clicks(count, bytes) => {
             *clicks = count as u64;
@@ -112,7 +112,7 @@ pub extern "C" fn lavgerin_random_search(
 ) -> u8
     ensures { λ r. ⌜ ReturnedTwo (randomSearchCall (gridOf rows columns (now (grid .entry))) (now (work .entry)) (now (draws .entry)) rounds) r (now (work .exit)) (now (clicks .entry)) (now (clicks .exit)) (now (used .entry)) (now (used .exit)) ⌝ }
 {
-    let answer = zini::rolls::random_search(rows, columns, grid, work, draws, rounds);
+    let answer = zini::random_calls::random_search(rows, columns, grid, work, draws, rounds);
     match answer {
         Rolled::Clicks(least, bytes) => {
             *clicks = least as u64;

@@ -10,7 +10,7 @@ use borrow.Author.Tests.{eqb-false, ltb-false}
 use lib.Dec.{T, eqb, ltb}
 use lib.IntN.{ℤ}
 use lib.ListN.{length}
-use Rattle.game.specs.Calls.{Check, Refusal, boardCheck, drawnSearch, firstGiven, gives, greedyCall, gridChecks, listCheck, openingsFirstCall, playedRound, randomSearchCall, rounds, roundsCheck, shape, shapeCheck, sideOut, unless, unlessListed, workCheck}
+use Rattle.game.specs.Calls.{Check, Refusal, boardCheck, drawnSearch, firstGiven, gives, gridChecks, listCheck, playedRound, priceCall, randomSearchCall, rounds, roundsCheck, shape, shapeCheck, sideOut, unless, unlessListed, workCheck}
 use Rattle.game.specs.Grid.{Grid, size}
 use Rattle.game.specs.Lists.{Each}
 use Rattle.game.specs.Moves.{Move}
@@ -108,7 +108,7 @@ search-answer g ws bytes n small =
 
 -- the clicks that greedy, openings-first and random search answer are the Rust's
 pub calls-equal : (g : Grid) (ws : List ℤ) (ms : List ℕ) → CallsEqual g ws ms
-unfolding greedyCall openingsFirstCall randomSearchCall
+unfolding priceCall randomSearchCall
 calls-equal g ws ms =
     record {
       greedy = round-answer g ws ms (movesOf (greedySteps g)) (cal-zini g) (λ w. equal g w .greedy);

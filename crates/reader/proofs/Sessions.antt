@@ -13,7 +13,7 @@ use Rattle.reader.specs.Prices.{answerLine}
 use Rattle.reader.specs.Blocks.{Cut, Desk, DeskOutcome, blockCall, cutFrom, deskAfter, endCall, heldAfter, keptOver, lastLine, printed, unlessDesk}
 use Rattle.reader.specs.Bytes.{Room, deskOf}
 use Rattle.reader.specs.Sessions.{AllAnswered, Fits, KeptOf, calls, joined, toPrint}
-use Rattle.reader.specs.Answers.{KeptDesk}
+use Rattle.reader.specs.Answers.{KeepsDesk}
 use Rattle.reader.proofs.After.{block-desk, held-reads, heldBy}
 use Rattle.reader.proofs.Cuts.{cut-joins}
 use Rattle.reader.proofs.Desks.{Keeps, Told, block-answers}
@@ -119,15 +119,15 @@ abbrev pub left : List ℕ → ℕ → List ℕ → ℕ → Desk
 left held kept out written = record { held = held; count = kept; out = out; written = written }
 
 -- a call whose checks passed left the desk that it is promised
-pub left-passed : (held out : List ℕ) (d : Desk) (o : DeskOutcome) → unlessDesk none held out d ≡ o → (held′ out′ : List ℕ) (kept written : ℕ) → KeptDesk o (gives (kept ∷ written ∷ [])) held′ out′ → left held′ kept out′ written ≡ d
+pub left-passed : (held out : List ℕ) (d : Desk) (o : DeskOutcome) → unlessDesk none held out d ≡ o → (held′ out′ : List ℕ) (kept written : ℕ) → KeepsDesk o (gives (kept ∷ written ∷ [])) held′ out′ → left held′ kept out′ written ≡ d
 left-passed held out d o e held′ out′ kept written k =
-    let q = subst (λ (p : DeskOutcome). KeptDesk p (gives (kept ∷ written ∷ [])) held′ out′) (sym e) k in
+    let q = subst (λ (p : DeskOutcome). KeepsDesk p (gives (kept ∷ written ∷ [])) held′ out′) (sym e) k in
     let same-kept : kept ≡ d .count = ap (λ (a : Answer). getD (a .values) 0 0) (q .answers) in
     let same-written : written ≡ d .written = ap (λ (a : Answer). getD (a .values) 1 0) (q .answers) in
     λ i. left (q .keeps i) (same-kept i) (q .prints i) (same-written i)
 
 -- and was not refused
-pub passed-not-refused : (held out : List ℕ) (d : Desk) (o : DeskOutcome) → unlessDesk none held out d ≡ o → (held′ out′ : List ℕ) (f : Refusal) → KeptDesk o (refuses f) held′ out′ → ⊥
+pub passed-not-refused : (held out : List ℕ) (d : Desk) (o : DeskOutcome) → unlessDesk none held out d ≡ o → (held′ out′ : List ℕ) (f : Refusal) → KeepsDesk o (refuses f) held′ out′ → ⊥
 passed-not-refused held out d o e held′ out′ f k = let z : _≡_ {A = ℕ} 0 2 = ap (λ (a : Answer). length (a .values)) (k .answers ∙ ap (λ (p : DeskOutcome). p .answer) (sym e)) in omega arith
 
 -- ---- what is kept from block to block

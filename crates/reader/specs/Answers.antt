@@ -21,7 +21,7 @@ answeredAnswer (Kept count written) = gives (count ∷ written ∷ [])
 answeredAnswer (Refused f) = refuses (named f)
 
 -- a call with a block keeps its promise
-pub record KeptDesk (promise : DeskOutcome) (answer : Answer) (held out : List ℕ) : Type 0 where
+pub record KeepsDesk (promise : DeskOutcome) (answer : Answer) (held out : List ℕ) : Type 0 where
   pub answers : answer ≡ promise .answer
   pub keeps : held ≡ promise .held
   pub prints : out ≡ promise .out

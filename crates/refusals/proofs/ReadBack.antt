@@ -1,12 +1,13 @@
 -- A refusal is read back from its number, so there is only one verdict of checks, and an answer's enum is read back from its number and values. Assumes nothing.
-use Prim.Native.Nat.{ℕ}
+use Prim.Native.Nat.{ℕ, _≤_}
+use native.Mathlib.Omega.{arith}
 use mathlib.Core.Path.{_≡_, ap, refl, sym, _∙_}
 use mathlib.Core.Bool.{cond}
 use mathlib.Core.List.{List, [], _∷_}
 use mathlib.Core.Option.{Option, none, some}
 use mathlib.Mathlib.Logic.Function.Defs.{LeftInverse·injective}
 use lib.Dec.{eqb}
-use Rattle.game.specs.Calls.{Answer, numberOf, refuses}
+use Rattle.game.specs.Calls.{Answer, board, draws, frame, move, numberOf, refuses, rounds, shape, size-over, trace, work}
 use Rattle.game.specs.Calls as Game
 use Rattle.refusals.specs.Names.{named, refusalOf}
 use Rattle.refusals.specs.declared.Refusal.{Refusal}
@@ -30,6 +31,18 @@ number-back Draws = refl
 number-back Move = refl
 number-back Frame = refl
 number-back Size = refl
+
+-- no refusal's number is 0
+pub numbered : (f : Game.Refusal) → 1 ≤ numberOf f
+numbered shape = omega arith
+numbered board = omega arith
+numbered work = omega arith
+numbered trace = omega arith
+numbered rounds = omega arith
+numbered draws = omega arith
+numbered move = omega arith
+numbered frame = omega arith
+numbered size-over = omega arith
 
 -- the checks' verdict: the refusal determines it
 pub checked-once : (o : Option Game.Refusal) (r r′ : Checked) → refusalOf r ≡ o → refusalOf r′ ≡ o → r ≡ r′

@@ -3,7 +3,7 @@ use Prim.Native.Nat.{ℕ, _+_, _-_, _*_, _/_, _%_, _<_, _≤_}
 use native.Mathlib.Omega.{arith}
 use native.Mathlib.Decide.{decLe}
 use mathlib.Core.Path.{_≡_, ap, refl, sym, _∙_}
-use mathlib.Core.Bool.{Bool, true, false, _||_, cond, not}
+use mathlib.Core.Bool.{Bool, true, false, true≢false, _||_, cond, not}
 use mathlib.Core.List.{List, [], _∷_}
 use mathlib.Core.Option.{none}
 use lib.Dec.{ltb}
@@ -14,7 +14,7 @@ use Rattle.hex.specs.Hex.{byteDigits, bytesOf, hexDigit, hexValue, isDecimal, i
 use Rattle.stored.specs.MoveLine.{moveLine, moveLineChecks, storedOf, wordBytes, wordsOf}
 use Rattle.hex.proofs.Digits.{from-low, high-digit, inside, low-digit, over, to-high, value-small}
 use Rattle.hex.proofs.Bytes.{length-bytes}
-use Rattle.lines.proofs.Verdict.{columnsByte, either-false, rowsByte, true≢false}
+use Rattle.lines.proofs.Verdict.{columnsByte, either-false, rowsByte}
 use Rattle.stored.proofs.Words.{length-line, wordsIn}
 use Rattle.stored.proofs.MoveCalls.{but-room, passed-moves}
 

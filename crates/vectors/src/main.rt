@@ -208,7 +208,7 @@ fn random_search(number: u64, line: &[u8], grid: &[i32], draws: &mut [u8]) -> u6
 {
     let mut work = [0i32; 10240];
     take_draws(line, draws_from(grid.len()), draws);
-    let answer = zini::rolls::random_search(
+    let answer = zini::random_calls::random_search(
         byte_at(line, 0),
         byte_at(line, 1),
         grid,

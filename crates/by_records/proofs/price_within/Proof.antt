@@ -10,7 +10,7 @@ use borrow.Author.Needs.{needs}
 use Rattle.game.specs.Calls.{Answer, ListOutcome, Refusal, firstGiven, gridChecks}
 use Rattle.area.specs.Numbers.{gridOf}
 use Rattle.refusals.specs.Names.{refusalOf}
-use Rattle.zini.specs.Answers.{KeptList}
+use Rattle.zini.specs.Answers.{KeepsList}
 use Rattle.zini.proofs.Promises.{list-else, list-refused}
 use Rattle.by_records.specs.Promises.{priceCall, roomCheck, within}
 use Rattle.by_records.proofs.price_within.Statement.{statement}
@@ -27,9 +27,9 @@ abbrev come : tie.Start → Bool → ListOutcome
 come s b = priceCall b (gridOf (s .args .rows) (s .args .columns) (now (s .args .grid))) (now (s .args .work)) (now (s .args .list))
 
 -- where none is, the call by the flag keeps what the call at its value keeps
-else-by : (s : tie.Start) (b : Bool) (a : Answer) (w : List ℤ) (l : List ℕ) → s .args .openings-first ≡ b → none ≡ given s → KeptList (come s b) a w l
-    → KeptList (within (gridOf (s .args .rows) (s .args .columns) (now (s .args .grid))) (now (s .args .work)) (now (s .args .list)) (s .args .room) (come s (s .args .openings-first))) a w l
-else-by s b a w l flag fine k = list-else (given s) a _ w _ l (come s (s .args .openings-first)) fine (subst (λ (f : Bool). KeptList (come s f) a w l) (sym flag) k)
+else-by : (s : tie.Start) (b : Bool) (a : Answer) (w : List ℤ) (l : List ℕ) → s .args .openings-first ≡ b → none ≡ given s → KeepsList (come s b) a w l
+    → KeepsList (within (gridOf (s .args .rows) (s .args .columns) (now (s .args .grid))) (now (s .args .work)) (now (s .args .list)) (s .args .room) (come s (s .args .openings-first))) a w l
+else-by s b a w l flag fine k = list-else (given s) a _ w _ l (come s (s .args .openings-first)) fine (subst (λ (f : Bool). KeepsList (come s f) a w l) (sym flag) k)
 
 check-room-requires : tie.Need-check-room-requires
 check-room-requires c κs = search needs

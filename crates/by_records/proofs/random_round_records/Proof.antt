@@ -46,7 +46,7 @@ use denote.Triple.Walked.{says, Stays, stay-slice, gave-slice, stay-none, stay-n
 use denote.Exit.{yes}
 use Rattle.game.specs.Calls.{randomRoundCall}
 use Rattle.area.specs.Numbers.{gridOf}
-use Rattle.zini.specs.Answers.{KeptList, rolledAnswer}
+use Rattle.zini.specs.Answers.{KeepsList, rolledAnswer}
 use Rattle.zini.specs.declared.Rolled.{Rolled}
 use Rattle.zini.proofs.Rolled as S
 use Rattle.zini.proofs.Rolled.Laws as S′
@@ -124,7 +124,7 @@ module _ {M : Type 1} (𝓤 : URA M) (H : Heap 𝓤) (A : Atoms 𝓤) (W : Given
 
   -- what the flat call keeps
   abbrev Promised : Rolled → List ℤ → List ℕ → Type 0
-  Promised r w l = KeptList (within (gridOf rows columns (now grid)) (now work) ms (length (now records)) (randomRoundCall (gridOf rows columns (now grid)) (now work) ms (now draws))) (rolledAnswer r) w l
+  Promised r w l = KeepsList (within (gridOf rows columns (now grid)) (now work) ms (length (now records)) (randomRoundCall (gridOf rows columns (now grid)) (now work) ms (now draws))) (rolledAnswer r) w l
 
   abbrev OwnGrid : Fml
   OwnGrid = ShrSlice (named 0) κg i32 .own grid (vg ∷ [])

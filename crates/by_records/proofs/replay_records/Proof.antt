@@ -46,7 +46,7 @@ use denote.Triple.Walked.{says, Stays, stay-slice, gave-slice, stay-none, stay-n
 use denote.Exit.{yes}
 use Rattle.game.specs.Calls.{firstGiven, replayCall}
 use Rattle.area.specs.Numbers.{gridOf}
-use Rattle.zini.specs.Answers.{Kept, replayedAnswer}
+use Rattle.zini.specs.Answers.{Keeps, replayedAnswer}
 use Rattle.zini.specs.declared.Replayed.{Replayed}
 use Rattle.zini.proofs.Replayed as S
 use Rattle.zini.proofs.Replayed.Laws as S′
@@ -123,7 +123,7 @@ module _ {M : Type 1} (𝓤 : URA M) (H : Heap 𝓤) (A : Atoms 𝓤) (W : Given
   Counted n = (vs ws : List ℤ) → length vs ≡ length (grid .now) → length ws ≡ length (work .now) → n ≡ copiedIf (firstGiven (replayChecks (gridOf rows columns vs) ws (length (records .now)) (length ms) count)) count
 
   abbrev Promised : Replayed → List ℤ → List ℕ → Type 0
-  Promised r w l = Kept (replayWithin (gridOf rows columns (now grid)) (now work) (length (records .now)) count (replayCall (gridOf rows columns (now grid)) (now work) l count)) (replayedAnswer r) w
+  Promised r w l = Keeps (replayWithin (gridOf rows columns (now grid)) (now work) (length (records .now)) count (replayCall (gridOf rows columns (now grid)) (now work) l count)) (replayedAnswer r) w
 
   abbrev OwnGrid : Fml
   OwnGrid = ShrSlice (named 0) κg i32 .own grid (vg ∷ [])

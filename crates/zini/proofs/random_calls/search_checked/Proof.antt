@@ -1,4 +1,4 @@
--- `zini::rolls::search_checked`: set up, played, handed back. Assumes nothing.
+-- `zini::random_calls::search_checked`: set up, played, handed back. Assumes nothing.
 use mathlib.Core.Path.{refl}
 use Rattle.game.specs.Position.{untouched}
 use Rattle.game.specs.Rounds.{randomSearch}
@@ -6,8 +6,8 @@ use Rattle.area.specs.Numbers.{gridOf}
 use Rattle.area.specs.Stages.{Stands}
 use Rattle.zini.proofs.Played.{fresh}
 use borrow.Author.Needs.{needs}
-use Rattle.zini.proofs.rolls.search_checked.Statement.{statement}
-use Rattle.zini.proofs.rolls.search_checked.Tie as tie
+use Rattle.zini.proofs.random_calls.search_checked.Statement.{statement}
+use Rattle.zini.proofs.random_calls.search_checked.Tie as tie
 
 -- after the set-up the work area stands for the untouched grid
 begun : (c : tie.After-set-up) → Stands (c .before .before .before .args .rows) (c .before .before .before .args .columns) (gridOf (c .before .before .before .args .rows) (c .before .before .before .args .columns) (c .before .before .before .args .grid .now)) (untouched (gridOf (c .before .before .before .args .rows) (c .before .before .before .args .columns) (c .before .before .before .args .grid .now))) (c .before .before .before .args .work .now) (c .set-up .last .1 .1 .1 .0)

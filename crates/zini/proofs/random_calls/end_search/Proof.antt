@@ -1,12 +1,12 @@
--- `zini::rolls::end_search`: by the case that it is. Assumes nothing.
+-- `zini::random_calls::end_search`: by the case that it is. Assumes nothing.
 use Prim.Native.Nat.{ℕ, _*_}
 use mathlib.Core.Path.{subst, sym}
 use lib.IntN.{pos}
 use Rattle.zini.specs.Clearing.{Cleared}
 use Rattle.zini.proofs.Rolling.{search-dry, search-ended}
 use borrow.Author.Needs.{needs}
-use Rattle.zini.proofs.rolls.end_search.Statement.{statement}
-use Rattle.zini.proofs.rolls.end_search.Tie as tie
+use Rattle.zini.proofs.random_calls.end_search.Statement.{statement}
+use Rattle.zini.proofs.random_calls.end_search.Tie as tie
 
 enum-known-rolled : tie.Need-enum-known-rolled
 enum-known-rolled c = search needs

@@ -6,11 +6,11 @@ use lib.IntN.{ℤ}
 use lib.ListN.{length}
 use Rattle.game.specs.Calls.{ListOutcome, replayCall}
 use Rattle.game.specs.Grid.{Grid}
-use Rattle.zini.specs.Answers.{Kept, pricedAnswer, replayedAnswer, rolledAnswer}
+use Rattle.zini.specs.Answers.{Keeps, pricedAnswer, replayedAnswer, rolledAnswer}
 use Rattle.zini.specs.declared.Priced.{Priced}
 use Rattle.zini.specs.declared.Replayed.{Replayed}
 use Rattle.zini.specs.declared.Rolled.{Rolled}
-use Rattle.zini.proofs.Once.{priced-once, replayed-once, rolled-once}
+use Rattle.zini.proofs.OneAnswer.{priced-once, replayed-once, rolled-once}
 use Rattle.records.specs.declared.MoveRecord.{MoveRecord}
 use Rattle.by_records.specs.Promises.{KeptReplay, KeptRun, replayWithin}
 
@@ -28,6 +28,6 @@ pub replay-once : (g : Grid) (ws : List ℤ) (ms : List ℕ) (run : List MoveRec
     → KeptReplay g ws ms run n (replayedAnswer r) w l → KeptReplay g ws ms run n (replayedAnswer r′) w′ l′ → (r ≡ r′) × (w ≡ w′) × (l ≡ l′)
 replay-once g ws ms run n r r′ w w′ l l′ k k′ =
     let same = k .words ∙ sym (k′ .words) in
-    let kept′ = subst (λ (x : List ℕ). Kept (replayWithin g ws (length run) n (replayCall g ws x n)) (replayedAnswer r′) w′) (sym same) (k′ .flat) in
+    let kept′ = subst (λ (x : List ℕ). Keeps (replayWithin g ws (length run) n (replayCall g ws x n)) (replayedAnswer r′) w′) (sym same) (k′ .flat) in
     let e = replayed-once (replayWithin g ws (length run) n (replayCall g ws l n)) r r′ w w′ (k .flat) kept′ in
     (e .0, e .1, same)

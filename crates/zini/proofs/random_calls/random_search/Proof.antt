@@ -1,4 +1,4 @@
--- `zini::rolls::random_search`: refused as the checks say, else played. Assumes nothing.
+-- `zini::random_calls::random_search`: refused as the checks say, else played. Assumes nothing.
 use mathlib.Core.Path.{_≡_, ap, sym, _∙_}
 use mathlib.Core.List.{_++_}
 use mathlib.Core.Option.{Option, none}
@@ -9,11 +9,12 @@ use mathlib.Core.List.{[], _∷_}
 use lib.Dec.{eqb, ltb}
 use Rattle.game.specs.Rounds.{randomSearch}
 use Rattle.game.specs.Calls.{Outcome, Refusal, drawnSearch, firstGiven, gridChecks, randomSearchCall, rounds}
-use Rattle.checks.proofs.More.{all-passed, none-below}
-use Rattle.zini.proofs.Promises.{kept-else, kept-refused}
+use Rattle.checks.proofs.More.{none-below}
+use Rattle.checks.proofs.Verdict.{all-passed}
+use Rattle.zini.proofs.Promises.{keeps-else, keeps-refused}
 use borrow.Author.Needs.{needs}
-use Rattle.zini.proofs.rolls.random_search.Statement.{statement}
-use Rattle.zini.proofs.rolls.random_search.Tie as tie
+use Rattle.zini.proofs.random_calls.random_search.Statement.{statement}
+use Rattle.zini.proofs.random_calls.random_search.Tie as tie
 
 -- the refusal that is given, by whether there are no rounds
 abbrev given : tie.Start → Bool → Option Refusal
@@ -49,7 +50,7 @@ returns : tie.Need-returns
 unfolding randomSearchCall
 returns c =
     let a = c .before .before .before .before .before .before .args in
-    kept-refused (given (c .before .before .before .before .before .before) (eqb (a .rounds) 0)) _ _ (come (c .before .before .before .before .before .before))
+    keeps-refused (given (c .before .before .before .before .before .before) (eqb (a .rounds) 0)) _ _ (come (c .before .before .before .before .before .before))
     (ap refusalOf (sym (c .before .checked .given .1)) ∙ c .before .before .before .check-more .ensures ∙ ap (given (c .before .before .before .before .before .before)) (none-below (a .rounds)))
 
 same-length-2 : tie.Need-same-length-2
@@ -59,7 +60,7 @@ returns-2 : tie.Need-returns-2
 unfolding randomSearchCall
 returns-2 c =
     let a = c .before .before .before .before .before .before .before .before .args in
-    kept-else (given (c .before .before .before .before .before .before .before .before) (eqb (a .rounds) 0)) _ _ _ (come (c .before .before .before .before .before .before .before .before)) (sym (verdict (c .before .before .before)) ∙ ap (given (c .before .before .before .before .before .before .before .before)) (none-below (a .rounds))) (c .before .search-checked .ensures)
+    keeps-else (given (c .before .before .before .before .before .before .before .before) (eqb (a .rounds) 0)) _ _ _ (come (c .before .before .before .before .before .before .before .before)) (sym (verdict (c .before .before .before)) ∙ ap (given (c .before .before .before .before .before .before .before .before)) (none-below (a .rounds))) (c .before .search-checked .ensures)
 
 pub random-search-spec : {M : Type 1} → statement M
 random-search-spec =

@@ -11,13 +11,13 @@ use Rattle.lines.specs.PriceLine.{heldPrice}
 use Rattle.lines.specs.declared.price.Price as Struct
 use Rattle.reader.specs.Prices.{priceOf}
 use Rattle.reader.specs.Blocks.{DeskOutcome}
-use Rattle.reader.specs.Answers.{KeptDesk, answeredAnswer}
+use Rattle.reader.specs.Answers.{KeepsDesk, answeredAnswer}
 use Rattle.reader.specs.declared.Refusal.the-variants.{Trace, Work}
 use Rattle.reader.specs.declared.Answered.{Answered}
 use Rattle.reader.specs.declared.Answered.the-variants.{Kept, Refused}
 
 -- a block, and the end of input
-pub block-once : (p : DeskOutcome) (r r′ : Answered) (held held′ out out′ : List ℕ) → KeptDesk p (answeredAnswer r) held out → KeptDesk p (answeredAnswer r′) held′ out′ → (r ≡ r′) × (held ≡ held′) × (out ≡ out′)
+pub block-once : (p : DeskOutcome) (r r′ : Answered) (held held′ out out′ : List ℕ) → KeepsDesk p (answeredAnswer r) held out → KeepsDesk p (answeredAnswer r′) held′ out′ → (r ≡ r′) × (held ≡ held′) × (out ≡ out′)
 block-once p r r′ held held′ out out′ k k′ = (
   LeftInverse·injective answeredBy answeredAnswer back r r′ (k .answers ∙ sym (k′ .answers)),
   k .keeps ∙ sym (k′ .keeps),

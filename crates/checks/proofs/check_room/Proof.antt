@@ -1,11 +1,11 @@
--- `by_records::check_room`: the covered check, by the board's length. Assumes nothing.
+-- `checks::check_room`: the covered check, by the board's length. Assumes nothing.
 use mathlib.Core.Path.{_∙_}
 use denote.Ref.{now}
 use borrow.Author.Needs.{needs}
 use Rattle.area.specs.Numbers.{gridOf}
-use Rattle.by_records.proofs.Room.{room-checked}
-use Rattle.by_records.proofs.check_room.Statement.{statement}
-use Rattle.by_records.proofs.check_room.Tie as tie
+use Rattle.checks.proofs.Verdict.{room-checked}
+use Rattle.checks.proofs.check_room.Statement.{statement}
+use Rattle.checks.proofs.check_room.Tie as tie
 
 check-more-requires : tie.Need-check-more-requires
 check-more-requires c κs = search needs

@@ -4,9 +4,9 @@ use mathlib.Core.Path.{_≡_, refl, sym, _∙_}
 use mathlib.Core.List.{List}
 use mathlib.Mathlib.Logic.Function.Defs.{LeftInverse·injective}
 use lib.ListN.{getD}
-use Rattle.lines.proofs.Once.{readBack, refused-back}
+use Rattle.refusals.proofs.ReadBack.{readBack, refused-back}
 use Rattle.stored.specs.MoveLine.{RunOutcome}
-use Rattle.stored.specs.Answers.{KeptRun, readAnswer, writtenAnswer}
+use Rattle.stored.specs.Answers.{KeepsRun, readAnswer, writtenAnswer}
 use Rattle.stored.specs.declared.MovesRead.{MovesRead}
 use Rattle.stored.specs.declared.MovesRead.the-variants as Reads
 use Rattle.stored.specs.declared.MovesWritten.{MovesWritten}
@@ -37,9 +37,9 @@ written-same = LeftInverse·injective (readBack digits Writes.Refused) writtenAn
 -- ---- one answer and one end of the lent run
 
 -- a stored line read
-pub read-once : (p : RunOutcome) (r r′ : MovesRead) (l l′ : List ℕ) → KeptRun p (readAnswer r) l → KeptRun p (readAnswer r′) l′ → (r ≡ r′) × (l ≡ l′)
+pub read-once : (p : RunOutcome) (r r′ : MovesRead) (l l′ : List ℕ) → KeepsRun p (readAnswer r) l → KeepsRun p (readAnswer r′) l′ → (r ≡ r′) × (l ≡ l′)
 read-once p r r′ l l′ k k′ = (read-same r r′ (k .answers ∙ sym (k′ .answers)), k .leaves ∙ sym (k′ .leaves))
 
 -- a line written
-pub written-once : (p : RunOutcome) (r r′ : MovesWritten) (l l′ : List ℕ) → KeptRun p (writtenAnswer r) l → KeptRun p (writtenAnswer r′) l′ → (r ≡ r′) × (l ≡ l′)
+pub written-once : (p : RunOutcome) (r r′ : MovesWritten) (l l′ : List ℕ) → KeepsRun p (writtenAnswer r) l → KeepsRun p (writtenAnswer r′) l′ → (r ≡ r′) × (l ≡ l′)
 written-once p r r′ l l′ k k′ = (written-same r r′ (k .answers ∙ sym (k′ .answers)), k .leaves ∙ sym (k′ .leaves))

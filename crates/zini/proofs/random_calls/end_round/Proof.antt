@@ -1,4 +1,4 @@
--- `zini::rolls::end_round`: by the case that it is. Assumes nothing.
+-- `zini::random_calls::end_round`: by the case that it is. Assumes nothing.
 use Prim.Native.Nat.{ℕ, _*_}
 use mathlib.Core.Path.{subst, sym}
 use lib.IntN.{pos}
@@ -7,8 +7,8 @@ use Rattle.game.specs.Rounds.{randomRound}
 use Rattle.zini.specs.Clearing.{Cleared}
 use Rattle.zini.proofs.Rolling.{few-moves, round-dry, round-ended}
 use borrow.Author.Needs.{needs}
-use Rattle.zini.proofs.rolls.end_round.Statement.{statement}
-use Rattle.zini.proofs.rolls.end_round.Tie as tie
+use Rattle.zini.proofs.random_calls.end_round.Statement.{statement}
+use Rattle.zini.proofs.random_calls.end_round.Tie as tie
 
 enum-known-rolled : tie.Need-enum-known-rolled
 enum-known-rolled c = search needs

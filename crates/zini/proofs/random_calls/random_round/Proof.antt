@@ -1,4 +1,4 @@
--- `zini::rolls::random_round`: refused as the checks say, else played. Assumes nothing.
+-- `zini::random_calls::random_round`: refused as the checks say, else played. Assumes nothing.
 use mathlib.Core.Path.{_≡_, ap, sym, _∙_}
 use mathlib.Core.List.{_++_}
 use mathlib.Core.Option.{Option, none}
@@ -8,11 +8,12 @@ use Rattle.area.specs.Numbers.{gridOf}
 use Rattle.refusals.specs.Names.{refusalOf}
 use Rattle.game.specs.Rounds.{randomRound}
 use Rattle.game.specs.Calls.{ListOutcome, Refusal, drawnRound, firstGiven, gridChecks, randomRoundCall, trace}
-use Rattle.checks.proofs.More.{reaches, all-passed}
+use Rattle.checks.proofs.More.{reaches}
+use Rattle.checks.proofs.Verdict.{all-passed}
 use Rattle.zini.proofs.Promises.{list-else, list-refused}
 use borrow.Author.Needs.{needs}
-use Rattle.zini.proofs.rolls.random_round.Statement.{statement}
-use Rattle.zini.proofs.rolls.random_round.Tie as tie
+use Rattle.zini.proofs.random_calls.random_round.Statement.{statement}
+use Rattle.zini.proofs.random_calls.random_round.Tie as tie
 
 -- the refusal that is given
 abbrev given : tie.Start → Option Refusal
@@ -27,10 +28,10 @@ come c =
 
 -- where nothing is refused
 verdict : (c : tie.After-enum-told) → given (c .before .before .before .before .before .before .before) ≡ none
-verdict c = sym (c .before .before .check-list .ensures) ∙ ap refusalOf (c .enum-told .given .1)
+verdict c = sym (c .before .before .check-room .ensures) ∙ ap refusalOf (c .enum-told .given .1)
 
-check-list-requires : tie.Need-check-list-requires
-check-list-requires c κs = search needs
+check-room-requires : tie.Need-check-room-requires
+check-room-requires c κs = search needs
 
 enum-known-checked : tie.Need-enum-known-checked
 enum-known-checked c = search needs
@@ -53,7 +54,7 @@ same-length-2 c = search needs
 returns : tie.Need-returns
 unfolding randomRoundCall
 returns c =
-    list-refused (given (c .before .before .before .before .before .before .before .before)) _ _ _ (come (c .before .before .before .before .before .before .before .before)) (ap refusalOf (sym (c .before .checked .given .1)) ∙ c .before .before .before .check-list .ensures)
+    list-refused (given (c .before .before .before .before .before .before .before .before)) _ _ _ (come (c .before .before .before .before .before .before .before .before)) (ap refusalOf (sym (c .before .checked .given .1)) ∙ c .before .before .before .check-room .ensures)
 
 same-length-3 : tie.Need-same-length-3
 same-length-3 c = search needs
@@ -70,7 +71,7 @@ pub random-round-spec : {M : Type 1} → statement M
 random-round-spec =
     tie.close
     (tie.spec
-    check-list-requires
+    check-room-requires
     enum-known-checked
     enum-told
     roll-checked-requires

@@ -1,12 +1,12 @@
--- `zini::rolls::roll_checked`: set up, played, handed back. Assumes nothing.
+-- `zini::random_calls::roll_checked`: set up, played, handed back. Assumes nothing.
 use mathlib.Core.Path.{refl}
 use Rattle.game.specs.Position.{untouched}
 use Rattle.area.specs.Numbers.{gridOf}
 use Rattle.area.specs.Stages.{Stands}
 use Rattle.zini.proofs.Played.{fresh}
 use borrow.Author.Needs.{needs}
-use Rattle.zini.proofs.rolls.roll_checked.Statement.{statement}
-use Rattle.zini.proofs.rolls.roll_checked.Tie as tie
+use Rattle.zini.proofs.random_calls.roll_checked.Statement.{statement}
+use Rattle.zini.proofs.random_calls.roll_checked.Tie as tie
 
 -- after the set-up the work area stands for the untouched grid
 begun : (c : tie.After-set-up) → Stands (c .before .before .before .before .args .rows) (c .before .before .before .before .args .columns) (gridOf (c .before .before .before .before .args .rows) (c .before .before .before .before .args .columns) (c .before .before .before .before .args .grid .now)) (untouched (gridOf (c .before .before .before .before .args .rows) (c .before .before .before .before .args .columns) (c .before .before .before .before .args .grid .now))) (c .before .before .before .before .args .work .now) (c .set-up .last .1 .1 .1 .0)

@@ -15,7 +15,7 @@ ghost use Rattle.game.specs.Calls.{drawnRound, drawnSearch, randomRoundCall, ra
 ghost use Rattle.area.specs.Numbers.{gridOf};
 ghost use Rattle.area.specs.Stages.{Shape};
 ghost use Rattle.random.specs.Promises.{Rolling, Searching};
-ghost use Rattle.zini.specs.Answers.{Kept, KeptList, rolledAnswer};
+ghost use Rattle.zini.specs.Answers.{Keeps, KeepsList, rolledAnswer};
 
 // A random round's lent memory is handed back: settled, or filled with 0 where the draws ran dry.
 fn end_round(
@@ -29,7 +29,7 @@ fn end_round(
     requires { ⌜ (5 * (rows * columns) ≤ length (now work)) × (rows * columns ≤ length (now list)) ⌝ }
     ensures { λ r. ⌜ ((g : Grid) (bytes : List ℕ) (old : List ℤ) (before : List ℕ) → size g ≡ rows * columns → 5 * size g ≤ length old → size g ≤ length before
         → Rolling rows columns g old (randomRound g bytes 0) before (now (work .entry)) (now (list .entry)) rolled
-        → KeptList (drawnRound g (randomRound g bytes 0) old before) (rolledAnswer r) (now (work .exit)) (now (list .exit))) ⌝ }
+        → KeepsList (drawnRound g (randomRound g bytes 0) old before) (rolledAnswer r) (now (work .exit)) (now (list .exit))) ⌝ }
 {
     match rolled {
         random::Rolled::Ended(clicks, used) => {
@@ -49,7 +49,7 @@ fn end_search(rolled: random::Rolled, rows: usize, columns: usize, work: &mut [i
     requires { ⌜ Shape rows columns ⌝ }
     requires { ⌜ 5 * (rows * columns) ≤ length (now work) ⌝ }
     ensures { λ r. ⌜ ((g : Grid) (o : Option Searched) (old : List ℤ) → size g ≡ rows * columns → 5 * size g ≤ length old
-        → Searching rows columns g old o (now (work .entry)) rolled → Kept (drawnSearch g o old) (rolledAnswer r) (now (work .exit))) ⌝ }
+        → Searching rows columns g old o (now (work .entry)) rolled → Keeps (drawnSearch g o old) (rolledAnswer r) (now (work .exit))) ⌝ }
 {
     match rolled {
         random::Rolled::Ended(least, used) => {
@@ -74,7 +74,7 @@ fn roll_checked(
 ) -> Rolled
     requires { ⌜ Shape rows columns ⌝ }
     requires { ⌜ (length (now grid) ≡ rows * columns) × (5 * (rows * columns) ≤ length (now work)) × (rows * columns ≤ length (now list)) ⌝ }
-    ensures { λ r. ⌜ KeptList (drawnRound (gridOf rows columns (now (grid .entry))) (randomRound (gridOf rows columns (now (grid .entry))) (now (draws .entry)) 0) (now (work .entry)) (now (list .entry))) (rolledAnswer r) (now (work .exit)) (now (list .exit)) ⌝ }
+    ensures { λ r. ⌜ KeepsList (drawnRound (gridOf rows columns (now (grid .entry))) (randomRound (gridOf rows columns (now (grid .entry))) (now (draws .entry)) 0) (now (work .entry)) (now (list .entry))) (rolledAnswer r) (now (work .exit)) (now (list .exit)) ⌝ }
 {
     let counts = start::begin::set_up(grid, rows, columns, work);
     let safe = counts.safe;
@@ -93,7 +93,7 @@ fn search_checked(
 ) -> Rolled
     requires { ⌜ Shape rows columns ⌝ }
     requires { ⌜ (length (now grid) ≡ rows * columns) × (5 * (rows * columns) ≤ length (now work)) × (1 ≤ rounds) ⌝ }
-    ensures { λ r. ⌜ Kept (drawnSearch (gridOf rows columns (now (grid .entry))) (randomSearch (gridOf rows columns (now (grid .entry))) (now (draws .entry)) rounds) (now (work .entry))) (rolledAnswer r) (now (work .exit)) ⌝ }
+    ensures { λ r. ⌜ Keeps (drawnSearch (gridOf rows columns (now (grid .entry))) (randomSearch (gridOf rows columns (now (grid .entry))) (now (draws .entry)) rounds) (now (work .entry))) (rolledAnswer r) (now (work .exit)) ⌝ }
 {
     let counts = start::begin::set_up(grid, rows, columns, work);
     let safe = counts.safe;
@@ -110,9 +110,9 @@ pub fn random_round(
     list: &mut [u32],
     draws: &[u8],
 ) -> Rolled
-    ensures { λ r. ⌜ KeptList (randomRoundCall (gridOf rows columns (now (grid .entry))) (now (work .entry)) (now (list .entry)) (now (draws .entry))) (rolledAnswer r) (now (work .exit)) (now (list .exit)) ⌝ }
+    ensures { λ r. ⌜ KeepsList (randomRoundCall (gridOf rows columns (now (grid .entry))) (now (work .entry)) (now (list .entry)) (now (draws .entry))) (rolledAnswer r) (now (work .exit)) (now (list .exit)) ⌝ }
 {
-    let checked = checks::check_list(rows, columns, grid, work, list);
+    let checked = checks::check_room(rows, columns, grid, work, list.len());
     match checked {
         Checked::Refused(refusal) => Rolled::Refused(refusal),
         Checked::Fine => roll_checked(rows, columns, grid, work, list, draws),
@@ -128,7 +128,7 @@ pub fn random_search(
     draws: &[u8],
     rounds: usize,
 ) -> Rolled
-    ensures { λ r. ⌜ Kept (randomSearchCall (gridOf rows columns (now (grid .entry))) (now (work .entry)) (now (draws .entry)) rounds) (rolledAnswer r) (now (work .exit)) ⌝ }
+    ensures { λ r. ⌜ Keeps (randomSearchCall (gridOf rows columns (now (grid .entry))) (now (work .entry)) (now (draws .entry)) rounds) (rolledAnswer r) (now (work .exit)) ⌝ }
 {
     let checked = checks::check_more(rows, columns, grid, work, rounds, 1, Refusal::Rounds);
     match checked {
