@@ -1,6 +1,6 @@
 // A block of input answered: its lines priced as they end, and the line that goes on kept.
 use crate::Answered;
-use crate::Refusal;
+use refusals::Refusal;
 ghost use mathlib.Core.Path.{_≡_};
 ghost use lib.ListN.{length};
 ghost use Rattle.reader.specs.Blocks.{blockCall, endCall};

@@ -1,7 +1,7 @@
 // Stored move lists: rows, columns, then each move as four bytes, high first.
+use lines::board;
 use refusals::Checked;
 use refusals::Refusal;
-use lines::board;
 ghost use mathlib.Core.Path.{_≡_};
 ghost use Prim.Native.Nat.{_+_, _*_, _<_, _≤_};
 ghost use lib.ListN.{drop, getD, length, take};

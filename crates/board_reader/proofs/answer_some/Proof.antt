@@ -6,7 +6,8 @@ use lib.ListN.{take}
 use lib.Seq.{length-take-le}
 use borrow.Author.Needs.{needs}
 use Rattle.reader.specs.Blocks.{blockCall}
-use Rattle.reader.specs.Answers.{KeepsDesk, answeredAnswer, named}
+use Rattle.reader.specs.Answers.{KeepsDesk, answeredAnswer}
+use Rattle.refusals.specs.Names.{named}
 use Rattle.reader.specs.declared.Answered.{Answered}
 use Rattle.board_reader.specs.Turns.{Answers, cutOn, keptAfter}
 use Rattle.board_reader.specs.declared.Kept.{Kept}

@@ -5,7 +5,8 @@ use lib.ListN.{take}
 use lib.Seq.{length-take-le}
 use borrow.Author.Needs.{needs}
 use Rattle.reader.specs.Blocks.{endCall, lastLine}
-use Rattle.reader.specs.Answers.{KeepsDesk, answeredAnswer, named}
+use Rattle.reader.specs.Answers.{KeepsDesk, answeredAnswer}
+use Rattle.refusals.specs.Names.{named}
 use Rattle.reader.specs.declared.Answered.{Answered}
 use Rattle.board_reader.specs.declared.Kept.{Kept}
 use Rattle.board_reader.proofs.Turning.{Left, end-left, end-passed, ended}

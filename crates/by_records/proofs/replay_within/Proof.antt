@@ -4,11 +4,10 @@ use mathlib.Core.List.{[], _∷_, _++_}
 use mathlib.Core.Option.{Option}
 use denote.Ref.{now}
 use borrow.Author.Needs.{needs}
-use Rattle.game.specs.Calls.{Outcome, Refusal, firstGiven, gridChecks, replayCall}
+use Rattle.game.specs.Calls.{Outcome, Refusal, firstGiven, gridChecks, replayCall, aboveCheck}
 use Rattle.area.specs.Numbers.{gridOf}
 use Rattle.refusals.specs.Names.{refusalOf}
 use Rattle.zini.proofs.Promises.{keeps-else, keeps-refused}
-use Rattle.by_records.specs.Promises.{aboveCheck}
 use Rattle.by_records.proofs.replay_within.Statement.{statement}
 use Rattle.by_records.proofs.replay_within.Tie as tie
 

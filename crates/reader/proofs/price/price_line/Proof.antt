@@ -8,7 +8,8 @@ use lib.IntN.{ℤ, pos}
 use lib.ListN.{length, length-replicate, replicate, take}
 use Rattle.game.specs.Calls.{Answer}
 use Rattle.lines.specs.BoardLine.{boardLineCall, lineGrid}
-use Rattle.lines.specs.Answers.{KeepsGrid, boardAnswer, named}
+use Rattle.lines.specs.Answers.{KeepsGrid, boardAnswer}
+use Rattle.refusals.specs.Names.{named}
 use Rattle.area.specs.Numbers.{gridOf}
 use Rattle.reader.specs.Taken.{Taken}
 use Rattle.reader.specs.Prices.{priceOf, priceOr}

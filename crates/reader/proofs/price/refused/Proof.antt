@@ -1,6 +1,6 @@
 -- `reader::price::refused`: zeros after the number. Assumes nothing.
 use native.Mathlib.Omega.{arith}
-use Rattle.lines.specs.Answers.{named}
+use Rattle.refusals.specs.Names.{named}
 use Rattle.lines.specs.PriceLine.{heldPrice}
 use Rattle.reader.proofs.Figures.{zeros-after}
 use borrow.Author.Needs.{needs}

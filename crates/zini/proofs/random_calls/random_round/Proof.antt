@@ -27,7 +27,7 @@ come c =
     drawnRound g (randomRound g (c .args .draws .now) 0) (c .args .work .now) (c .args .list .now)
 
 -- where nothing is refused
-verdict : (c : tie.After-enum-told) → given (c .before .before .before .before .before .before .before) ≡ none
+verdict : (c : tie.After-enum-told) → given (c .before .before .before .before .before .before) ≡ none
 verdict c = sym (c .before .before .check-room .ensures) ∙ ap refusalOf (c .enum-told .given .1)
 
 check-room-requires : tie.Need-check-room-requires
@@ -41,31 +41,28 @@ enum-told c = search needs
 
 roll-checked-requires : tie.Need-roll-checked-requires
 roll-checked-requires c κs =
-    let a = c .before .before .before .before .before .before .before .before .before .args in
+    let a = c .before .before .before .before .before .before .before .before .args in
     let p = all-passed (gridOf (a .rows) (a .columns) (a .grid .now)) (a .work .now) (length (a .list .now)) (a .rows * a .columns) trace (verdict (c .before .before)) in
     (p .0 .shaped, (p .0 .whole, p .0 .room, p .1))
 
 same-length : tie.Need-same-length
 same-length c = search needs
 
-same-length-2 : tie.Need-same-length-2
-same-length-2 c = search needs
-
 returns : tie.Need-returns
 unfolding randomRoundCall
 returns c =
-    list-refused (given (c .before .before .before .before .before .before .before .before)) _ _ _ (come (c .before .before .before .before .before .before .before .before)) (ap refusalOf (sym (c .before .checked .given .1)) ∙ c .before .before .before .check-room .ensures)
+    list-refused (given (c .before .before .before .before .before .before .before)) _ _ _ (come (c .before .before .before .before .before .before .before)) (ap refusalOf (sym (c .before .checked .given .1)) ∙ c .before .before .before .check-room .ensures)
+
+same-length-2 : tie.Need-same-length-2
+same-length-2 c = search needs
 
 same-length-3 : tie.Need-same-length-3
 same-length-3 c = search needs
 
-same-length-4 : tie.Need-same-length-4
-same-length-4 c = search needs
-
 returns-2 : tie.Need-returns-2
 unfolding randomRoundCall
 returns-2 c =
-    list-else (given (c .before .before .before .before .before .before .before .before .before .before .before .before .before)) _ _ _ _ _ (come (c .before .before .before .before .before .before .before .before .before .before .before .before .before)) (sym (verdict (c .before .before .before .before .before .before))) (c .before .before .before .roll-checked .ensures)
+    list-else (given (c .before .before .before .before .before .before .before .before .before .before .before .before)) _ _ _ _ _ (come (c .before .before .before .before .before .before .before .before .before .before .before .before)) (sym (verdict (c .before .before .before .before .before .before))) (c .before .before .before .roll-checked .ensures)
 
 pub random-round-spec : {M : Type 1} → statement M
 random-round-spec =
@@ -76,8 +73,7 @@ random-round-spec =
     enum-told
     roll-checked-requires
     same-length
-    same-length-2
     returns
+    same-length-2
     same-length-3
-    same-length-4
     returns-2)
