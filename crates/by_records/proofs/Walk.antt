@@ -62,7 +62,7 @@ use Rattle.records.proofs.records_of.Symbol.{name as #records·records-of}
 use Rattle.records.proofs.records_of.Met as rec-thm
 use Rattle.by_records.specs.Promises.{KeepsRecords, priceRecordsCall, within, writtenBy}
 use Rattle.records.proofs.Again.{LentAgain, lends-again, comes-back}
-use Rattle.by_records.proofs.Copied.{keeps-records}
+use Rattle.by_records.proofs.Keeping.{keeps-records}
 use Rattle.by_records.proofs.price_within as fl
 use Rattle.by_records.proofs.price_within.Symbol as fl-def
 use Rattle.by_records.proofs.price_within.Symbol.{name as #by-records·price-within}

@@ -58,7 +58,7 @@ pub(crate) fn random_within(
 fn written_on(refusal: Refusal, cells: usize) -> usize
     ensures { λ r. ⌜ r ≡ writtenBy cells (refuses (named refusal)) ⌝ }
 {
-    if refusals::number_of(refusal) == 6 {
+    if refusals::number_of(refusal) == refusals::number_of(Refusal::Draws) {
         cells
     } else {
         0

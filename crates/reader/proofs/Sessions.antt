@@ -79,14 +79,14 @@ blocks-join b bs begun later e =
     ∙ ap (λ (x : Cut). concat-map answerLine (allLines x)) (sym (cut-joins begun b (joined bs)))
 
 -- none of the calls is refused, and they print the answers to these lines
-pub record Answers (lines : List (List ℕ)) (outcomes : List DeskOutcome) : Type 0 where
+pub record AnswersLines (lines : List (List ℕ)) (outcomes : List DeskOutcome) : Type 0 where
   pub passed : Each (λ (o : DeskOutcome). o .answer .number ≡ 0) outcomes
   pub said : concat-map toPrint outcomes ≡ concat-map answerLine lines
 
 answers-from : (blocks : List (List ℕ)) (begun held out : List ℕ) (count : ℕ) → Keeps begun held count → 517 ≤ length held → 15 ≤ length out → Each (Fits out) blocks
-    → Answers (allLines (cutFrom begun (joined blocks))) (calls blocks held count out)
+    → AnswersLines (allLines (cutFrom begun (joined blocks))) (calls blocks held count out)
 answers-from [] begun held out count k h r fits =
-    subst (λ (o : DeskOutcome). Answers (lastLine begun) (o ∷ [])) (end-comes begun held count k h out r)
+    subst (λ (o : DeskOutcome). AnswersLines (lastLine begun) (o ∷ [])) (end-comes begun held count k h out r)
     (record {
       passed = (refl, tt);
       said = append-nil _ ∙ said-first (lastLine (take count held)) out ∙ last-answer begun held count k h;
@@ -98,7 +98,7 @@ answers-from (b ∷ bs) begun held out count k h r (f, fits) =
     let rest =
     answers-from bs (cutFrom begun b .goes-on) (d .held) (d .out) (d .count) (t .keeps) (omega (arith, t .held-whole)) (omega (arith, room))
     (subst (λ (n : ℕ). Each (λ (b : List ℕ). 15 * length b ≤ n) bs) (sym room) fits) in
-    subst (λ (o : DeskOutcome). Answers (allLines (cutFrom begun (joined (b ∷ bs)))) (o ∷ calls bs (o .held) (getD (o .answer .values) 0 0) (o .out)))
+    subst (λ (o : DeskOutcome). AnswersLines (allLines (cutFrom begun (joined (b ∷ bs)))) (o ∷ calls bs (o .held) (getD (o .answer .values) 0 0) (o .out)))
     (block-comes begun held count k h b out f)
     (record {
       passed = (refl, rest .passed);

@@ -7,8 +7,8 @@ use zini::Replayed;
 use zini::Rolled;
 ghost use Rattle.game.specs.Calls.{greedyCall, openingsFirstCall, randomRoundCall};
 ghost use Rattle.area.specs.Numbers.{gridOf};
-ghost use Rattle.zini.specs.Answers.{pricedAnswer, replayedAnswer, rolledAnswer};
-ghost use Rattle.by_records.specs.Promises.{KeptReplay, KeptRun, within};
+ghost use Rattle.zini.specs.Answers.{KeepsList, pricedAnswer, replayedAnswer, rolledAnswer};
+ghost use Rattle.by_records.specs.Promises.{KeepsRecords, inRecords, replayRecordsCall, within};
 ghost use Rattle.record_trials.specs.Readings.{Twice};
 
 // What greedy or openings-first answers, and the run that was lent.
@@ -39,7 +39,7 @@ fn greedy_run(
     list: &mut [u32],
     run: [MoveRecord; 9],
 ) -> PricedRun
-    ensures { λ r. ⌜ KeptRun (gridOf rows columns (now (grid .entry))) (within (gridOf rows columns (now (grid .entry))) (now (work .entry)) (now (list .entry)) 9 (greedyCall (gridOf rows columns (now (grid .entry))) (now (work .entry)) (now (list .entry)))) run (pricedAnswer (r .answer)) (now (work .exit)) (now (list .exit)) (r .run) ⌝ }
+    ensures { λ r. ⌜ KeepsRecords (inRecords (gridOf rows columns (now (grid .entry))) (within (gridOf rows columns (now (grid .entry))) (now (work .entry)) (now (list .entry)) 9 (greedyCall (gridOf rows columns (now (grid .entry))) (now (work .entry)) (now (list .entry)))) run) (pricedAnswer (r .answer)) (now (work .exit)) (now (list .exit)) (r .run) ⌝ }
 {
     let mut lent = run;
     let answer = by_records::greedy_records(rows, columns, grid, work, list, &mut lent);
@@ -55,7 +55,7 @@ fn openings_first_run(
     list: &mut [u32],
     run: [MoveRecord; 9],
 ) -> PricedRun
-    ensures { λ r. ⌜ KeptRun (gridOf rows columns (now (grid .entry))) (within (gridOf rows columns (now (grid .entry))) (now (work .entry)) (now (list .entry)) 9 (openingsFirstCall (gridOf rows columns (now (grid .entry))) (now (work .entry)) (now (list .entry)))) run (pricedAnswer (r .answer)) (now (work .exit)) (now (list .exit)) (r .run) ⌝ }
+    ensures { λ r. ⌜ KeepsRecords (inRecords (gridOf rows columns (now (grid .entry))) (within (gridOf rows columns (now (grid .entry))) (now (work .entry)) (now (list .entry)) 9 (openingsFirstCall (gridOf rows columns (now (grid .entry))) (now (work .entry)) (now (list .entry)))) run) (pricedAnswer (r .answer)) (now (work .exit)) (now (list .exit)) (r .run) ⌝ }
 {
     let mut lent = run;
     let answer = by_records::openings_first_records(rows, columns, grid, work, list, &mut lent);
@@ -72,7 +72,7 @@ fn random_run(
     run: [MoveRecord; 9],
     draws: &[u8],
 ) -> RolledRun
-    ensures { λ r. ⌜ KeptRun (gridOf rows columns (now (grid .entry))) (within (gridOf rows columns (now (grid .entry))) (now (work .entry)) (now (list .entry)) 9 (randomRoundCall (gridOf rows columns (now (grid .entry))) (now (work .entry)) (now (list .entry)) (now (draws .entry)))) run (rolledAnswer (r .answer)) (now (work .exit)) (now (list .exit)) (r .run) ⌝ }
+    ensures { λ r. ⌜ KeepsRecords (inRecords (gridOf rows columns (now (grid .entry))) (within (gridOf rows columns (now (grid .entry))) (now (work .entry)) (now (list .entry)) 9 (randomRoundCall (gridOf rows columns (now (grid .entry))) (now (work .entry)) (now (list .entry)) (now (draws .entry)))) run) (rolledAnswer (r .answer)) (now (work .exit)) (now (list .exit)) (r .run) ⌝ }
 {
     let mut lent = run;
     let answer = by_records::random_round_records(
@@ -97,7 +97,7 @@ fn replay_run(
     run: [MoveRecord; 9],
     count: usize,
 ) -> Replayed
-    ensures { λ r. ⌜ KeptReplay (gridOf rows columns (now (grid .entry))) (now (work .entry)) (now (list .entry)) run count (replayedAnswer r) (now (work .exit)) (now (list .exit)) ⌝ }
+    ensures { λ r. ⌜ KeepsList (replayRecordsCall (gridOf rows columns (now (grid .entry))) (now (work .entry)) (now (list .entry)) run count) (replayedAnswer r) (now (work .exit)) (now (list .exit)) ⌝ }
 {
     by_records::replay_records(rows, columns, grid, work, list, &run, count)
 }

@@ -9,8 +9,8 @@ use Rattle.reader.specs.Blocks.{blockCall}
 use Rattle.reader.specs.Answers.{KeepsDesk, answeredAnswer}
 use Rattle.refusals.specs.Names.{named}
 use Rattle.reader.specs.declared.Answered.{Answered}
-use Rattle.board_reader.specs.Turns.{Answers, cutOn, keptAfter}
-use Rattle.board_reader.specs.declared.Kept.{Kept}
+use Rattle.board_reader.specs.Turns.{AnsweredBlock, cutOn, keptAfter}
+use Rattle.board_reader.specs.declared.PartLine.{PartLine}
 use Rattle.board_reader.specs.declared.Turn.{Turn}
 use Rattle.board_reader.proofs.Turning.{Left, block-left, block-passed}
 use Rattle.board_reader.proofs.answer_some.Statement.{statement}

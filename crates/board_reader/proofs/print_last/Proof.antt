@@ -8,7 +8,7 @@ use Rattle.reader.specs.Blocks.{endCall, lastLine}
 use Rattle.reader.specs.Answers.{KeepsDesk, answeredAnswer}
 use Rattle.refusals.specs.Names.{named}
 use Rattle.reader.specs.declared.Answered.{Answered}
-use Rattle.board_reader.specs.declared.Kept.{Kept}
+use Rattle.board_reader.specs.declared.PartLine.{PartLine}
 use Rattle.board_reader.proofs.Turning.{Left, end-left, end-passed, ended}
 use Rattle.board_reader.proofs.print_last.Statement.{statement}
 use Rattle.board_reader.proofs.print_last.Tie as tie

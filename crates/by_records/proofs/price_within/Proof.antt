@@ -38,7 +38,7 @@ same-length c = search needs
 
 returns : tie.Need-returns
 returns c =
-    let s = c .before .before .before .before .before .before .before in
+    let s = c .before .before .before .before .before .before in
     list-refused (given s) _ _ _ (come s) (ap refusalOf (sym (c .before .checked .given .1)) ∙ c .before .before .before .check-room .ensures)
 
 same-length-2 : tie.Need-same-length-2
@@ -49,7 +49,7 @@ same-length-3 c = search needs
 
 returns-2 : tie.Need-returns-2
 returns-2 c =
-    let s = c .before .before .before .before .before .before .before .before .before .before .before .before in
+    let s = c .before .before .before .before .before .before .before .before .before .before .before in
     list-else (given s) _ _ _ _ _ (come s) (ap refusalOf (sym (c .before .before .before .before .before .before .enum-told .given .1)) ∙ c .before .before .before .before .before .before .before .before .check-room .ensures) (c .before .before .before .price .ensures)
 
 pub price-within-spec : {M : Type 1} → statement M

@@ -63,7 +63,7 @@ use Rattle.by_records.proofs.copied as cpd
 use Rattle.by_records.proofs.copied.Symbol as cpd-def
 use Rattle.by_records.proofs.copied.Symbol.{name as #by-records·copied}
 use Rattle.by_records.proofs.copied.Met as cpd-thm
-use Rattle.by_records.proofs.Copied.{keeps-replay}
+use Rattle.by_records.proofs.Keeping.{keeps-replay}
 use Rattle.by_records.proofs.replay_within as fl
 use Rattle.by_records.proofs.replay_within.Symbol as fl-def
 use Rattle.by_records.proofs.replay_within.Symbol.{name as #by-records·replay-within}
