@@ -1,11 +1,27 @@
--- The verdict of some checks after others: the first that is given decides. Assumes nothing.
+-- The verdict of some checks after others: the first that is given decides; a side that passed. Assumes nothing.
+use Prim.Native.Nat.{ℕ, _≤_}
+use native.Mathlib.Omega.{arith}
 use mathlib.Core.Path.{_≡_, refl}
-use mathlib.Core.Bool.{Bool, false, true}
+use mathlib.Core.Bool.{Bool, false, true, true≢false, _||_}
 use mathlib.Core.List.{List, [], _++_, _∷_}
 use mathlib.Core.Option.{Option, none, some}
-use Rattle.game.specs.Calls.{Check, Refusal, firstGiven}
+use lib.Dec.{eqb, ltb}
+use borrow.Author.Tests.{eqb-false, ltb-false}
+use Rattle.game.specs.Calls.{Check, Refusal, firstGiven, sideOut}
 use Rattle.game.specs.Lists.{Each}
 use Rattle.game.proofs.Rounds.{IfSome}
+
+-- neither of two tests
+pub or-no : (a b : Bool) → (a || b) ≡ false → (a ≡ false) × (b ≡ false)
+or-no false b e = (refl, e)
+or-no true b e = absurd (true≢false e)
+
+-- a side that is not out lies within the limits
+pub side-in : (n : ℕ) → sideOut n ≡ false → (1 ≤ n) × (n ≤ 255)
+side-in n e =
+    let h = or-no (eqb n 0) (ltb 255 n) e in
+    let f = eqb-false n 0 (h .0) in
+    (omega arith, ltb-false 255 n (h .1))
 
 -- the verdict of the first checks, or else of the last
 unfoldable pub orElse : Option Refusal → Option Refusal → Option Refusal

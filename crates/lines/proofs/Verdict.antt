@@ -14,6 +14,7 @@ use borrow.Author.Tests.{eq-eqb, eqb-false, eqb-true, le-ltb, lt-ltb, ltb-false,
 use Rattle.game.specs.Lists.{some-of}
 use Rattle.game.specs.Grid.{size}
 use Rattle.game.specs.Calls.{Refusal, firstGiven, frame, shape, sideOut, size-over}
+use Rattle.game.proofs.Checks.{or-no, side-in}
 use Rattle.hex.specs.Hex.{bytesOf, isWrong}
 use Rattle.lines.specs.BoardLine.{bitBetween, bitBytes, digitsRefused, gridOfBytes, lineGrid, lineRefusal, mineBit, valueOf}
 use Rattle.hex.proofs.Bytes.{length-bytes}
@@ -156,18 +157,6 @@ pub record Passed (line : List ℕ) : Type 0 where
   pub few : size (lineGrid line) ≤ 2048
   pub bytes : length line ≡ 4 + 2 * bitBytes (size (lineGrid line))
 
-pub side-in : (n : ℕ) → sideOut n ≡ false → (1 ≤ n) × (n ≤ 255)
-side-in n e = go (eqb n 0) (ltb 255 n) refl refl e
-  where
-    go : (a b : Bool) → eqb n 0 ≡ a → ltb 255 n ≡ b → (a || b) ≡ false → (1 ≤ n) × (n ≤ 255)
-    go true b p q e = absurd (true≢false e)
-    go false true p q e = absurd (true≢false e)
-    go false false p q e = let h = eqb-false n 0 p in (omega arith, ltb-false 255 n q)
-
-pub either-false : (a b : Bool) → (a || b) ≡ false → (a ≡ false) × (b ≡ false)
-either-false true b e = absurd (true≢false e)
-either-false false b e = (refl, e)
-
 -- none of the tests
 none-given : (a b c s o n p : Bool) → verdict a b c s o n p ≡ none → ((a || (b || (c || false))) ≡ false) × (s ≡ false) × (o ≡ false) × (n ≡ false)
 none-given true b c s o n p e = absurd (Option·some-ne-none _ e)
@@ -185,7 +174,7 @@ passed line e =
     let q = none-given (some-of isWrong line) (eqb (length line % 2) 1) (ltb (length line) 4 || ltb 516 (length line)) (sideOut (rowsByte line) || sideOut (columnsByte line))
     (ltb 2048 (cellsOf line)) (not (eqb (length (bytesOf line)) (2 + bitBytes (cellsOf line)))) (paddingSet line) e in
     let d = digits-good line (q .0) in
-    let r = either-false (sideOut (rowsByte line)) (sideOut (columnsByte line)) (q .1) in
+    let r = or-no (sideOut (rowsByte line)) (sideOut (columnsByte line)) (q .1) in
     let l = length-bytes line in
     let n = eqb-true (length (bytesOf line)) (2 + bitBytes (cellsOf line)) (not-false _ (q .3)) in
     record {

@@ -6,13 +6,14 @@ use mathlib.Core.Path.{_∙_, _≡_, ap, refl, subst, sym}
 use mathlib.Core.Bool.{Bool, _||_, false, true}
 use mathlib.Core.List.{List, [], _++_, _∷_}
 use mathlib.Core.Option.{Option, none, some}
-use borrow.Author.Tests.{eqb-false, ltb-false}
-use lib.Dec.{T, eqb, ltb}
+use borrow.Author.Tests.{eqb-false}
+use lib.Dec.{eqb}
 use lib.IntN.{ℤ}
 use lib.ListN.{length}
 use Rattle.game.specs.Calls.{Check, Refusal, boardCheck, drawnSearch, firstGiven, gives, gridChecks, listCheck, playedRound, priceCall, randomSearchCall, rounds, roundsCheck, shape, shapeCheck, sideOut, unless, unlessListed, workCheck}
 use Rattle.game.specs.Grid.{Grid, size}
 use Rattle.game.specs.Lists.{Each}
+use Rattle.game.proofs.Checks.{or-no, side-in}
 use Rattle.game.specs.Moves.{Move}
 use Rattle.game.specs.Rounds.{Searched, greedySteps, movesOf, openingsFirstSteps, randomSearch}
 use Rattle.original.specs.Entries.{cal-hzini, cal-rzini, cal-zini}
@@ -33,17 +34,6 @@ equal g w =
     }
 
 -- ---- the calls
-
-or-no : (a b : Bool) → (a || b) ≡ false → (a ≡ false) × (b ≡ false)
-or-no false b e = (refl, e)
-or-no true b e = absurd (subst T e tt)
-
--- a side that is not out lies within the limits
-side-within : (n : ℕ) → sideOut n ≡ false → (1 ≤ n) × (n ≤ 255)
-side-within n e =
-    let h = or-no (eqb n 0) (ltb 255 n) e in
-    let f = eqb-false n 0 (h .0) in
-    (omega arith, ltb-false 255 n (h .1))
 
 -- where the checks refuse nothing, the first of them didn't
 first-passed : (b : Bool) (f : Refusal) (cs : List Check) → firstGiven (record { given = b; refusal = f } ∷ cs) ≡ none → b ≡ false
@@ -72,8 +62,8 @@ last-passed (c ∷ cs) b f e = go (c .given) (λ h. last-passed cs b f h) e
 checked-within : (g : Grid) (cs : List Check) → firstGiven (shapeCheck g ∷ cs) ≡ none → Within g
 checked-within g cs e =
     let h = or-no (sideOut (g .rows)) (sideOut (g .columns)) (first-passed (sideOut (g .rows) || sideOut (g .columns)) shape cs e) in
-    let r = side-within (g .rows) (h .0) in
-    let c = side-within (g .columns) (h .1) in
+    let r = side-in (g .rows) (h .0) in
+    let c = side-in (g .columns) (h .1) in
     record { some-rows = r .0; few-rows = r .1; some-columns = c .0; few-columns = c .1 }
 
 -- a call with a list answers the clicks of its round, unless it is refused

@@ -13,7 +13,8 @@ use Rattle.game.specs.Calls.{Answer, Refusal, firstGiven, frame, gives, refuses
 use Rattle.hex.specs.Hex.{isWrong}
 use Rattle.stored.specs.MoveLine.{RunOutcome, moveLine, moveLineChecks, readMovesCall, storedOf, unlessGiven, writeChecks, writeMovesCall}
 use Rattle.stored.specs.Answers.{KeepsRun}
-use Rattle.lines.proofs.Verdict.{columnsByte, either-false, rowsByte, side-fine, side-in, side-none}
+use Rattle.game.proofs.Checks.{or-no, side-in}
+use Rattle.lines.proofs.Verdict.{columnsByte, rowsByte, side-fine, side-none}
 use Rattle.stored.proofs.Words.{wordsIn}
 
 second-holds : (a b : Bool) → b ≡ true → (a || b) ≡ true
@@ -100,8 +101,8 @@ pub passed-moves : (line lent : List ℕ) → firstGiven (moveLineChecks line le
 unfolding storedOf
 passed-moves line lent e =
     let q = none-given (some-of isWrong line) (ltb (length line) 4 || not (eqb (length line % 8) 4)) (sideOut (rowsByte line) || sideOut (columnsByte line)) (ltb (length lent) (length (wordsIn line))) e in
-    let f = either-false (ltb (length line) 4) (not (eqb (length line % 8) 4)) (q .1) in
-    let s = either-false (sideOut (rowsByte line)) (sideOut (columnsByte line)) (q .2) in
+    let f = or-no (ltb (length line) 4) (not (eqb (length line % 8) 4)) (q .1) in
+    let s = or-no (sideOut (rowsByte line)) (sideOut (columnsByte line)) (q .2) in
     record {
       clean = q .0;
       enough = ltb-false (length line) 4 (f .0);
@@ -166,7 +167,7 @@ none-written false false false e = (refl, refl, refl)
 pub passed-write : (rows columns : ℕ) (list : List ℕ) (n : ℕ) (lent : List ℕ) → firstGiven (writeChecks rows columns list n lent) ≡ none → PassedWrite rows columns list n lent
 passed-write rows columns list n lent e =
     let q = none-written (sideOut rows || sideOut columns) (ltb (length list) n) (ltb (length lent) (4 + 8 * n)) e in
-    let s = either-false (sideOut rows) (sideOut columns) (q .0) in
+    let s = or-no (sideOut rows) (sideOut columns) (q .0) in
     record {
       some-rows = side-in rows (s .0) .0;
       few-rows = side-in rows (s .0) .1;
