@@ -6,7 +6,7 @@ use mathlib.Core.List.{List}
 use lib.IntN.{ℤ}
 use lib.ListN.{getD, length}
 use Rattle.game.specs.Grid.{Grid, columnOf}
-use Rattle.game.specs.Position.{Position, untouched, closedSafe}
+use Rattle.game.specs.Position.{Position, Tidy, untouched, closedSafe}
 use Rattle.game.specs.Moves.{Move, after}
 use Rattle.game.specs.Area.{listOf}
 use Rattle.game.specs.Rounds.{Choice, choice, chords, clicks, stepOf}
@@ -33,12 +33,13 @@ pub record StepKept (openedOnly : Bool) (rows columns : ℕ) (g : Grid) (s : Pos
   pub kept : Kept openedOnly w′ rows columns tops′
   pub column : r .from ≡ columnAfter g (choice openedOnly g s) from
 
--- a state that counts the safe cells still closed in a position that the area stands for
+-- a state that counts the safe cells still closed in a tidy position that the area stands for
 pub record Going (rows columns : ℕ) (w : List ℤ) (t : State) : Type 0 where
   pub grid : Grid
   pub position : Position
   pub old : List ℤ
   pub stands : Stands rows columns grid position old w
+  pub tidy : Tidy grid position
   pub counts : t .closed ≡ closedSafe grid position
 
 -- the area stands for an untouched grid of so many safe cells
