@@ -9,7 +9,7 @@ use lib.Dec.{eqb, ltb}
 use borrow.Author.Tests.{eqb-false, ltb-false}
 use Rattle.game.specs.Calls.{Check, Refusal, firstGiven, sideOut}
 use Rattle.game.specs.Lists.{Each}
-use Rattle.game.proofs.Rounds.{IfSome}
+use Rattle.game.proofs.Draws.{IfSome}
 
 -- neither of two tests
 pub or-no : (a b : Bool) → (a || b) ≡ false → (a ≡ false) × (b ≡ false)

@@ -6,6 +6,7 @@ use mathlib.Core.Option.{Option, none, some}
 use lib.IntN.{ℤ}
 use lib.ListN.{length, take}
 use lib.Dec.{eqb, ltb}
+use Rattle.game.specs.Draws.{Source, lent}
 use Rattle.game.specs.Grid.{Grid, size}
 use Rattle.game.specs.Openings.{threeBV}
 use Rattle.game.specs.Position.{untouched, closedSafe}
@@ -161,10 +162,14 @@ drawnRound g (some r) ws ms =
       list = listOf played ms;
     }
 
--- a single random round
+-- a random round that draws from a source
+abbrev pub roundBy : Source → Grid → List ℤ → List ℕ → ListOutcome
+roundBy source g ws ms = drawnRound g (randomRound g source 0) ws ms
+
+-- a single random round, by lent bytes
 unfoldable pub randomRoundCall : Grid → List ℤ → List ℕ → List ℕ → ListOutcome
 randomRoundCall g ws ms bytes =
-    unlessListed (firstGiven (gridChecks g ws ++ listCheck g ms ∷ [])) ws ms (drawnRound g (randomRound g bytes 0) ws ms)
+    unlessListed (firstGiven (gridChecks g ws ++ listCheck g ms ∷ [])) ws ms (roundBy (lent bytes) g ws ms)
 
 -- what a random search comes to: the least clicks and bytes used, with the last round left; or DRAWS
 abbrev pub drawnSearch : Grid → Option Searched → List ℤ → Outcome
@@ -172,10 +177,14 @@ drawnSearch g none ws = record { answer = refuses draws; work = clearedArea g ws
 drawnSearch g (some r) ws =
     record { answer = gives (r .least ∷ r .next ∷ []); work = areaOf g (after g (untouched g) (r .moves)) ws }
 
--- random search over so many rounds
+-- a random search of n rounds that draw from a source
+abbrev pub searchBy : Source → ℕ → Grid → List ℤ → Outcome
+searchBy source n g ws = drawnSearch g (randomSearch g source n) ws
+
+-- random search over n rounds, by lent bytes
 unfoldable pub randomSearchCall : Grid → List ℤ → List ℕ → ℕ → Outcome
 randomSearchCall g ws bytes n =
-    unless (firstGiven (gridChecks g ws ++ roundsCheck n ∷ [])) ws (drawnSearch g (randomSearch g bytes n) ws)
+    unless (firstGiven (gridChecks g ws ++ roundsCheck n ∷ [])) ws (searchBy (lent bytes) n g ws)
 
 -- what a replay of n moves comes to: moves made and safe cells still closed, or MOVE with the bad move's place
 abbrev pub replayed : Grid → ℕ → Replayed → List ℤ → Outcome
