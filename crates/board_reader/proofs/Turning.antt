@@ -11,14 +11,14 @@ use Rattle.game.specs.Calls.{Refusal, gives, refuses}
 use Rattle.game.proofs.Members.{concat-map-append}
 use Rattle.reader.specs.Prices.{answerLine}
 use Rattle.reader.specs.Blocks.{Desk, DeskOutcome, blockCall, cutFrom, deskAfter, endCall, lastLine, unlessDesk}
-use Rattle.reader.specs.Answers.{KeptDesk}
+use Rattle.reader.specs.Answers.{KeepsDesk}
 use Rattle.reader.specs.Sessions.{Fits, KeptOf, joined}
 use Rattle.reader.proofs.Desks.{Keeps}
 use Rattle.reader.proofs.Sessions.{block-comes, end-comes, kept-keeps, kept-on, kept-room, left, left-passed, passed-not-refused, said-first}
 use Rattle.board_reader.specs.Turns.{Sofar, Turns, cutOn, gotOf, keptAfter, nothingKept, turnOf}
 use Rattle.board_reader.specs.declared.Got.{Got}
 use Rattle.board_reader.specs.declared.Got.the-variants as Reads
-use Rattle.board_reader.specs.declared.Kept.{Kept}
+use Rattle.board_reader.specs.declared.PartLine.{PartLine}
 use Rattle.board_reader.specs.declared.Turn.{Turn}
 
 -- nothing is kept before anything has been read
@@ -26,10 +26,10 @@ pub nothing-sofar : Sofar nothingKept
 nothing-sofar = record { blocks = []; keeps = record { held-is = refl; count-is = refl } }
 
 -- what a call left: the answers to lines, at the start of what is to be printed, and what is kept
-pub record Left (lines : List (List ℕ)) (next : Kept) (held out : List ℕ) (count written : ℕ) : Type 0 where
+pub record Left (lines : List (List ℕ)) (next : PartLine) (held out : List ℕ) (count written : ℕ) : Type 0 where
   pub inside : written ≤ length out
   pub says : take written out ≡ concat-map answerLine lines
-  pub keeps : _≡_ {A = Kept} (record { bytes = held; count = count }) next
+  pub keeps : _≡_ {A = PartLine} (record { bytes = held; count = count }) next
 
 -- a desk with the answers to lines at the start of what is to be printed
 desk-left : (lines : List (List ℕ)) (held out held′ out′ : List ℕ) (n count written : ℕ) → let said = concat-map answerLine lines in
@@ -45,7 +45,7 @@ desk-left lines held out held′ out′ n count written e =
       keeps = ap (λ (d : Desk). record { bytes = d .held; count = d .count }) e;
     }
 
-module _ (kept : Kept) (s : Sofar kept) where
+module _ (kept : PartLine) (s : Sofar kept) where
   before-room : 517 ≤ length (nothingKept .bytes)
   before-room = omega (arith, length-replicate {A = ℕ} 517 0)
 
@@ -70,10 +70,10 @@ module _ (kept : Kept) (s : Sofar kept) where
     came : unlessDesk none (kept .bytes) out (deskAfter (cutOn kept block) (kept .bytes) out) ≡ blockCall block (kept .bytes) (kept .count) out
     came = block-comes (cutFrom [] (joined (s .blocks)) .goes-on) (kept .bytes) (kept .count) keeps room block out fits
 
-    pub block-passed : (held′ out′ : List ℕ) (f : Refusal) → KeptDesk (blockCall block (kept .bytes) (kept .count) out) (refuses f) held′ out′ → ⊥
+    pub block-passed : (held′ out′ : List ℕ) (f : Refusal) → KeepsDesk (blockCall block (kept .bytes) (kept .count) out) (refuses f) held′ out′ → ⊥
     block-passed held′ out′ f k = passed-not-refused (kept .bytes) out (deskAfter (cutOn kept block) (kept .bytes) out) (blockCall block (kept .bytes) (kept .count) out) came held′ out′ f k
 
-    pub block-left : (held′ out′ : List ℕ) (count written : ℕ) → KeptDesk (blockCall block (kept .bytes) (kept .count) out) (gives (count ∷ written ∷ [])) held′ out′
+    pub block-left : (held′ out′ : List ℕ) (count written : ℕ) → KeepsDesk (blockCall block (kept .bytes) (kept .count) out) (gives (count ∷ written ∷ [])) held′ out′
         → Left (cutOn kept block .ended) (keptAfter kept block) held′ out′ count written
     block-left held′ out′ count written k =
         let d = deskAfter (cutOn kept block) (kept .bytes) out in
@@ -86,16 +86,16 @@ module _ (kept : Kept) (s : Sofar kept) where
     end-came : unlessDesk none (kept .bytes) out ended ≡ endCall (kept .bytes) (kept .count) out
     end-came = end-comes (cutFrom [] (joined (s .blocks)) .goes-on) (kept .bytes) (kept .count) keeps room out fits
 
-    pub end-passed : (held′ out′ : List ℕ) (f : Refusal) → KeptDesk (endCall (kept .bytes) (kept .count) out) (refuses f) held′ out′ → ⊥
+    pub end-passed : (held′ out′ : List ℕ) (f : Refusal) → KeepsDesk (endCall (kept .bytes) (kept .count) out) (refuses f) held′ out′ → ⊥
     end-passed held′ out′ f k = passed-not-refused (kept .bytes) out ended (endCall (kept .bytes) (kept .count) out) end-came held′ out′ f k
 
-    pub end-left : (held′ out′ : List ℕ) (count written : ℕ) → KeptDesk (endCall (kept .bytes) (kept .count) out) (gives (count ∷ written ∷ [])) held′ out′
+    pub end-left : (held′ out′ : List ℕ) (count written : ℕ) → KeepsDesk (endCall (kept .bytes) (kept .count) out) (gives (count ∷ written ∷ [])) held′ out′
         → Left (lastLine (take (kept .count) (kept .bytes))) (record { bytes = ended .held; count = ended .count }) held′ out′ count written
     end-left held′ out′ count written k =
         desk-left (lastLine (take (kept .count) (kept .bytes))) (ended .held) out held′ out′ (ended .count) count written (left-passed (kept .bytes) out ended (endCall (kept .bytes) (kept .count) out) end-came held′ out′ count written k)
 
 -- after a turn too there are blocks such that what is kept is what they come to
-pub turn-sofar : (kept : Kept) → Sofar kept → (block : List ℕ) (turn : Turn) → Turns kept block turn → Sofar (turn .kept)
+pub turn-sofar : (kept : PartLine) → Sofar kept → (block : List ℕ) (turn : Turn) → Turns kept block turn → Sofar (turn .kept)
 turn-sofar kept s block turn t = subst (λ (x : Turn). Sofar (x .kept)) (sym (t .comes)) (go (gotOf (t .got) (t .error) (length block)))
   where
     go : (g : Got) → Sofar (turnOf kept g block (t .written) .kept)

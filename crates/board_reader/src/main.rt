@@ -8,7 +8,7 @@ ghost use mathlib.Core.Path.{_≡_};
 ghost use mathlib.Core.Bool.{false, true};
 ghost use lib.Dec.{ltb};
 ghost use lib.ListN.{length};
-ghost use Rattle.board_reader.specs.Turns.{Answers, Handed, Sofar, Turns, answersTo, failedBy, goesOn, gotOf, nothingKept, wentBy};
+ghost use Rattle.board_reader.specs.Turns.{AnsweredBlock, Handed, Sofar, Turns, answersTo, failedBy, goesOn, gotOf, nothingKept, wentBy};
 
 // What a read came to: so many bytes, the end of input, an interruption, or a failure.
 enum Got {
@@ -19,7 +19,7 @@ enum Got {
 }
 
 // What is kept of the line that goes on: its first bytes, and how many they are.
-struct Kept {
+struct PartLine {
     bytes: [u8; 517],
     count: usize,
 }
@@ -34,7 +34,7 @@ enum Went {
 
 // What a turn came to: what is kept then, and how it went.
 struct Turn {
-    kept: Kept,
+    kept: PartLine,
     went: Went,
 }
 
@@ -52,7 +52,7 @@ fn went_by(written: bool, ends: bool) -> Went
 }
 
 // Hands answers to the write, and tells how that went. What was kept before the block, the block, and whether the input ends say which answers they have to be.
-fn print(answers: &[u8], kept: Kept, block: &[u8], ends: bool) -> Went
+fn print(answers: &[u8], kept: PartLine, block: &[u8], ends: bool) -> Went
     requires { ⌜ now answers ≡ answersTo kept (now block) «ends» ⌝ }
     ensures { λ r. ⌜ Handed «ends» r ⌝ }
 {
@@ -60,10 +60,10 @@ fn print(answers: &[u8], kept: Kept, block: &[u8], ends: bool) -> Went
 }
 
 // Answers the lines that end in a block, read on from what is kept, and prints the answers.
-fn answer_some(block: &[u8], kept: Kept, out: &mut [u8]) -> Turn
+fn answer_some(block: &[u8], kept: PartLine, out: &mut [u8]) -> Turn
     requires { ⌜ Sofar kept ⌝ }
     requires { ⌜ 15 * length (now block) ≤ length (now out) ⌝ }
-    ensures { λ r. ⌜ Answers kept (now (block .entry)) r ⌝ }
+    ensures { λ r. ⌜ AnsweredBlock kept (now (block .entry)) r ⌝ }
 {
     let mut bytes = kept.bytes;
     let answered = reader::block::answer_block(block, &mut bytes, kept.count, out);
@@ -75,7 +75,7 @@ fn answer_some(block: &[u8], kept: Kept, out: &mut [u8]) -> Turn
         Answered::Kept(count, written) => {
             let went = print(&out[..written], kept, block, false);
             Turn {
-                kept: Kept { bytes, count },
+                kept: PartLine { bytes, count },
                 went,
             }
         }
@@ -107,7 +107,7 @@ fn taken(got: isize, error: i32, block: &[u8]) -> Got
 }
 
 // Reads once, and answers what came at once.
-fn read_some(block: &mut [u8], kept: Kept, out: &mut [u8]) -> Turn
+fn read_some(block: &mut [u8], kept: PartLine, out: &mut [u8]) -> Turn
     requires { ⌜ Sofar kept ⌝ }
     requires { ⌜ 15 * length (now block) ≤ length (now out) ⌝ }
     ensures { λ r. ⌜ Turns kept (now (block .exit)) r ⌝ }
@@ -133,7 +133,7 @@ fn read_some(block: &mut [u8], kept: Kept, out: &mut [u8]) -> Turn
 }
 
 // Prints the answer to a line without its line feed, if there is one.
-fn print_last(kept: Kept, out: &mut [u8]) -> Went
+fn print_last(kept: PartLine, out: &mut [u8]) -> Went
     requires { ⌜ Sofar kept ⌝ }
     requires { ⌜ 15 ≤ length (now out) ⌝ }
     ensures { λ r. ⌜ Handed true r ⌝ }
@@ -147,10 +147,10 @@ fn print_last(kept: Kept, out: &mut [u8]) -> Went
 }
 
 // What is kept before anything has been read.
-fn nothing_kept() -> Kept
+fn nothing_kept() -> PartLine
     ensures { λ r. ⌜ r ≡ nothingKept ⌝ }
 {
-    Kept {
+    PartLine {
         bytes: [0; 517],
         count: 0,
     }

@@ -6,7 +6,7 @@ ghost use Prim.Native.Nat.{_<_, _^_};
 ghost use lib.ListN.{drop};
 ghost use Rattle.game.specs.Calls.{randomRoundCall, randomSearchCall};
 ghost use Rattle.area.specs.Numbers.{gridOf};
-ghost use Rattle.zini.specs.Answers.{Kept, KeptList, rolledAnswer};
+ghost use Rattle.zini.specs.Answers.{Keeps, KeepsList, rolledAnswer};
 ghost use Rattle.by_reader.specs.Stands.{Starts, standsAt, readOn};
 
 // Where in the bytes a place is; a place past the end is the end.
@@ -29,10 +29,10 @@ pub fn round_from(
     bytes: &[u8],
     place: usize,
 ) -> Rolled
-    ensures { λ r. ⌜ KeptList (randomRoundCall (gridOf rows columns (now (grid .entry))) (now (work .entry)) (now (list .entry)) (drop place (now (bytes .entry)))) (rolledAnswer r) (now (work .exit)) (now (list .exit)) × (standsAt r place < 2 ^ 64) ⌝ }
+    ensures { λ r. ⌜ KeepsList (randomRoundCall (gridOf rows columns (now (grid .entry))) (now (work .entry)) (now (list .entry)) (drop place (now (bytes .entry)))) (rolledAnswer r) (now (work .exit)) (now (list .exit)) × (standsAt r place < 2 ^ 64) ⌝ }
 {
     let start = start_at(place, bytes.len());
-    zini::rolls::random_round(rows, columns, grid, work, list, &bytes[start..])
+    zini::random_calls::random_round(rows, columns, grid, work, list, &bytes[start..])
 }
 
 // Random search by the bytes from a place on.
@@ -45,10 +45,10 @@ pub fn search_from(
     place: usize,
     rounds: usize,
 ) -> Rolled
-    ensures { λ r. ⌜ Kept (randomSearchCall (gridOf rows columns (now (grid .entry))) (now (work .entry)) (drop place (now (bytes .entry))) rounds) (rolledAnswer r) (now (work .exit)) × (standsAt r place < 2 ^ 64) ⌝ }
+    ensures { λ r. ⌜ Keeps (randomSearchCall (gridOf rows columns (now (grid .entry))) (now (work .entry)) (drop place (now (bytes .entry))) rounds) (rolledAnswer r) (now (work .exit)) × (standsAt r place < 2 ^ 64) ⌝ }
 {
     let start = start_at(place, bytes.len());
-    zini::rolls::random_search(rows, columns, grid, work, &bytes[start..], rounds)
+    zini::random_calls::random_search(rows, columns, grid, work, &bytes[start..], rounds)
 }
 
 // Where a reader stands after a random call: on by the bytes used, or where it was after a refusal.
@@ -71,7 +71,7 @@ pub fn random_round<'g, 'w, 'l, 's, 'a>(
     list: &'l mut [u32],
     reader: &'s mut DrawReader<'a>,
 ) -> Rolled
-    ensures { λ r. ⌜ KeptList (randomRoundCall (gridOf rows columns (now (grid .entry))) (now (work .entry)) (now (list .entry)) (drop (now (reader .entry) .place) (now (now (reader .entry) .bytes)))) (rolledAnswer r) (now (work .exit)) (now (list .exit)) × (now (reader .exit) ≡ readOn (now (reader .entry)) r) ⌝ }
+    ensures { λ r. ⌜ KeepsList (randomRoundCall (gridOf rows columns (now (grid .entry))) (now (work .entry)) (now (list .entry)) (drop (now (reader .entry) .place) (now (now (reader .entry) .bytes)))) (rolledAnswer r) (now (work .exit)) (now (list .exit)) × (now (reader .exit) ≡ readOn (now (reader .entry)) r) ⌝ }
 {
     let rolled = round_from(rows, columns, grid, work, list, reader.bytes, reader.place);
     reader.place = place_after(rolled, reader.place);
@@ -87,7 +87,7 @@ pub fn random_search<'g, 'w, 's, 'a>(
     reader: &'s mut DrawReader<'a>,
     rounds: usize,
 ) -> Rolled
-    ensures { λ r. ⌜ Kept (randomSearchCall (gridOf rows columns (now (grid .entry))) (now (work .entry)) (drop (now (reader .entry) .place) (now (now (reader .entry) .bytes))) rounds) (rolledAnswer r) (now (work .exit)) × (now (reader .exit) ≡ readOn (now (reader .entry)) r) ⌝ }
+    ensures { λ r. ⌜ Keeps (randomSearchCall (gridOf rows columns (now (grid .entry))) (now (work .entry)) (drop (now (reader .entry) .place) (now (now (reader .entry) .bytes))) rounds) (rolledAnswer r) (now (work .exit)) × (now (reader .exit) ≡ readOn (now (reader .entry)) r) ⌝ }
 {
     let rolled = search_from(
         rows,

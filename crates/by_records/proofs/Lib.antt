@@ -1,6 +1,6 @@
--- The check of a run, what a call over a run leaves, what stands in it, replay over records and over words, and the walk of the two calls without draws.
-pub mod Room
+-- What a call over a run leaves, what stands in it, replay over records and over words, and the walk of the two calls without draws.
+pub mod Keeping
 pub mod Runs
-pub mod Once
+pub mod OneAnswer
 pub mod Replays
 mod Walk

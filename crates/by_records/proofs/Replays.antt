@@ -10,21 +10,22 @@ use lib.IntN.{ℤ}
 use lib.Dec.{T, eqb, eqb→eq, leb, ltb, le→leb, lt→ltb}
 use lib.ListN.{drop, length, length-map, length-take, take}
 use borrow.Author.Tests.{le-ltb}
-use Rattle.game.specs.Calls.{Answer, Outcome, Refusal, firstGiven, gridChecks, replayCall, replayed, trace, unless}
+use Rattle.game.specs.Calls.{Answer, Outcome, Refusal, aboveCheck, firstGiven, gridChecks, replayCall, replayed, trace, unless}
 use Rattle.game.specs.Grid.{Grid, size}
 use Rattle.game.specs.Moves.{Move, Replayed, chord, flag, left, legalRead, playRead, readMove, replayFrom, stopped}
 use Rattle.game.specs.Position.{Position, untouched}
 use Rattle.game.proofs.Tidy.{legal-inside}
 use Rattle.game.proofs.Truth.{and-both, no→false}
 use Rattle.area.specs.Stages.{Shape}
-use Rattle.checks.proofs.More.{all-passed, enough, reaches}
-use Rattle.zini.specs.Answers.{Kept}
+use Rattle.checks.proofs.More.{enough, reaches}
+use Rattle.checks.proofs.Verdict.{all-passed}
+use Rattle.zini.specs.Answers.{Keeps, KeepsList}
 use Rattle.records.specs.Records.{moveWord, over, placed, recordOf}
 use Rattle.records.specs.declared.MoveRecord.{MoveRecord}
 use Rattle.records.proofs.Copies.{length-over, over-begun}
 use Rattle.records.proofs.Words.{word-record}
-use Rattle.by_records.specs.Promises.{KeptReplay, aboveCheck, copiedIf, replayWithin, replayedList}
-use Rattle.by_records.proofs.Runs.{first-of}
+use Rattle.by_records.specs.Promises.{copiedIf, copiedWords, replayRecordsCall, replayWithin}
+use Rattle.zini.proofs.Written.{first-words}
 
 take-map : {A B : Type 0} (f : A → B) (n : ℕ) (xs : List A) → take n (map f xs) ≡ map f (take n xs)
 take-map f zero xs = refl
@@ -139,14 +140,14 @@ module _ (g : Grid) (ws : List ℤ) (n : ℕ) where
     begins : n ≤ length run → take n (over words ms) ≡ words
     begins h =
         let long = length-map (take n run) (moveWord (g .rows)) ∙ length-take n run in
-        ap (take n) (over-begun words ms (omega (arith, long))) ∙ first-of words (drop (length words) ms) n (omega (arith, long))
+        ap (take n) (over-begun words ms (omega (arith, long))) ∙ first-words words (drop (length words) ms) n (omega (arith, long))
 
     -- nothing is refused: the words stand in the list, and are played
     module _ (fine : checked (length run) ≡ none) where
       at-most : n ≤ length run
       at-most = all-passed g ws (length run) n trace fine .1
 
-      list-is : replayedList g ws ms run n ≡ over words ms
+      list-is : copiedWords g ws ms run n ≡ over words ms
       list-is = ap (λ (o : Option Refusal). over (map (moveWord (g .rows)) (take (copiedIf o n) run)) ms) (sym (enough (gridChecks g ws ++ reaches (length run) n trace) (length ms) n trace (sym fine) room))
 
       same-verdict : checked (length ms) ≡ checked (length run)
@@ -159,22 +160,22 @@ module _ (g : Grid) (ws : List ℤ) (n : ℕ) where
           ∙ (ap (λ (o : Option Refusal). unless o ws (played (take n (over words ms)))) (same-verdict ∙ fine) ∙ ap played (begins at-most))
 
     -- refused as the flat replay of the run's words, or played as they are
-    comes-to : replayWithin g ws (length run) n (replayCall g ws (replayedList g ws ms run n) n) ≡ replayCall g ws (map (moveWord (g .rows)) run) n
+    comes-to : replayWithin g ws (length run) n (replayCall g ws (copiedWords g ws ms run n) n) ≡ replayCall g ws (map (moveWord (g .rows)) run) n
     unfolding replayCall
     comes-to = go (checked (length run)) refl ∙ sym (ap (λ (k : ℕ). unless (checked k) ws (played (take n (map (moveWord (g .rows)) run)))) (length-map run (moveWord (g .rows))))
       where
-        go : (o : Option Refusal) → checked (length run) ≡ o → unless o ws (replayCall g ws (replayedList g ws ms run n) n) ≡ unless o ws (played (take n (map (moveWord (g .rows)) run)))
+        go : (o : Option Refusal) → checked (length run) ≡ o → unless o ws (replayCall g ws (copiedWords g ws ms run n) n) ≡ unless o ws (played (take n (map (moveWord (g .rows)) run)))
         go (some f) e = refl
         go none e = ap (λ (l : List ℕ). replayCall g ws l n) (list-is e) ∙ (words-played e ∙ ap played (sym (take-map (moveWord (g .rows)) n run)))
 
 -- a run replays as the list of its words, if the lent list has room for the count
 pub words-replay : (g : Grid) (ws : List ℤ) (ms : List ℕ) (run : List MoveRecord) (n : ℕ) (answer : Answer) (work : List ℤ) (list : List ℕ)
-    → n ≤ length ms → KeptReplay g ws ms run n answer work list → Kept (replayCall g ws (map (moveWord (g .rows)) run) n) answer work
+    → n ≤ length ms → KeepsList (replayRecordsCall g ws ms run n) answer work list → Keeps (replayCall g ws (map (moveWord (g .rows)) run) n) answer work
 words-replay g ws ms run n answer work list h k =
-    subst (λ (o : Outcome). Kept o answer work) (ap (λ (l : List ℕ). replayWithin g ws (length run) n (replayCall g ws l n)) (k .words) ∙ comes-to g ws n ms run h) (k .flat)
+    subst (λ (o : Outcome). Keeps o answer work) (comes-to g ws n ms run h) (record { answers = k .answers; leaves = k .leaves })
 
 -- so the records of a list, replayed as a run, come to what the flat replay of the list comes to
 pub list-replay : (g : Grid) (ws : List ℤ) (ms moves : List ℕ) (n : ℕ) (answer : Answer) (work : List ℤ) (list : List ℕ)
-    → n ≤ length ms → KeptReplay g ws ms (map (recordOf (g .rows)) moves) n answer work list → Kept (replayCall g ws moves n) answer work
+    → n ≤ length ms → KeepsList (replayRecordsCall g ws ms (map (recordOf (g .rows)) moves) n) answer work list → Keeps (replayCall g ws moves n) answer work
 list-replay g ws ms moves n answer work list h k =
-    subst (λ (o : Outcome). Kept o answer work) (records-replay g ws n moves) (words-replay g ws ms (map (recordOf (g .rows)) moves) n answer work list h k)
+    subst (λ (o : Outcome). Keeps o answer work) (records-replay g ws n moves) (words-replay g ws ms (map (recordOf (g .rows)) moves) n answer work list h k)

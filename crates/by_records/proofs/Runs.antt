@@ -4,22 +4,18 @@ use native.Mathlib.Nat.{zero-div, zero-mod}
 use mathlib.Core.Path.{_≡_, refl, ap, sym, _∙_}
 use mathlib.Core.List.{List, _∷_, _++_, map}
 use lib.ListN.{drop, length, length-map, length-replicate, replicate, take}
-use lib.Seq.{take-append-seam}
 use Rattle.game.specs.Area.{clearedList, listOf}
 use Rattle.game.specs.Grid.{Grid, size}
 use Rattle.game.specs.Moves.{Move, word}
+use Rattle.zini.proofs.Written.{first-words}
 use Rattle.records.specs.Records.{noMove, over, recordOf}
 use Rattle.records.specs.declared.MoveRecord.{MoveRecord}
-
--- the first words of a list that was begun with others
-pub first-of : (xs ys : List ℕ) (n : ℕ) → n ≡ length xs → take n (xs ++ ys) ≡ xs
-first-of xs ys n e = ap (λ (k : ℕ). take k (xs ++ ys)) e ∙ take-append-seam xs ys
 
 -- after a round of so many clicks: its moves, each as a record
 pub run-of-moves : (rows : ℕ) (played : List Move) (ms : List ℕ) (run : List MoveRecord) → over (map (recordOf rows) (take (length played) (listOf played ms))) run ≡ over (map (recordOf rows) (map word played)) run
 unfolding listOf
 run-of-moves rows played ms run =
-    ap (λ (l : List ℕ). over (map (recordOf rows) l) run) (first-of (map word played) (drop (length (map word played)) ms) (length played) (sym (length-map played word)))
+    ap (λ (l : List ℕ). over (map (recordOf rows) l) run) (first-words (map word played) (drop (length (map word played)) ms) (length played) (sym (length-map played word)))
 
 -- the word 0 is no move
 zero-word : (rows : ℕ) → recordOf rows 0 ≡ noMove
@@ -33,5 +29,5 @@ zero-words rows (suc n) = ap (λ (m : MoveRecord). m ∷ map (recordOf rows) (re
 pub run-of-zeros : (g : Grid) (ms : List ℕ) (run : List MoveRecord) → over (map (recordOf (g .rows)) (take (size g) (clearedList g ms))) run ≡ over (replicate (size g) noMove) run
 unfolding clearedList
 run-of-zeros g ms run =
-    ap (λ (l : List ℕ). over (map (recordOf (g .rows)) l) run) (first-of (replicate (size g) 0) (drop (length (replicate (size g) 0)) ms) (size g) (sym (length-replicate (size g) 0)))
+    ap (λ (l : List ℕ). over (map (recordOf (g .rows)) l) run) (first-words (replicate (size g) 0) (drop (length (replicate (size g) 0)) ms) (size g) (sym (length-replicate (size g) 0)))
     ∙ ap (λ (l : List MoveRecord). over l run) (zero-words (g .rows) (size g))

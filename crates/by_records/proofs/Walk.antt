@@ -47,7 +47,8 @@ use denote.Triple.Table.{entered, cited}
 use denote.Triple.Walked.{says, Stays, stay-slice, gave-slice, stay-none, stay-none-slice, walkOf, Walks, ends-at, walked, goes-slice, goes-gave-slice, goes-none, goes-none-slice, walk-meets}
 use denote.Exit.{yes}
 use Rattle.area.specs.Numbers.{gridOf}
-use Rattle.zini.specs.Answers.{KeptList, pricedAnswer}
+use Rattle.game.specs.Calls.{priceCall}
+use Rattle.zini.specs.Answers.{KeepsList, pricedAnswer}
 use Rattle.zini.specs.declared.Priced.{Priced}
 use Rattle.zini.proofs.Priced as S
 use Rattle.zini.proofs.Priced.Laws as S′
@@ -59,9 +60,9 @@ use Rattle.records.proofs.records_of as rec
 use Rattle.records.proofs.records_of.Symbol as rec-def
 use Rattle.records.proofs.records_of.Symbol.{name as #records·records-of}
 use Rattle.records.proofs.records_of.Met as rec-thm
-use Rattle.by_records.specs.Promises.{KeptRun, priceCall, within, writtenBy}
+use Rattle.by_records.specs.Promises.{KeepsRecords, priceRecordsCall, within, writtenBy}
 use Rattle.records.proofs.Again.{LentAgain, lends-again, comes-back}
-use Rattle.by_records.proofs.Room.{kept-run}
+use Rattle.by_records.proofs.Keeping.{keeps-records}
 use Rattle.by_records.proofs.price_within as fl
 use Rattle.by_records.proofs.price_within.Symbol as fl-def
 use Rattle.by_records.proofs.price_within.Symbol.{name as #by-records·price-within}
@@ -130,7 +131,7 @@ clauses 𝓤 b κs a =
     record {
       ghost = Unit {0};
       requires = λ _. emp 𝓤;
-      ensures = λ _ r e. fact 𝓤 (KeptRun g (within g ws ms (length rs) (priceCall b g ws ms)) rs (pricedAnswer r) (now (e .1 .1 .1 .0)) (now (e .1 .1 .1 .1 .0)) (now (e .1 .1 .1 .1 .1 .0)));
+      ensures = λ _ r e. fact 𝓤 (KeepsRecords (priceRecordsCall b g ws ms rs) (pricedAnswer r) (now (e .1 .1 .1 .0)) (now (e .1 .1 .1 .1 .0)) (now (e .1 .1 .1 .1 .1 .0)));
     }
 
 module _ {M : Type 1} (𝓤 : URA M) (H : Heap 𝓤) (A : Atoms 𝓤) (at-mem : Memory → SProp 𝓤) (run : Routine → Fun 𝓤) where
@@ -175,7 +176,7 @@ module _ {M : Type 1} (𝓤 : URA M) (H : Heap 𝓤) (A : Atoms 𝓤) (W : Given
 
   -- what the flat call keeps
   abbrev Promised : Priced → List ℤ → List ℕ → Type 0
-  Promised r w l = KeptList (within (gridOf rows columns (now grid)) (now work) ms (length (now records)) (priceCall openings-first (gridOf rows columns (now grid)) (now work) ms)) (pricedAnswer r) w l
+  Promised r w l = KeepsList (within (gridOf rows columns (now grid)) (now work) ms (length (now records)) (priceCall openings-first (gridOf rows columns (now grid)) (now work) ms)) (pricedAnswer r) w l
 
   abbrev OwnGrid : Fml
   OwnGrid = ShrSlice (named 0) κg i32 .own grid (vg ∷ [])
@@ -245,7 +246,7 @@ module _ {M : Type 1} (𝓤 : URA M) (H : Heap 𝓤) (A : Atoms 𝓤) (W : Given
   exits r u w l rs n len len₂ len₃ e e₂ e₃ =
       qed W (‵ (fobs γ (codedHoleys u32 .code (heres u32 l))) ∷ ‵ (fbor κl (Held u32 (length l) b o γ)) ∷ ‵ (flft κl ql) ∷ ‵ (flft κw qw) ∷ ‵ (flft κg qg) ∷ ‵ (flft κr qr) ∷ ‵ OwnGrid ∷ ‵ (finally i32 (work .name) w) ∷ ‵ (finally R (records .name) rs) ∷ ‵ (S.the-row .own r (u ∷ [])) ∷ []) ∵
       suffices ! _ (ends-at 𝓤 H A f.ended stayed (clauses 𝓤 openings-first) W (((κg, (κw, (κl, (κr, tt)))), (qg, (qw, (ql, (qr, tt)))), tt, a, at), tt) u r (tt, (tt, (tt, (w, (l, (rs, tt)))))) (tt, (tt, (tt, (len, (len₂, (len₃, tt))))))) $
-      says ! (kept-run (gridOf rows columns (now grid)) (within (gridOf rows columns (now grid)) (now work) ms (length (now records)) (priceCall openings-first (gridOf rows columns (now grid)) (now work) ms)) (now records) (pricedAnswer r) w l rs n e e₂ e₃) $
+      says ! (keeps-records (gridOf rows columns (now grid)) (within (gridOf rows columns (now grid)) (now work) ms (length (now records)) (priceCall openings-first (gridOf rows columns (now grid)) (now work) ms)) (now records) (pricedAnswer r) w l rs n e e₂ e₃) $
       nothing ! $ move ! (6 ∷ 0 ∷ []) $ join ! $ move ! (3 ∷ 0 ∷ []) $ join ! $ move ! (3 ∷ 0 ∷ []) $ join ! $ move ! (3 ∷ 0 ∷ []) $ join ! $ frame ! $
       -- [obs; the list's borrow; the grid; the work area's last value; the run's; the answer]
       fjoin ! $ pureI ! (at-slice u32 (x γ l) (v ∷ [])) (tt, (tt, tt)) (ap (λ (j : ℕ). sliceVal (b, o) j ∷ []) (sym len₂), subst (Room u32) (sym len₂) room) $ fjoin ! $

@@ -1,30 +1,21 @@
 -- The calls over runs of move records: the promises of the flat calls, with TRACE by the run's length, and what the run holds. Assumes nothing.
 use Prim.Native.Nat.{ℕ}
 use mathlib.Core.Path.{_≡_}
-use mathlib.Core.Bool.{Bool, cond, false, true}
+use mathlib.Core.Bool.{Bool, cond}
 use mathlib.Core.List.{List, [], _∷_, _++_, map}
 use mathlib.Core.Option.{Option, none, some}
 use lib.IntN.{ℤ}
-use lib.Dec.{eqb, ltb}
+use lib.Dec.{eqb}
 use lib.ListN.{getD, length, take}
-use Rattle.game.specs.Grid.{Grid, size}
-use Rattle.game.specs.Calls.{Answer, Check, ListOutcome, Outcome, Refusal, draws, firstGiven, greedyCall, gridChecks, numberOf, openingsFirstCall, replayCall, trace, unless, unlessListed}
-use Rattle.zini.specs.Answers.{Kept, KeptList}
+use Rattle.game.specs.Grid.{Grid}
+use Rattle.game.specs.Calls.{Answer, Check, ListOutcome, Outcome, Refusal, aboveCheck, draws, firstGiven, gridChecks, numberOf, priceCall, randomRoundCall, replayCall, roomCheck, unless, unlessListed}
+use Rattle.zini.specs.Answers.{KeepsList}
 use Rattle.records.specs.Records.{moveWord, over, recordOf}
 use Rattle.records.specs.declared.MoveRecord.{MoveRecord}
-
--- TRACE: a run of so many records is below cells long
-abbrev pub roomCheck : Grid → ℕ → Check
-roomCheck g room = record { given = ltb room (size g); refusal = trace }
 
 -- a flat call after the checks of the grid, the work area and the run
 abbrev pub within : Grid → List ℤ → List ℕ → ℕ → ListOutcome → ListOutcome
 within g ws ms room o = unlessListed (firstGiven (gridChecks g ws ++ roomCheck g room ∷ [])) ws ms o
-
--- the greedy call, or the openings-first call
-abbrev pub priceCall : Bool → Grid → List ℤ → List ℕ → ListOutcome
-priceCall false = greedyCall
-priceCall true = openingsFirstCall
 
 -- how many records are written: one for each click; one for each cell after DRAWS; none after another refusal
 abbrev pub writtenBy : ℕ → Answer → ℕ
@@ -34,16 +25,29 @@ writtenBy cells a = cond (eqb (a .number) 0) (getD (a .values) 0 0) (cond (eqb (
 abbrev pub runAfter : Grid → ListOutcome → List MoveRecord → List MoveRecord
 runAfter g o run = over (map (recordOf (g .rows)) (take (writtenBy (length (g .values)) (o .answer)) (o .list))) run
 
+-- what a call over a run comes to: the flat call's outcome, and the run at exit
+pub record RecordsOutcome : Type 0 where
+  pub flat : ListOutcome
+  pub run : List MoveRecord
+
+-- a flat call whose words are copied into a run
+abbrev pub inRecords : Grid → ListOutcome → List MoveRecord → RecordsOutcome
+inRecords g o run = record { flat = o; run = runAfter g o run }
+
+-- greedy, or openings-first, over a run
+abbrev pub priceRecordsCall : Bool → Grid → List ℤ → List ℕ → List MoveRecord → RecordsOutcome
+priceRecordsCall openingsFirst g ws ms run = inRecords g (within g ws ms (length run) (priceCall openingsFirst g ws ms)) run
+
+-- a single random round over a run
+abbrev pub randomRecordsCall : Grid → List ℤ → List ℕ → List MoveRecord → List ℕ → RecordsOutcome
+randomRecordsCall g ws ms run bytes = inRecords g (within g ws ms (length run) (randomRoundCall g ws ms bytes)) run
+
 -- a call over a run keeps its promise: that of the flat call, and the run's
-pub record KeptRun (g : Grid) (promise : ListOutcome) (before : List MoveRecord) (answer : Answer) (work : List ℤ) (list : List ℕ) (run : List MoveRecord) : Type 0 where
-  pub flat : KeptList promise answer work list
-  pub in-records : run ≡ runAfter g promise before
+pub record KeepsRecords (promise : RecordsOutcome) (answer : Answer) (work : List ℤ) (list : List ℕ) (run : List MoveRecord) : Type 0 where
+  pub flat : KeepsList (promise .flat) answer work list
+  pub in-records : run ≡ promise .run
 
 -- ---- replay
-
--- TRACE in replay: the move count is above so many
-abbrev pub aboveCheck : ℕ → ℕ → Check
-aboveCheck room n = record { given = ltb room n; refusal = trace }
 
 -- how many records are copied: the count, if nothing is refused
 abbrev pub copiedIf : Option Refusal → ℕ → ℕ
@@ -55,14 +59,18 @@ abbrev pub replayChecks : Grid → List ℤ → ℕ → ℕ → ℕ → List Che
 replayChecks g ws room words n = gridChecks g ws ++ aboveCheck room n ∷ aboveCheck words n ∷ []
 
 -- the list of a replay: the records' words, if nothing is refused, and the rest unchanged
-abbrev pub replayedList : Grid → List ℤ → List ℕ → List MoveRecord → ℕ → List ℕ
-replayedList g ws ms run n = over (map (moveWord (g .rows)) (take (copiedIf (firstGiven (replayChecks g ws (length run) (length ms) n)) n) run)) ms
+abbrev pub copiedWords : Grid → List ℤ → List ℕ → List MoveRecord → ℕ → List ℕ
+copiedWords g ws ms run n = over (map (moveWord (g .rows)) (take (copiedIf (firstGiven (replayChecks g ws (length run) (length ms) n)) n) run)) ms
 
 -- a flat replay after the checks of the grid, the work area and the run
 abbrev pub replayWithin : Grid → List ℤ → ℕ → ℕ → Outcome → Outcome
 replayWithin g ws room n o = unless (firstGiven (gridChecks g ws ++ aboveCheck room n ∷ [])) ws o
 
--- a replay over a run keeps its promise: that of the flat replay of its words, and the list's
-pub record KeptReplay (g : Grid) (ws : List ℤ) (ms : List ℕ) (run : List MoveRecord) (n : ℕ) (answer : Answer) (work : List ℤ) (list : List ℕ) : Type 0 where
-  pub words : list ≡ replayedList g ws ms run n
-  pub flat : Kept (replayWithin g ws (length run) n (replayCall g ws list n)) answer work
+-- a call without a list, and the list that it was lent
+abbrev pub withList : Outcome → List ℕ → ListOutcome
+withList o ms = record { answer = o .answer; work = o .work; list = ms }
+
+-- a replay of the first n records of a run: that of their words, which the list then holds
+abbrev pub replayRecordsCall : Grid → List ℤ → List ℕ → List MoveRecord → ℕ → ListOutcome
+replayRecordsCall g ws ms run n =
+    withList (replayWithin g ws (length run) n (replayCall g ws (copiedWords g ws ms run n) n)) (copiedWords g ws ms run n)

@@ -1,27 +1,20 @@
 // The rounds over runs of move records: the flat list that is lent beside the run is written by the covered call, and its words become the run's records.
-use checks::Checked;
-use checks::Refusal;
 use records::MoveRecord;
+use refusals::Checked;
+use refusals::Refusal;
 use zini::Priced;
 use zini::Replayed;
 use zini::Rolled;
 ghost use mathlib.Core.Path.{_≡_};
-ghost use mathlib.Core.List.{List, [], _∷_, _++_};
+ghost use mathlib.Core.Bool.{false, true};
+ghost use mathlib.Core.List.{List};
 ghost use lib.IntN.{ℤ};
 ghost use lib.ListN.{length};
-ghost use Rattle.game.specs.Calls.{firstGiven, greedyCall, gridChecks, openingsFirstCall, randomRoundCall, replayCall};
+ghost use Rattle.game.specs.Calls.{firstGiven, priceCall, randomRoundCall, refuses, replayCall};
 ghost use Rattle.area.specs.Numbers.{gridOf};
-ghost use Rattle.checks.specs.Refusals.{refusalOf};
-ghost use Rattle.zini.specs.Answers.{Kept, KeptList, pricedAnswer, replayedAnswer, rolledAnswer};
-ghost use Rattle.zini.specs.declared.Priced.the-variants as Prices;
-ghost use Rattle.by_records.specs.Promises.{KeptReplay, KeptRun, copiedIf, priceCall, replayChecks, replayWithin, roomCheck, within, writtenBy};
-
-// SHAPE, BOARD, WORK, and TRACE for a run of so many records.
-fn check_room(rows: usize, columns: usize, grid: &[i32], work: &[i32], room: usize) -> Checked
-    ensures { λ r. ⌜ refusalOf r ≡ firstGiven (gridChecks (gridOf rows columns (now (grid .entry))) (now (work .entry)) ++ roomCheck (gridOf rows columns (now (grid .entry))) room ∷ []) ⌝ }
-{
-    checks::check_more(rows, columns, grid, work, room, grid.len(), Refusal::Trace)
-}
+ghost use Rattle.refusals.specs.Names.{named};
+ghost use Rattle.zini.specs.Answers.{Keeps, KeepsList, pricedAnswer, replayedAnswer, rolledAnswer};
+ghost use Rattle.by_records.specs.Promises.{KeepsRecords, copiedIf, priceRecordsCall, randomRecordsCall, replayChecks, replayRecordsCall, replayWithin, within, writtenBy};
 
 // Greedy or openings-first for a run of so many records.
 pub(crate) fn price_within(
@@ -33,18 +26,12 @@ pub(crate) fn price_within(
     room: usize,
     openings_first: bool,
 ) -> Priced
-    ensures { λ r. ⌜ KeptList (within (gridOf rows columns (now (grid .entry))) (now (work .entry)) (now (list .entry)) room (priceCall «openings_first» (gridOf rows columns (now (grid .entry))) (now (work .entry)) (now (list .entry)))) (pricedAnswer r) (now (work .exit)) (now (list .exit)) ⌝ }
+    ensures { λ r. ⌜ KeepsList (within (gridOf rows columns (now (grid .entry))) (now (work .entry)) (now (list .entry)) room (priceCall «openings_first» (gridOf rows columns (now (grid .entry))) (now (work .entry)) (now (list .entry)))) (pricedAnswer r) (now (work .exit)) (now (list .exit)) ⌝ }
 {
-    let checked = check_room(rows, columns, grid, work, room);
+    let checked = checks::check_room(rows, columns, grid, work, room);
     match checked {
         Checked::Refused(refusal) => Priced::Refused(refusal),
-        Checked::Fine => {
-            if openings_first {
-                zini::prices::openings_first(rows, columns, grid, work, list)
-            } else {
-                zini::prices::greedy(rows, columns, grid, work, list)
-            }
-        }
+        Checked::Fine => zini::prices::price(rows, columns, grid, work, list, openings_first),
     }
 }
 
@@ -58,26 +45,23 @@ pub(crate) fn random_within(
     draws: &[u8],
     room: usize,
 ) -> Rolled
-    ensures { λ r. ⌜ KeptList (within (gridOf rows columns (now (grid .entry))) (now (work .entry)) (now (list .entry)) room (randomRoundCall (gridOf rows columns (now (grid .entry))) (now (work .entry)) (now (list .entry)) (now (draws .entry)))) (rolledAnswer r) (now (work .exit)) (now (list .exit)) ⌝ }
+    ensures { λ r. ⌜ KeepsList (within (gridOf rows columns (now (grid .entry))) (now (work .entry)) (now (list .entry)) room (randomRoundCall (gridOf rows columns (now (grid .entry))) (now (work .entry)) (now (list .entry)) (now (draws .entry)))) (rolledAnswer r) (now (work .exit)) (now (list .exit)) ⌝ }
 {
-    let checked = check_room(rows, columns, grid, work, room);
+    let checked = checks::check_room(rows, columns, grid, work, room);
     match checked {
         Checked::Refused(refusal) => Rolled::Refused(refusal),
-        Checked::Fine => zini::rolls::random_round(rows, columns, grid, work, list, draws),
+        Checked::Fine => zini::random_calls::random_round(rows, columns, grid, work, list, draws),
     }
 }
 
 // How many records a refusal writes: one for each cell after DRAWS.
 fn written_on(refusal: Refusal, cells: usize) -> usize
-    ensures { λ r. ⌜ r ≡ writtenBy cells (pricedAnswer (Prices.Refused refusal)) ⌝ }
+    ensures { λ r. ⌜ r ≡ writtenBy cells (refuses (named refusal)) ⌝ }
 {
-    match refusal {
-        Refusal::Shape => 0,
-        Refusal::Board => 0,
-        Refusal::Work => 0,
-        Refusal::Trace => 0,
-        Refusal::Rounds => 0,
-        Refusal::Draws => cells,
+    if refusals::number_of(refusal) == refusals::number_of(Refusal::Draws) {
+        cells
+    } else {
+        0
     }
 }
 
@@ -110,7 +94,7 @@ pub fn greedy_records(
     list: &mut [u32],
     run: &mut [MoveRecord],
 ) -> Priced
-    ensures { λ r. ⌜ KeptRun (gridOf rows columns (now (grid .entry))) (within (gridOf rows columns (now (grid .entry))) (now (work .entry)) (now (list .entry)) (length (now (run .entry))) (greedyCall (gridOf rows columns (now (grid .entry))) (now (work .entry)) (now (list .entry)))) (now (run .entry)) (pricedAnswer r) (now (work .exit)) (now (list .exit)) (now (run .exit)) ⌝ }
+    ensures { λ r. ⌜ KeepsRecords (priceRecordsCall false (gridOf rows columns (now (grid .entry))) (now (work .entry)) (now (list .entry)) (now (run .entry))) (pricedAnswer r) (now (work .exit)) (now (list .exit)) (now (run .exit)) ⌝ }
 {
     let priced = price_within(rows, columns, grid, work, list, run.len(), false);
     let count = written_by(priced, grid.len());
@@ -127,7 +111,7 @@ pub fn openings_first_records(
     list: &mut [u32],
     run: &mut [MoveRecord],
 ) -> Priced
-    ensures { λ r. ⌜ KeptRun (gridOf rows columns (now (grid .entry))) (within (gridOf rows columns (now (grid .entry))) (now (work .entry)) (now (list .entry)) (length (now (run .entry))) (openingsFirstCall (gridOf rows columns (now (grid .entry))) (now (work .entry)) (now (list .entry)))) (now (run .entry)) (pricedAnswer r) (now (work .exit)) (now (list .exit)) (now (run .exit)) ⌝ }
+    ensures { λ r. ⌜ KeepsRecords (priceRecordsCall true (gridOf rows columns (now (grid .entry))) (now (work .entry)) (now (list .entry)) (now (run .entry))) (pricedAnswer r) (now (work .exit)) (now (list .exit)) (now (run .exit)) ⌝ }
 {
     let priced = price_within(rows, columns, grid, work, list, run.len(), true);
     let count = written_by(priced, grid.len());
@@ -145,7 +129,7 @@ pub fn random_round_records(
     run: &mut [MoveRecord],
     draws: &[u8],
 ) -> Rolled
-    ensures { λ r. ⌜ KeptRun (gridOf rows columns (now (grid .entry))) (within (gridOf rows columns (now (grid .entry))) (now (work .entry)) (now (list .entry)) (length (now (run .entry))) (randomRoundCall (gridOf rows columns (now (grid .entry))) (now (work .entry)) (now (list .entry)) (now (draws .entry)))) (now (run .entry)) (rolledAnswer r) (now (work .exit)) (now (list .exit)) (now (run .exit)) ⌝ }
+    ensures { λ r. ⌜ KeepsRecords (randomRecordsCall (gridOf rows columns (now (grid .entry))) (now (work .entry)) (now (list .entry)) (now (run .entry)) (now (draws .entry))) (rolledAnswer r) (now (work .exit)) (now (list .exit)) (now (run .exit)) ⌝ }
 {
     let rolled = random_within(rows, columns, grid, work, list, draws, run.len());
     let count = written_by_roll(rolled, grid.len());
@@ -190,7 +174,7 @@ pub(crate) fn replay_within(
     count: usize,
     room: usize,
 ) -> Replayed
-    ensures { λ r. ⌜ Kept (replayWithin (gridOf rows columns (now (grid .entry))) (now (work .entry)) room count (replayCall (gridOf rows columns (now (grid .entry))) (now (work .entry)) (now (list .entry)) count)) (replayedAnswer r) (now (work .exit)) ⌝ }
+    ensures { λ r. ⌜ Keeps (replayWithin (gridOf rows columns (now (grid .entry))) (now (work .entry)) room count (replayCall (gridOf rows columns (now (grid .entry))) (now (work .entry)) (now (list .entry)) count)) (replayedAnswer r) (now (work .exit)) ⌝ }
 {
     let checked = checks::check_more(rows, columns, grid, work, room, count, Refusal::Trace);
     match checked {
@@ -209,7 +193,7 @@ pub fn replay_records(
     run: &[MoveRecord],
     count: usize,
 ) -> Replayed
-    ensures { λ r. ⌜ KeptReplay (gridOf rows columns (now (grid .entry))) (now (work .entry)) (now (list .entry)) (now (run .entry)) count (replayedAnswer r) (now (work .exit)) (now (list .exit)) ⌝ }
+    ensures { λ r. ⌜ KeepsList (replayRecordsCall (gridOf rows columns (now (grid .entry))) (now (work .entry)) (now (list .entry)) (now (run .entry)) count) (replayedAnswer r) (now (work .exit)) (now (list .exit)) ⌝ }
 {
     let moves = copied(
         rows,

@@ -1,3 +1,4 @@
-pub mod Verdict
+-- One check after others, what the checks of every call say, and that they say one thing only.
 pub mod More
-pub mod Once
+pub mod Verdict
+pub mod OneAnswer

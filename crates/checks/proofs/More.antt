@@ -1,18 +1,15 @@
--- One check more after others: a value below its least. Assumes nothing.
+-- Some checks after others, and one check more: a value below its least. Assumes nothing.
 use Prim.Native.Nat.{ℕ, _<_, _≤_}
 use native.Mathlib.Omega.{arith}
 use native.Mathlib.Decide.{decLe, ℕ-discrete}
 use mathlib.Core.Path.{_≡_, ap, refl, sym, _∙_}
 use mathlib.Core.Bool.{Bool}
 use mathlib.Core.List.{List, [], _∷_, _++_}
-use mathlib.Core.Option.{Option, none, some}
+use mathlib.Core.Option.{Option, Option·some-ne-none, none, some}
 use lib.Dec.{eqb, ltb}
-use lib.IntN.{ℤ}
-use Rattle.game.specs.Grid.{Grid}
 use borrow.Author.Tests.{eq-eqb, le-ltb, lt-ltb, ne-eqb}
-use Rattle.game.specs.Calls.{Check, Refusal, firstGiven, gridChecks}
+use Rattle.game.specs.Calls.{Check, Refusal, firstGiven}
 use Rattle.game.proofs.Checks.{given-append, orElse}
-use Rattle.checks.proofs.Verdict.{Passed, none≢some, passed}
 
 -- the check that a value reaches its least
 abbrev pub reaches : ℕ → ℕ → Refusal → List Check
@@ -22,7 +19,7 @@ pub first-stands : (cs ds : List Check) (f : Refusal) → some f ≡ firstGiven 
 unfolding orElse
 first-stands cs ds f e = ap (λ (o : Option Refusal). orElse o (firstGiven ds)) e ∙ sym (given-append cs ds)
 
-last-decides : (cs ds : List Check) → none ≡ firstGiven cs → firstGiven ds ≡ firstGiven (cs ++ ds)
+pub last-decides : (cs ds : List Check) → none ≡ firstGiven cs → firstGiven ds ≡ firstGiven (cs ++ ds)
 unfolding orElse
 last-decides cs ds e = ap (λ (o : Option Refusal). orElse o (firstGiven ds)) e ∙ sym (given-append cs ds)
 
@@ -37,19 +34,20 @@ pub enough : (cs : List Check) (a b : ℕ) (f : Refusal) → none ≡ firstGiven
 enough cs a b f e h = ap (alone f) (sym (le-ltb a b h)) ∙ last-decides cs (reaches a b f) e
 
 -- where the checks refuse nothing, the first of them refuse nothing
-first-none : (cs ds : List Check) → firstGiven (cs ++ ds) ≡ none → firstGiven cs ≡ none
+pub first-none : (cs ds : List Check) → firstGiven (cs ++ ds) ≡ none → firstGiven cs ≡ none
 first-none cs ds e = go (firstGiven cs) (λ f h. first-stands cs ds f h) e
   where
     go : (o : Option Refusal) → ((f : Refusal) → some f ≡ o → some f ≡ firstGiven (cs ++ ds)) → firstGiven (cs ++ ds) ≡ none → o ≡ none
     go none k e = refl
-    go (some f) k e = absurd (none≢some (k f refl ∙ e))
+    go (some f) k e = absurd (Option·some-ne-none _ (k f refl ∙ e))
 
--- where a call's checks refuse nothing: the first of them passed, and the value reaches its least
-pub all-passed : (g : Grid) (w : List ℤ) (a b : ℕ) (f : Refusal) → firstGiven (gridChecks g w ++ reaches a b f) ≡ none → Passed g w × (b ≤ a)
-all-passed g w a b f e = (passed g w first, elim (decLe b a) [ yes h ↦ h | no h ↦ absurd (none≢some (too-low (gridChecks g w) a b f (sym first) (omega arith) ∙ e)) ])
-  where
-    first : firstGiven (gridChecks g w) ≡ none
-    first = first-none (gridChecks g w) (reaches a b f) e
+-- and the value reaches its least
+pub reached : (cs : List Check) (a b : ℕ) (f : Refusal) → firstGiven (cs ++ reaches a b f) ≡ none → b ≤ a
+reached cs a b f e =
+    elim (decLe b a) [
+      | yes h ↦ h
+      | no h ↦ absurd (Option·some-ne-none _ (too-low cs a b f (sym (first-none cs (reaches a b f) e)) (omega arith) ∙ e))
+    ]
 
 -- 0 is what lies below 1
 pub none-below : (n : ℕ) → ltb n 1 ≡ eqb n 0

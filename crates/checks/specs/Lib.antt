@@ -1,2 +1,2 @@
 -- What the checks of the calls promise.
-pub mod Refusals
+pub mod OneMore

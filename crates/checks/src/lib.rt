@@ -1,45 +1,20 @@
-// The checks of every call, in their order, and the refusals' numbers.
+// The checks of every call, in their order.
+use refusals::Checked;
+use refusals::Refusal;
 ghost use mathlib.Core.Path.{_≡_};
-ghost use mathlib.Core.List.{List, _++_};
+ghost use mathlib.Core.List.{List, [], _∷_, _++_};
+ghost use Prim.Native.Nat.{_*_};
 ghost use lib.IntN.{ℤ};
 ghost use lib.ListN.{length};
-ghost use Rattle.game.specs.Calls.{firstGiven, gridChecks, numberOf};
+ghost use Rattle.game.specs.Grid.{Grid, size};
+ghost use Rattle.game.specs.Calls.{boardChecks, firstGiven, gridChecks, roomCheck, workCheck};
 ghost use Rattle.area.specs.Numbers.{gridOf};
-ghost use Rattle.checks.specs.Refusals.{refusalOf, below, listed, named};
+ghost use Rattle.refusals.specs.Names.{refusalOf};
+ghost use Rattle.checks.specs.OneMore.{below};
 
-// Why a call is refused.
-pub enum Refusal {
-    Shape,
-    Board,
-    Work,
-    Trace,
-    Rounds,
-    Draws,
-}
-
-// What the checks of every call say.
-pub enum Checked {
-    Fine,
-    Refused(Refusal),
-}
-
-// A refusal's number.
-pub fn number_of(refusal: Refusal) -> u8
-    ensures { λ r. ⌜ r ≡ numberOf (named refusal) ⌝ }
-{
-    match refusal {
-        Refusal::Shape => 1,
-        Refusal::Board => 2,
-        Refusal::Work => 3,
-        Refusal::Trace => 4,
-        Refusal::Rounds => 5,
-        Refusal::Draws => 6,
-    }
-}
-
-// SHAPE, BOARD, WORK, by the lengths of the grid and the work area.
-pub fn check_lengths(rows: usize, columns: usize, board: usize, area: usize) -> Checked
-    ensures { λ r. ⌜ ((vs ws : List ℤ) → length vs ≡ board → length ws ≡ area → refusalOf r ≡ firstGiven (gridChecks (gridOf rows columns vs) ws)) ⌝ }
+// SHAPE, BOARD, by how many values the grid has.
+pub fn check_board(rows: usize, columns: usize, board: usize) -> Checked
+    ensures { λ r. ⌜ ((vs : List ℤ) → length vs ≡ board → refusalOf r ≡ firstGiven (boardChecks (gridOf rows columns vs))) ⌝ }
 {
     if rows == 0 {
         return Checked::Refused(Refusal::Shape);
@@ -56,10 +31,28 @@ pub fn check_lengths(rows: usize, columns: usize, board: usize, area: usize) -> 
     if board != rows * columns {
         return Checked::Refused(Refusal::Board);
     }
-    if area < 5 * (rows * columns) {
+    Checked::Fine
+}
+
+// WORK, by how many cells there are and how many numbers the work area has.
+pub fn check_work(cells: usize, area: usize) -> Checked
+    ensures { λ r. ⌜ ((g : Grid) (ws : List ℤ) → size g ≡ cells → length ws ≡ area → refusalOf r ≡ firstGiven (workCheck g ws ∷ [])) ⌝ }
+{
+    if area / 5 < cells {
         return Checked::Refused(Refusal::Work);
     }
     Checked::Fine
+}
+
+// SHAPE, BOARD, WORK, by the lengths of the grid and the work area.
+pub fn check_lengths(rows: usize, columns: usize, board: usize, area: usize) -> Checked
+    ensures { λ r. ⌜ ((vs ws : List ℤ) → length vs ≡ board → length ws ≡ area → refusalOf r ≡ firstGiven (gridChecks (gridOf rows columns vs) ws)) ⌝ }
+{
+    let checked = check_board(rows, columns, board);
+    match checked {
+        Checked::Refused(first) => Checked::Refused(first),
+        Checked::Fine => check_work(board, area),
+    }
 }
 
 // SHAPE, BOARD, WORK.
@@ -93,18 +86,9 @@ pub fn check_more(
     }
 }
 
-// SHAPE, BOARD, WORK, and TRACE for a list below cells long.
-pub fn check_list(rows: usize, columns: usize, grid: &[i32], work: &[i32], list: &[u32]) -> Checked
-    ensures { λ r. ⌜ refusalOf r ≡ firstGiven (gridChecks (gridOf rows columns (now (grid .entry))) (now (work .entry)) ++ listed (gridOf rows columns (now (grid .entry))) (now (list .entry))) ⌝ }
+// SHAPE, BOARD, WORK, and TRACE where there is room for fewer moves than cells.
+pub fn check_room(rows: usize, columns: usize, grid: &[i32], work: &[i32], room: usize) -> Checked
+    ensures { λ r. ⌜ refusalOf r ≡ firstGiven (gridChecks (gridOf rows columns (now (grid .entry))) (now (work .entry)) ++ roomCheck (gridOf rows columns (now (grid .entry))) room ∷ []) ⌝ }
 {
-    let checked = check(rows, columns, grid, work);
-    match checked {
-        Checked::Refused(first) => Checked::Refused(first),
-        Checked::Fine => {
-            if list.len() < rows * columns {
-                return Checked::Refused(Refusal::Trace);
-            }
-            Checked::Fine
-        }
-    }
+    check_more(rows, columns, grid, work, room, grid.len(), Refusal::Trace)
 }

@@ -5,7 +5,7 @@ use zini::Counted;
 fn taken_apart(answer: Counted) -> Plain {
     match answer {
         Counted::Units(units) => made_plain(0, units as u64),
-        Counted::Refused(refusal) => made_plain(checks::number_of(refusal) as u64, 0),
+        Counted::Refused(refusal) => made_plain(refusals::number_of(refusal) as u64, 0),
     }
 }
 

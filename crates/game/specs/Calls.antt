@@ -6,12 +6,12 @@ use mathlib.Core.Option.{Option, none, some}
 use lib.IntN.{ℤ}
 use lib.ListN.{length, take}
 use lib.Dec.{eqb, ltb}
-use Rattle.game.specs.Draws.{lent}
+use Rattle.game.specs.Draws.{Source, lent}
 use Rattle.game.specs.Grid.{Grid, size}
 use Rattle.game.specs.Openings.{threeBV}
 use Rattle.game.specs.Position.{untouched, closedSafe}
 use Rattle.game.specs.Moves.{Move, after, Replayed, whole, stopped, replayFrom}
-use Rattle.game.specs.Rounds.{movesOf, greedySteps, openingsFirstSteps, Round, randomRound, Searched, randomSearch}
+use Rattle.game.specs.Rounds.{movesOf, roundSteps, Round, randomRound, Searched, randomSearch}
 use Rattle.game.specs.Area.{areaOf, listOf, clearedArea, clearedList}
 
 -- ---- answers and refusals
@@ -84,21 +84,33 @@ boardCheck g = record { given = not (eqb (length (g .values)) (size g)); refusal
 abbrev pub workCheck : Grid → List ℤ → Check
 workCheck g ws = record { given = ltb (length ws) (5 * size g); refusal = work }
 
+-- TRACE: room for fewer moves than cells
+abbrev pub roomCheck : Grid → ℕ → Check
+roomCheck g room = record { given = ltb room (size g); refusal = trace }
+
 -- TRACE: the list is below cells long
 abbrev pub listCheck : Grid → List ℕ → Check
-listCheck g ms = record { given = ltb (length ms) (size g); refusal = trace }
+listCheck g ms = roomCheck g (length ms)
+
+-- TRACE in replay: the move count is above so many
+abbrev pub aboveCheck : ℕ → ℕ → Check
+aboveCheck room n = record { given = ltb room n; refusal = trace }
 
 -- TRACE in replay: the move count is above the list's length
 abbrev pub countCheck : ℕ → List ℕ → Check
-countCheck n ms = record { given = ltb (length ms) n; refusal = trace }
+countCheck n ms = aboveCheck (length ms) n
 
 -- ROUNDS: 0 rounds
 abbrev pub roundsCheck : ℕ → Check
 roundsCheck n = record { given = eqb n 0; refusal = rounds }
 
--- the checks of every call, in their order
+-- the checks of a board, in their order
+abbrev pub boardChecks : Grid → List Check
+boardChecks g = shapeCheck g ∷ boardCheck g ∷ []
+
+-- the checks of every call, in their order: the board's, then the work area's
 abbrev pub gridChecks : Grid → List ℤ → List Check
-gridChecks g ws = shapeCheck g ∷ boardCheck g ∷ workCheck g ws ∷ []
+gridChecks g ws = boardChecks g ++ workCheck g ws ∷ []
 
 -- ---- the calls
 
@@ -122,15 +134,22 @@ abbrev pub playedRound : Grid → List Move → List ℤ → List ℕ → ListOu
 playedRound g played ws ms =
     record { answer = gives (length played ∷ []); work = areaOf g (after g (untouched g) played) ws; list = listOf played ms }
 
+-- a round in the greedy order, or in the openings-first order
+abbrev pub pricedRound : Bool → Grid → List ℤ → List ℕ → ListOutcome
+pricedRound openingsFirst g ws ms = playedRound g (movesOf (roundSteps openingsFirst g)) ws ms
+
+-- greedy, or openings-first
+unfoldable pub priceCall : Bool → Grid → List ℤ → List ℕ → ListOutcome
+priceCall openingsFirst g ws ms =
+    unlessListed (firstGiven (gridChecks g ws ++ listCheck g ms ∷ [])) ws ms (pricedRound openingsFirst g ws ms)
+
 -- greedy
-unfoldable pub greedyCall : Grid → List ℤ → List ℕ → ListOutcome
-greedyCall g ws ms =
-    unlessListed (firstGiven (gridChecks g ws ++ listCheck g ms ∷ [])) ws ms (playedRound g (movesOf (greedySteps g)) ws ms)
+abbrev pub greedyCall : Grid → List ℤ → List ℕ → ListOutcome
+greedyCall = priceCall false
 
 -- openings-first
-unfoldable pub openingsFirstCall : Grid → List ℤ → List ℕ → ListOutcome
-openingsFirstCall g ws ms =
-    unlessListed (firstGiven (gridChecks g ws ++ listCheck g ms ∷ [])) ws ms (playedRound g (movesOf (openingsFirstSteps g)) ws ms)
+abbrev pub openingsFirstCall : Grid → List ℤ → List ℕ → ListOutcome
+openingsFirstCall = priceCall true
 
 -- what a random round comes to: clicks and bytes used, or DRAWS, which fills work area and list with 0
 abbrev pub drawnRound : Grid → Option Round → List ℤ → List ℕ → ListOutcome
@@ -143,10 +162,14 @@ drawnRound g (some r) ws ms =
       list = listOf played ms;
     }
 
--- a single random round
+-- a random round that draws from a source
+abbrev pub roundBy : Source → Grid → List ℤ → List ℕ → ListOutcome
+roundBy source g ws ms = drawnRound g (randomRound g source 0) ws ms
+
+-- a single random round, by lent bytes
 unfoldable pub randomRoundCall : Grid → List ℤ → List ℕ → List ℕ → ListOutcome
 randomRoundCall g ws ms bytes =
-    unlessListed (firstGiven (gridChecks g ws ++ listCheck g ms ∷ [])) ws ms (drawnRound g (randomRound g (lent bytes) 0) ws ms)
+    unlessListed (firstGiven (gridChecks g ws ++ listCheck g ms ∷ [])) ws ms (roundBy (lent bytes) g ws ms)
 
 -- what a random search comes to: the least clicks and bytes used, with the last round left; or DRAWS
 abbrev pub drawnSearch : Grid → Option Searched → List ℤ → Outcome
@@ -154,10 +177,14 @@ drawnSearch g none ws = record { answer = refuses draws; work = clearedArea g ws
 drawnSearch g (some r) ws =
     record { answer = gives (r .least ∷ r .next ∷ []); work = areaOf g (after g (untouched g) (r .moves)) ws }
 
--- random search over so many rounds
+-- a random search of n rounds that draw from a source
+abbrev pub searchBy : Source → ℕ → Grid → List ℤ → Outcome
+searchBy source n g ws = drawnSearch g (randomSearch g source n) ws
+
+-- random search over n rounds, by lent bytes
 unfoldable pub randomSearchCall : Grid → List ℤ → List ℕ → ℕ → Outcome
 randomSearchCall g ws bytes n =
-    unless (firstGiven (gridChecks g ws ++ roundsCheck n ∷ [])) ws (drawnSearch g (randomSearch g (lent bytes) n) ws)
+    unless (firstGiven (gridChecks g ws ++ roundsCheck n ∷ [])) ws (searchBy (lent bytes) n g ws)
 
 -- what a replay of n moves comes to: moves made and safe cells still closed, or MOVE with the bad move's place
 abbrev pub replayed : Grid → ℕ → Replayed → List ℤ → Outcome
@@ -165,7 +192,10 @@ replayed g n (whole s) ws = record { answer = gives (n ∷ closedSafe g s ∷ []
 replayed g n (stopped k s) ws =
     record { answer = record { number = numberOf move; values = k ∷ [] }; work = areaOf g s ws }
 
+-- the first n moves of a list played from the untouched grid on
+abbrev pub replayedList : Grid → List ℤ → List ℕ → ℕ → Outcome
+replayedList g ws ms n = replayed g n (replayFrom g 0 (untouched g) (take n ms)) ws
+
 -- replay of the first n moves of a list, which stays as it is
 unfoldable pub replayCall : Grid → List ℤ → List ℕ → ℕ → Outcome
-replayCall g ws ms n =
-    unless (firstGiven (gridChecks g ws ++ countCheck n ms ∷ [])) ws (replayed g n (replayFrom g 0 (untouched g) (take n ms)) ws)
+replayCall g ws ms n = unless (firstGiven (gridChecks g ws ++ countCheck n ms ∷ [])) ws (replayedList g ws ms n)

@@ -7,9 +7,9 @@ use mathlib.Core.Bool.{Bool, true, false, _&&_, _||_, cond, not}
 use lib.Dec.{eqb, leb}
 use borrow.Author.Tests.{eq-eqb, ne-eqb, le-leb, lt-leb, leb-true}
 use Rattle.hex.specs.Hex.{between, hexDigit, hexValue, isDecimal, isLetter, isWrong}
-use Rattle.hex.specs.Sorts.{sortOf}
-use Rattle.hex.specs.declared.Sort.{Sort}
-use Rattle.hex.specs.declared.Sort.the-variants.{Digit, End, Wrong}
+use Rattle.hex.specs.Characters.{characterOf}
+use Rattle.hex.specs.declared.Character.{Character}
+use Rattle.hex.specs.declared.Character.the-variants.{Digit, End, Wrong}
 
 -- ---- the tests
 
@@ -45,73 +45,73 @@ to-high low high b e = leb-true b high (second-holds (leb low b) (leb b high) e)
 
 -- ---- what a byte is
 
-sorted : (b : ℕ) (p q r : Bool) → isDecimal b ≡ p → isLetter b ≡ q → eqb b 10 ≡ r
-    → cond (p || q) (Digit (cond p (b - 48) (cond q (b - 55) 0))) (cond r End Wrong) ≡ sortOf b
-unfolding sortOf hexValue
-sorted b p q r e f h =
+character-by : (b : ℕ) (p q r : Bool) → isDecimal b ≡ p → isLetter b ≡ q → eqb b 10 ≡ r
+    → cond (p || q) (Digit (cond p (b - 48) (cond q (b - 55) 0))) (cond r End Wrong) ≡ characterOf b
+unfolding characterOf hexValue
+character-by b p q r e f h =
     sym (λ i. cond (e i || f i) (Digit (cond (e i) (b - 48) (cond (f i) (b - 55) 0))) (cond (h i) End Wrong))
 
-pub decimal-sort : (b : ℕ) → 48 ≤ b → b ≤ 57 → Digit (b - 48) ≡ sortOf b
-decimal-sort b l h = sorted b true (isLetter b) (eqb b 10) (inside 48 57 b l h) refl refl
+pub decimal-character : (b : ℕ) → 48 ≤ b → b ≤ 57 → Digit (b - 48) ≡ characterOf b
+decimal-character b l h = character-by b true (isLetter b) (eqb b 10) (inside 48 57 b l h) refl refl
 
-pub letter-sort : (b : ℕ) → 65 ≤ b → b ≤ 70 → Digit (b - 55) ≡ sortOf b
-letter-sort b l h = sorted b false true (eqb b 10) (over 48 57 b (omega arith)) (inside 65 70 b l h) refl
+pub letter-character : (b : ℕ) → 65 ≤ b → b ≤ 70 → Digit (b - 55) ≡ characterOf b
+letter-character b l h = character-by b false true (eqb b 10) (over 48 57 b (omega arith)) (inside 65 70 b l h) refl
 
-pub end-sort : (b : ℕ) → b ≡ 10 → End ≡ sortOf b
-end-sort b e = sorted b false false true (under 48 57 b (omega arith)) (under 65 70 b (omega arith)) (eq-eqb b 10 e)
+pub end-character : (b : ℕ) → b ≡ 10 → End ≡ characterOf b
+end-character b e = character-by b false false true (under 48 57 b (omega arith)) (under 65 70 b (omega arith)) (eq-eqb b 10 e)
 
-pub wrong-sort : (b : ℕ) → isDecimal b ≡ false → isLetter b ≡ false → (b ≡ 10 → ⊥) → Wrong ≡ sortOf b
-wrong-sort b e f h = sorted b false false false e f (ne-eqb b 10 h)
+pub wrong-character : (b : ℕ) → isDecimal b ≡ false → isLetter b ≡ false → (b ≡ 10 → ⊥) → Wrong ≡ characterOf b
+wrong-character b e f h = character-by b false false false e f (ne-eqb b 10 h)
 
 -- ---- its value, whether it is wrong, whether it ends a line
 
-abbrev pub valueSort : Sort → ℕ
-valueSort (Digit v) = v
-valueSort End = 0
-valueSort Wrong = 0
+abbrev pub valueAs : Character → ℕ
+valueAs (Digit v) = v
+valueAs End = 0
+valueAs Wrong = 0
 
-abbrev pub wrongSort : Sort → Bool
-wrongSort (Digit v) = false
-wrongSort End = true
-wrongSort Wrong = true
+abbrev pub wrongAs : Character → Bool
+wrongAs (Digit v) = false
+wrongAs End = true
+wrongAs Wrong = true
 
-pub sort-value : (b : ℕ) → valueSort (sortOf b) ≡ hexValue b
-unfolding sortOf hexValue
-sort-value b = go (isDecimal b) (isLetter b) (eqb b 10)
+pub character-value : (b : ℕ) → valueAs (characterOf b) ≡ hexValue b
+unfolding characterOf hexValue
+character-value b = go (isDecimal b) (isLetter b) (eqb b 10)
   where
-    go : (p q r : Bool) → valueSort (cond (p || q) (Digit (cond p (b - 48) (cond q (b - 55) 0))) (cond r End Wrong)) ≡ cond p (b - 48) (cond q (b - 55) 0)
+    go : (p q r : Bool) → valueAs (cond (p || q) (Digit (cond p (b - 48) (cond q (b - 55) 0))) (cond r End Wrong)) ≡ cond p (b - 48) (cond q (b - 55) 0)
     go true q r = refl
     go false true r = refl
     go false false true = refl
     go false false false = refl
 
-pub sort-wrong : (b : ℕ) → wrongSort (sortOf b) ≡ isWrong b
-unfolding sortOf
-sort-wrong b = go (isDecimal b || isLetter b) (eqb b 10) (hexValue b)
+pub character-wrong : (b : ℕ) → wrongAs (characterOf b) ≡ isWrong b
+unfolding characterOf
+character-wrong b = go (isDecimal b || isLetter b) (eqb b 10) (hexValue b)
   where
-    go : (p r : Bool) (v : ℕ) → wrongSort (cond p (Digit v) (cond r End Wrong)) ≡ not p
+    go : (p r : Bool) (v : ℕ) → wrongAs (cond p (Digit v) (cond r End Wrong)) ≡ not p
     go true r v = refl
     go false true v = refl
     go false false v = refl
 
 -- a line feed alone ends a line
-abbrev pub endSort : Sort → Bool
-endSort (Digit v) = false
-endSort End = true
-endSort Wrong = false
+abbrev pub endAs : Character → Bool
+endAs (Digit v) = false
+endAs End = true
+endAs Wrong = false
 
-pub sort-end : (b : ℕ) → endSort (sortOf b) ≡ eqb b 10
-unfolding sortOf
-sort-end b = go (ℕ-discrete b 10)
+pub character-end : (b : ℕ) → endAs (characterOf b) ≡ eqb b 10
+unfolding characterOf
+character-end b = go (ℕ-discrete b 10)
   where
-    other : (t : Bool) (v : ℕ) → endSort (cond t (Digit v) Wrong) ≡ false
+    other : (t : Bool) (v : ℕ) → endAs (cond t (Digit v) Wrong) ≡ false
     other true v = refl
     other false v = refl
 
-    go : Dec (b ≡ 10) → endSort (cond (isDecimal b || isLetter b) (Digit (hexValue b)) (cond (eqb b 10) End Wrong)) ≡ eqb b 10
-    go (yes e) = ap endSort (sym (end-sort b e)) ∙ sym (eq-eqb b 10 e)
+    go : Dec (b ≡ 10) → endAs (cond (isDecimal b || isLetter b) (Digit (hexValue b)) (cond (eqb b 10) End Wrong)) ≡ eqb b 10
+    go (yes e) = ap endAs (sym (end-character b e)) ∙ sym (eq-eqb b 10 e)
     go (no n) =
-        ap (λ (t : Bool). endSort (cond (isDecimal b || isLetter b) (Digit (hexValue b)) (cond t End Wrong))) (ne-eqb b 10 n)
+        ap (λ (t : Bool). endAs (cond (isDecimal b || isLetter b) (Digit (hexValue b)) (cond t End Wrong))) (ne-eqb b 10 n)
         ∙ other (isDecimal b || isLetter b) (hexValue b)
         ∙ sym (ne-eqb b 10 n)
 

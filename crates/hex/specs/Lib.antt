@@ -1,3 +1,3 @@
 -- Hexadecimal: what a byte of a line is, and bytes of two digits.
 pub mod Hex
-pub mod Sorts
+pub mod Characters

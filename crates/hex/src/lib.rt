@@ -6,24 +6,24 @@ ghost use lib.ListN.{length, getD};
 ghost use lib.Seq.{sets};
 ghost use Rattle.game.specs.Lists.{concat-map};
 ghost use Rattle.hex.specs.Hex.{byteDigits, bytesOf, hexDigit, hexValue, isWrong, twoBytes};
-ghost use Rattle.hex.specs.Sorts.{sortOf};
+ghost use Rattle.hex.specs.Characters.{characterOf};
 
 // What one byte of a line is.
-pub enum Sort {
+pub enum Character {
     Digit(usize),
     End,
     Wrong,
 }
 
 // What a byte of a line is: a digit with its value, the line's end, or wrong.
-pub fn sort_of(byte: u8) -> Sort
-    ensures { λ r. ⌜ r ≡ sortOf byte ⌝ }
+pub fn character_of(byte: u8) -> Character
+    ensures { λ r. ⌜ r ≡ characterOf byte ⌝ }
 {
     match byte {
-        48..=57 => Sort::Digit((byte - 48) as usize),
-        65..=70 => Sort::Digit((byte - 55) as usize),
-        10 => Sort::End,
-        _ => Sort::Wrong,
+        48..=57 => Character::Digit((byte - 48) as usize),
+        65..=70 => Character::Digit((byte - 55) as usize),
+        10 => Character::End,
+        _ => Character::Wrong,
     }
 }
 
@@ -31,11 +31,11 @@ pub fn sort_of(byte: u8) -> Sort
 pub fn is_wrong(byte: u8) -> bool
     ensures { λ r. ⌜ r ≡ isWrong byte ⌝ }
 {
-    let sort = sort_of(byte);
-    match sort {
-        Sort::Digit(_) => false,
-        Sort::End => true,
-        Sort::Wrong => true,
+    let character = character_of(byte);
+    match character {
+        Character::Digit(_) => false,
+        Character::End => true,
+        Character::Wrong => true,
     }
 }
 
@@ -43,11 +43,11 @@ pub fn is_wrong(byte: u8) -> bool
 pub fn is_end(byte: u8) -> bool
     ensures { λ r. ⌜ r ≡ eqb byte 10 ⌝ }
 {
-    let sort = sort_of(byte);
-    match sort {
-        Sort::Digit(_) => false,
-        Sort::End => true,
-        Sort::Wrong => false,
+    let character = character_of(byte);
+    match character {
+        Character::Digit(_) => false,
+        Character::End => true,
+        Character::Wrong => false,
     }
 }
 
@@ -55,11 +55,11 @@ pub fn is_end(byte: u8) -> bool
 pub fn value_of(byte: u8) -> usize
     ensures { λ r. ⌜ (r ≡ hexValue byte) × (r < 16) ⌝ }
 {
-    let sort = sort_of(byte);
-    match sort {
-        Sort::Digit(value) => value,
-        Sort::End => 0,
-        Sort::Wrong => 0,
+    let character = character_of(byte);
+    match character {
+        Character::Digit(value) => value,
+        Character::End => 0,
+        Character::Wrong => 0,
     }
 }
 

@@ -4,7 +4,7 @@ use mathlib.Core.Path.{_≡_, ap, sym, _∙_}
 use mathlib.Core.List.{List}
 use lib.IntN.{ℤ}
 use Rattle.game.specs.Calls.{Answer, ListOutcome, Outcome}
-use Rattle.zini.specs.Answers.{Kept, KeptList}
+use Rattle.zini.specs.Answers.{Keeps, KeepsList}
 use Rattle.lavgerin.specs.Names.{Returned, ReturnedList, ReturnedListTwo, ReturnedTwo, told}
 
 -- the answer's number, carried from the answer that came to the one promised
@@ -15,7 +15,7 @@ as-number same e = e ∙ ap (λ (a : Answer). a .number) same
 as-told : {promised came : Answer} (place before : ℕ) {after : ℕ} → came ≡ promised → after ≡ told came place before → after ≡ told promised place before
 as-told place before same e = e ∙ ap (λ (a : Answer). told a place before) same
 
-module _ {promise : Outcome} {a came : Answer} {work : List ℤ} (kept : Kept promise a work) (so : a ≡ came) {n before after : ℕ} (number : n ≡ came .number) (first : after ≡ told came 0 before) where
+module _ {promise : Outcome} {a came : Answer} {work : List ℤ} (kept : Keeps promise a work) (so : a ≡ came) {n before after : ℕ} (number : n ≡ came .number) (first : after ≡ told came 0 before) where
   -- one answer
   pub returned : Returned promise n work before after
   returned =
@@ -26,7 +26,7 @@ module _ {promise : Outcome} {a came : Answer} {work : List ℤ} (kept : Kept pr
   pub returned-two : {before2 after2 : ℕ} → after2 ≡ told came 1 before2 → ReturnedTwo promise n work before after before2 after2
   returned-two {before2} second = record { first = returned; second = as-told 1 before2 (sym so ∙ kept .answers) second }
 
-module _ {promise : ListOutcome} {a came : Answer} {work : List ℤ} {list : List ℕ} (kept : KeptList promise a work list) (so : a ≡ came) {n before after : ℕ} (number : n ≡ came .number) (first : after ≡ told came 0 before) where
+module _ {promise : ListOutcome} {a came : Answer} {work : List ℤ} {list : List ℕ} (kept : KeepsList promise a work list) (so : a ≡ came) {n before after : ℕ} (number : n ≡ came .number) (first : after ≡ told came 0 before) where
   -- one answer and a list
   pub returned-list : ReturnedList promise n work list before after
   returned-list =

@@ -1,10 +1,11 @@
 // The calls under C names. Each returns the refusal's number, 0 for success; answers go through pointers, and what stands there is left alone where an answer has no such value.
-use checks::number_of;
+use refusals::Refusal;
+use refusals::number_of;
 use zini::Counted;
 use zini::Priced;
 use zini::Replayed;
 use zini::Rolled;
-ghost use Rattle.game.specs.Calls.{greedyCall, openingsFirstCall, randomRoundCall, randomSearchCall, replayCall, threeBVCall};
+ghost use Rattle.game.specs.Calls.{greedyCall, openingsFirstCall, priceCall, randomRoundCall, randomSearchCall, replayCall, threeBVCall};
 ghost use Rattle.area.specs.Numbers.{gridOf};
 ghost use Rattle.lavgerin.specs.Names.{Returned, ReturnedList, ReturnedListTwo, ReturnedTwo};
 
@@ -29,6 +30,28 @@ pub extern "C" fn lavgerin_three_bv(
     }
 }
 
+// Greedy ZiNi, or openings-first: its clicks, and its moves in the list.
+fn price(
+    rows: usize,
+    columns: usize,
+    grid: &[i32],
+    work: &mut [i32],
+    list: &mut [u32],
+    clicks: &mut u64,
+    openings_first: bool,
+) -> u8
+    ensures { λ r. ⌜ ReturnedList (priceCall «openings_first» (gridOf rows columns (now (grid .entry))) (now (work .entry)) (now (list .entry))) r (now (work .exit)) (now (list .exit)) (now (clicks .entry)) (now (clicks .exit)) ⌝ }
+{
+    let answer = zini::prices::price(rows, columns, grid, work, list, openings_first);
+    match answer {
+        Priced::Clicks(count) => {
+            *clicks = count as u64;
+            0
+        }
+        Priced::Refused(refusal) => number_of(refusal),
+    }
+}
+
 // Greedy ZiNi: its clicks, and its moves in the list.
 #[no_mangle]
 pub extern "C" fn lavgerin_greedy(
@@ -41,14 +64,7 @@ pub extern "C" fn lavgerin_greedy(
 ) -> u8
     ensures { λ r. ⌜ ReturnedList (greedyCall (gridOf rows columns (now (grid .entry))) (now (work .entry)) (now (list .entry))) r (now (work .exit)) (now (list .exit)) (now (clicks .entry)) (now (clicks .exit)) ⌝ }
 {
-    let answer = zini::prices::greedy(rows, columns, grid, work, list);
-    match answer {
-        Priced::Clicks(count) => {
-            *clicks = count as u64;
-            0
-        }
-        Priced::Refused(refusal) => number_of(refusal),
-    }
+    price(rows, columns, grid, work, list, clicks, false)
 }
 
 // Openings-first ZiNi: its clicks, and its moves in the list.
@@ -63,14 +79,7 @@ pub extern "C" fn lavgerin_openings_first(
 ) -> u8
     ensures { λ r. ⌜ ReturnedList (openingsFirstCall (gridOf rows columns (now (grid .entry))) (now (work .entry)) (now (list .entry))) r (now (work .exit)) (now (list .exit)) (now (clicks .entry)) (now (clicks .exit)) ⌝ }
 {
-    let answer = zini::prices::openings_first(rows, columns, grid, work, list);
-    match answer {
-        Priced::Clicks(count) => {
-            *clicks = count as u64;
-            0
-        }
-        Priced::Refused(refusal) => number_of(refusal),
-    }
+    price(rows, columns, grid, work, list, clicks, true)
 }
 
 // A single random round: its clicks, its moves in the list, and the draw bytes used.
@@ -87,7 +96,7 @@ pub extern "C" fn lavgerin_random_round(
 ) -> u8
     ensures { λ r. ⌜ ReturnedListTwo (randomRoundCall (gridOf rows columns (now (grid .entry))) (now (work .entry)) (now (list .entry)) (now (draws .entry))) r (now (work .exit)) (now (list .exit)) (now (clicks .entry)) (now (clicks .exit)) (now (used .entry)) (now (used .exit)) ⌝ }
 {
-    let answer = zini::rolls::random_round(rows, columns, grid, work, list, draws);
+    let answer = zini::random_calls::random_round(rows, columns, grid, work, list, draws);
     match answer {
         Rolled::Clicks(count, bytes) => {
             *clicks = count as u64;
@@ -112,7 +121,7 @@ pub extern "C" fn lavgerin_random_search(
 ) -> u8
     ensures { λ r. ⌜ ReturnedTwo (randomSearchCall (gridOf rows columns (now (grid .entry))) (now (work .entry)) (now (draws .entry)) rounds) r (now (work .exit)) (now (clicks .entry)) (now (clicks .exit)) (now (used .entry)) (now (used .exit)) ⌝ }
 {
-    let answer = zini::rolls::random_search(rows, columns, grid, work, draws, rounds);
+    let answer = zini::random_calls::random_search(rows, columns, grid, work, draws, rounds);
     match answer {
         Rolled::Clicks(least, bytes) => {
             *clicks = least as u64;
@@ -146,7 +155,7 @@ pub extern "C" fn lavgerin_replay(
         }
         Replayed::Move(place) => {
             *made = place as u64;
-            7
+            number_of(Refusal::Move)
         }
         Replayed::Refused(refusal) => number_of(refusal),
     }

@@ -20,7 +20,7 @@ fn read_of(answer: MovesRead) -> Read {
             count,
         },
         MovesRead::Refused(refusal) => Read {
-            number: price::number_of(refusal),
+            number: refusals::number_of(refusal) as usize,
             rows: 0,
             columns: 0,
             count: 0,
@@ -88,7 +88,11 @@ fn write_into(rows: usize, columns: usize, count: usize, line: &mut [u8]) {
     let written = stored::write_moves(rows, columns, &list, count, line);
     match written {
         MovesWritten::Digits(digits) => print_written(0, digits, line),
-        MovesWritten::Refused(refusal) => print_written(price::number_of(refusal), 0, line),
+        MovesWritten::Refused(refusal) => print_written(
+            refusals::number_of(refusal) as usize,
+            0,
+            line,
+        ),
     }
 }
 

@@ -3,4 +3,4 @@ pub mod Runs
 pub mod Priced
 pub mod Verdict
 pub mod Calls
-pub mod Once
+pub mod OneAnswer

@@ -3,10 +3,10 @@ use Prim.Native.Nat.{ℕ, _+_, _*_, _%_, _<_, _≤_}
 use native.Mathlib.Omega.{arith}
 use native.Mathlib.Decide.{decLe}
 use native.Mathlib.Nat.{mul-le-mul-left}
-use mathlib.Core.Path.{_≡_, ap, refl, subst, sym, _∙_}
-use mathlib.Core.Bool.{Bool, true, false, not, _||_}
+use mathlib.Core.Path.{_≡_, ap, refl, sym, _∙_}
+use mathlib.Core.Bool.{Bool, true, false, not, true≢false, _||_}
 use mathlib.Core.List.{List, [], _∷_}
-use mathlib.Core.Option.{Option, none, some}
+use mathlib.Core.Option.{Option, Option·some-ne-none, none, some}
 use lib.Dec.{eqb, ltb}
 use lib.ListN.{getD, length, length-take, take}
 use lib.Seq.{take-all}
@@ -14,20 +14,12 @@ use borrow.Author.Tests.{eq-eqb, eqb-false, eqb-true, le-ltb, lt-ltb, ltb-false,
 use Rattle.game.specs.Lists.{some-of}
 use Rattle.game.specs.Grid.{size}
 use Rattle.game.specs.Calls.{Refusal, firstGiven, frame, shape, sideOut, size-over}
+use Rattle.game.proofs.Checks.{side-in}
+use Rattle.game.proofs.Truth.{or-no}
 use Rattle.hex.specs.Hex.{bytesOf, isWrong}
 use Rattle.lines.specs.BoardLine.{bitBetween, bitBytes, digitsRefused, gridOfBytes, lineGrid, lineRefusal, mineBit, valueOf}
 use Rattle.hex.proofs.Bytes.{length-bytes}
 use Rattle.lines.proofs.Runs.{length-cells}
-
-pub none≢some : {x : Refusal} → some x ≡ none → ⊥
-none≢some e = subst given e tt
-  where
-    given : Option Refusal → Type 0
-    given none = ⊥
-    given (some y) = Unit {0}
-
-pub true≢false : true ≡ false → ⊥
-true≢false e = let z : _≡_ {A = ℕ} 0 1 = cc in omega arith
 
 -- ---- the digits alone
 
@@ -166,27 +158,15 @@ pub record Passed (line : List ℕ) : Type 0 where
   pub few : size (lineGrid line) ≤ 2048
   pub bytes : length line ≡ 4 + 2 * bitBytes (size (lineGrid line))
 
-pub side-in : (n : ℕ) → sideOut n ≡ false → (1 ≤ n) × (n ≤ 255)
-side-in n e = go (eqb n 0) (ltb 255 n) refl refl e
-  where
-    go : (a b : Bool) → eqb n 0 ≡ a → ltb 255 n ≡ b → (a || b) ≡ false → (1 ≤ n) × (n ≤ 255)
-    go true b p q e = absurd (true≢false e)
-    go false true p q e = absurd (true≢false e)
-    go false false p q e = let h = eqb-false n 0 p in (omega arith, ltb-false 255 n q)
-
-pub either-false : (a b : Bool) → (a || b) ≡ false → (a ≡ false) × (b ≡ false)
-either-false true b e = absurd (true≢false e)
-either-false false b e = (refl, e)
-
 -- none of the tests
 none-given : (a b c s o n p : Bool) → verdict a b c s o n p ≡ none → ((a || (b || (c || false))) ≡ false) × (s ≡ false) × (o ≡ false) × (n ≡ false)
-none-given true b c s o n p e = absurd (none≢some e)
-none-given false true c s o n p e = absurd (none≢some e)
-none-given false false true s o n p e = absurd (none≢some e)
-none-given false false false true o n p e = absurd (none≢some e)
-none-given false false false false true n p e = absurd (none≢some e)
-none-given false false false false false true p e = absurd (none≢some e)
-none-given false false false false false false true e = absurd (none≢some e)
+none-given true b c s o n p e = absurd (Option·some-ne-none _ e)
+none-given false true c s o n p e = absurd (Option·some-ne-none _ e)
+none-given false false true s o n p e = absurd (Option·some-ne-none _ e)
+none-given false false false true o n p e = absurd (Option·some-ne-none _ e)
+none-given false false false false true n p e = absurd (Option·some-ne-none _ e)
+none-given false false false false false true p e = absurd (Option·some-ne-none _ e)
+none-given false false false false false false true e = absurd (Option·some-ne-none _ e)
 none-given false false false false false false false e = (refl, refl, refl, refl)
 
 pub passed : (line : List ℕ) → lineRefusal line ≡ none → Passed line
@@ -195,7 +175,7 @@ passed line e =
     let q = none-given (some-of isWrong line) (eqb (length line % 2) 1) (ltb (length line) 4 || ltb 516 (length line)) (sideOut (rowsByte line) || sideOut (columnsByte line))
     (ltb 2048 (cellsOf line)) (not (eqb (length (bytesOf line)) (2 + bitBytes (cellsOf line)))) (paddingSet line) e in
     let d = digits-good line (q .0) in
-    let r = either-false (sideOut (rowsByte line)) (sideOut (columnsByte line)) (q .1) in
+    let r = or-no (sideOut (rowsByte line)) (sideOut (columnsByte line)) (q .1) in
     let l = length-bytes line in
     let n = eqb-true (length (bytesOf line)) (2 + bitBytes (cellsOf line)) (not-false _ (q .3)) in
     record {

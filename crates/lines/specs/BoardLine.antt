@@ -94,8 +94,8 @@ pub record GridOutcome : Type 0 where
   pub values : List ℤ
 
 -- BOARD: the lent run has no room for the cells
-abbrev pub roomCheck : Grid → List ℤ → Check
-roomCheck g lent = record { given = ltb (length lent) (size g); refusal = board }
+abbrev pub cellsCheck : Grid → List ℤ → Check
+cellsCheck g lent = record { given = ltb (length lent) (size g); refusal = board }
 
 -- a refused line changes nothing lent
 abbrev pub unlessRefused : Option Refusal → List ℤ → GridOutcome → GridOutcome
@@ -105,7 +105,7 @@ unlessRefused none lent o = o
 -- a board line read: rows and columns, and the values at the start of the lent run
 unfoldable pub boardLineCall : List ℕ → List ℤ → GridOutcome
 boardLineCall line lent =
-    unlessRefused (firstGiven (boardLineChecks line ++ roomCheck (lineGrid line) lent ∷ [])) lent
+    unlessRefused (firstGiven (boardLineChecks line ++ cellsCheck (lineGrid line) lent ∷ [])) lent
     (record {
       answer = gives (lineGrid line .rows ∷ lineGrid line .columns ∷ []);
       values = begun (lineGrid line .values) lent;

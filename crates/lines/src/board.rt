@@ -1,6 +1,6 @@
 // Board lines.
-use crate::Checked;
-use crate::Refusal;
+use refusals::Checked;
+use refusals::Refusal;
 ghost use mathlib.Core.Path.{_≡_};
 ghost use mathlib.Core.Option.{none};
 ghost use Prim.Native.Nat.{_+_, _*_, _/_, _%_, _-_, _^_, _<_, _≤_};
@@ -9,7 +9,8 @@ ghost use Rattle.game.specs.Lists.{some-of};
 ghost use Rattle.game.specs.Area.{begun};
 ghost use Rattle.hex.specs.Hex.{bytesOf, isWrong};
 ghost use Rattle.lines.specs.BoardLine.{bitBetween, boardLineCall, cellValues, digitsRefused, lineRefusal, mineBit, valueOf};
-ghost use Rattle.lines.specs.Answers.{KeptGrid, boardAnswer, refusalOf};
+ghost use Rattle.lines.specs.Answers.{KeepsGrid, boardAnswer};
+ghost use Rattle.refusals.specs.Names.{refusalOf};
 
 // What reading a board line answers: rows and columns.
 pub enum Board {
@@ -137,7 +138,7 @@ pub fn check(line: &[u8]) -> Checked
 // A line that has been checked: its cells' values, where the lent run has room for them.
 fn read_checked(line: &[u8], grid: &mut [i32]) -> Board
     requires { ⌜ lineRefusal (now line) ≡ none ⌝ }
-    ensures { λ r. ⌜ KeptGrid (boardLineCall (now (line .entry)) (now (grid .entry))) (boardAnswer r) (now (grid .exit)) ⌝ }
+    ensures { λ r. ⌜ KeepsGrid (boardLineCall (now (line .entry)) (now (grid .entry))) (boardAnswer r) (now (grid .exit)) ⌝ }
 {
     let rows = hex::byte_at(line, 0);
     let columns = hex::byte_at(line, 1);
@@ -150,7 +151,7 @@ fn read_checked(line: &[u8], grid: &mut [i32]) -> Board
 
 // A board line without its line feed read: rows and columns, and its cells' values at the start of the lent run.
 pub fn read_board(line: &[u8], grid: &mut [i32]) -> Board
-    ensures { λ r. ⌜ KeptGrid (boardLineCall (now (line .entry)) (now (grid .entry))) (boardAnswer r) (now (grid .exit)) ⌝ }
+    ensures { λ r. ⌜ KeepsGrid (boardLineCall (now (line .entry)) (now (grid .entry))) (boardAnswer r) (now (grid .exit)) ⌝ }
 {
     let checked = check(line);
     match checked {

@@ -10,17 +10,18 @@ use borrow.Author.Tests.{eqb-false}
 use lib.Dec.{eqb}
 use lib.IntN.{ℤ}
 use lib.ListN.{length}
-use Rattle.game.specs.Calls.{Check, Refusal, boardCheck, drawnSearch, firstGiven, gives, greedyCall, gridChecks, listCheck, openingsFirstCall, playedRound, randomSearchCall, rounds, roundsCheck, shape, shapeCheck, sideOut, unless, unlessListed, workCheck}
+use Rattle.game.specs.Calls.{Check, Refusal, boardCheck, drawnSearch, firstGiven, gives, gridChecks, listCheck, playedRound, priceCall, randomSearchCall, rounds, roundsCheck, shape, shapeCheck, sideOut, unless, unlessListed, workCheck}
 use Rattle.game.specs.Draws.{lent}
 use Rattle.game.specs.Grid.{Grid, size}
 use Rattle.game.specs.Lists.{Each}
+use Rattle.game.proofs.Checks.{side-in}
+use Rattle.game.proofs.Truth.{or-no}
 use Rattle.game.specs.Moves.{Move}
 use Rattle.game.specs.Rounds.{Searched, greedySteps, movesOf, openingsFirstSteps, randomSearch}
 use Rattle.original.specs.Entries.{cal-hzini, cal-rzini, cal-zini}
 use Rattle.original.specs.Equal.{CallsEqual, Equal, Within, answerUnless, answered, searchAnswer}
 use Rattle.original.proofs.Lowest.{greedy-equal, openings-first-equal}
 use Rattle.original.proofs.Randoms.{random-equal}
-use Rattle.game.proofs.Truth.{or-no}
 use Rattle.game.proofs.Checks.{side-in}
 
 -- a grid within the limits has at most 65025 cells
@@ -100,7 +101,7 @@ search-answer g ws bytes n small =
 
 -- the clicks that greedy, openings-first and random search answer are the Rust's
 pub calls-equal : (g : Grid) (ws : List ℤ) (ms : List ℕ) → CallsEqual g ws ms
-unfolding greedyCall openingsFirstCall randomSearchCall
+unfolding priceCall randomSearchCall
 calls-equal g ws ms =
     record {
       greedy = round-answer g ws ms (movesOf (greedySteps g)) (cal-zini g) (λ w. equal g w .greedy);

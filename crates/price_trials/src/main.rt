@@ -5,7 +5,7 @@ use zini::Priced;
 fn taken_apart(answer: Priced) -> Plain {
     match answer {
         Priced::Clicks(clicks) => made_plain(0, clicks as u64),
-        Priced::Refused(refusal) => made_plain(checks::number_of(refusal) as u64, 0),
+        Priced::Refused(refusal) => made_plain(refusals::number_of(refusal) as u64, 0),
     }
 }
 

@@ -5,7 +5,7 @@ use zini::Rolled;
 fn taken_apart(answer: Rolled) -> Plain {
     match answer {
         Rolled::Clicks(clicks, used) => made_plain(0, clicks as u64, used as u64),
-        Rolled::Refused(refusal) => made_plain(checks::number_of(refusal) as u64, 0, 0),
+        Rolled::Refused(refusal) => made_plain(refusals::number_of(refusal) as u64, 0, 0),
     }
 }
 
@@ -28,7 +28,7 @@ fn round_11(name: &[u8], draws: &[u8], number: u64, first: u64, second: u64) {
     let mut work = [7i32; 46];
     let mut list = [4294967295u32; 10];
     let grid = [0i32, 0, 0, 0, -1, 0, 0, 0, 0];
-    let answer = zini::rolls::random_round(3, 3, &grid, &mut work, &mut list, draws);
+    let answer = zini::random_calls::random_round(3, 3, &grid, &mut work, &mut list, draws);
     report(name, answer, number, first, second);
     trials::print_list(&list);
     trials::print_area(&work);
@@ -38,7 +38,7 @@ fn round_11(name: &[u8], draws: &[u8], number: u64, first: u64, second: u64) {
 fn search_11(name: &[u8], draws: &[u8], rounds: usize, number: u64, first: u64, second: u64) {
     let mut work = [7i32; 46];
     let grid = [0i32, 0, 0, 0, -1, 0, 0, 0, 0];
-    let answer = zini::rolls::random_search(3, 3, &grid, &mut work, draws, rounds);
+    let answer = zini::random_calls::random_search(3, 3, &grid, &mut work, draws, rounds);
     report(name, answer, number, first, second);
     trials::print_area(&work);
 }
@@ -56,7 +56,7 @@ fn examples() {
     );
     let mut w7 = [7i32; 21];
     let mut l7 = [4294967295u32; 5];
-    let seven = zini::rolls::random_round(
+    let seven = zini::random_calls::random_round(
         2,
         2,
         &[-1i32, 0, 0, 0],
@@ -68,7 +68,7 @@ fn examples() {
     trials::print_list(&l7);
     let mut w9 = [7i32; 46];
     let mut l9 = [4294967295u32; 10];
-    let nine = zini::rolls::random_round(3, 3, &[0i32; 9], &mut w9, &mut l9, &[0u8; 0]);
+    let nine = zini::random_calls::random_round(3, 3, &[0i32; 9], &mut w9, &mut l9, &[0u8; 0]);
     report(b"P9 without bytes", nine, 6, 0, 0);
     trials::print_list(&l9);
     trials::print_area(&w9);
@@ -89,7 +89,7 @@ fn searches() {
     );
     search_11(b"0 rounds", &[0u8; 24], 0, 5, 0, 0);
     let mut work = [7i32; 21];
-    let mines = zini::rolls::random_search(
+    let mines = zini::random_calls::random_search(
         2,
         2,
         &[-1i32; 4],
@@ -109,14 +109,14 @@ fn refusals() {
     let draws = [0u8; 8];
     report(
         b"256 columns",
-        zini::rolls::random_round(6, 256, &grid, &mut work, &mut few, &draws),
+        zini::random_calls::random_round(6, 256, &grid, &mut work, &mut few, &draws),
         1,
         0,
         0,
     );
     report(
         b"a value too few",
-        zini::rolls::random_search(2, 4, &grid, &mut work, &draws, 0),
+        zini::random_calls::random_search(2, 4, &grid, &mut work, &draws, 0),
         2,
         0,
         0,
@@ -124,14 +124,14 @@ fn refusals() {
     let mut short = [7i32; 29];
     report(
         b"a number too few",
-        zini::rolls::random_search(2, 3, &grid, &mut short, &draws, 0),
+        zini::random_calls::random_search(2, 3, &grid, &mut short, &draws, 0),
         3,
         0,
         0,
     );
     report(
         b"a word too few",
-        zini::rolls::random_round(2, 3, &grid, &mut work, &mut few, &draws),
+        zini::random_calls::random_round(2, 3, &grid, &mut work, &mut few, &draws),
         4,
         0,
         0,

@@ -12,8 +12,8 @@ use Rattle.game.specs.Area.{begun}
 use Rattle.game.specs.Calls.{Answer, Refusal, gives, refuses}
 use Rattle.area.specs.Numbers.{gridOf}
 use Rattle.lines.specs.BoardLine.{boardLineCall, lineGrid, lineRefusal}
-use Rattle.lines.specs.Answers.{KeptGrid}
-use Rattle.lines.proofs.Calls.{kept-read, kept-refused}
+use Rattle.lines.specs.Answers.{KeepsGrid}
+use Rattle.lines.proofs.Calls.{board-read, board-refused}
 use Rattle.lines.proofs.Verdict.{length-values, passed}
 use Rattle.reader.specs.Taken.{Taken}
 use Rattle.reader.specs.Prices.{priceOf, priceOr}
@@ -25,10 +25,10 @@ never f m n e = let z : _≡_ {A = ℕ} 0 2 = ap (λ (a : Answer). length (a .va
 module _ (line : List ℕ) (lent : List ℤ) (room : 2048 ≤ length lent) where
   -- a line that no check refuses is read
   read-answer : lineRefusal line ≡ none → gives (lineGrid line .rows ∷ lineGrid line .columns ∷ []) ≡ boardLineCall line lent .answer
-  read-answer e = kept-read line lent (begun (lineGrid line .values) lent) (lineGrid line .rows) (lineGrid line .columns) e (omega (arith, passed line e .few)) refl refl refl .answers
+  read-answer e = board-read line lent (begun (lineGrid line .values) lent) (lineGrid line .rows) (lineGrid line .columns) e (omega (arith, passed line e .few)) refl refl refl .answers
 
   read-values : lineRefusal line ≡ none → begun (lineGrid line .values) lent ≡ boardLineCall line lent .values
-  read-values e = kept-read line lent (begun (lineGrid line .values) lent) (lineGrid line .rows) (lineGrid line .columns) e (omega (arith, passed line e .few)) refl refl refl .leaves
+  read-values e = board-read line lent (begun (lineGrid line .values) lent) (lineGrid line .rows) (lineGrid line .columns) e (omega (arith, passed line e .few)) refl refl refl .leaves
 
   pub line-refused : (f : Refusal) → refuses f ≡ boardLineCall line lent .answer → (g : Grid) → priceOr (some f) g ≡ priceOf line
   unfolding priceOf
@@ -37,7 +37,7 @@ module _ (line : List ℕ) (lent : List ℤ) (room : 2048 ≤ length lent) where
       go : (o : Option Refusal) → lineRefusal line ≡ o → priceOr (some f) g ≡ priceOr o (lineGrid line)
       go none e = absurd (never f (lineGrid line .rows) (lineGrid line .columns) (a ∙ sym (read-answer e)))
       go (some f′) e =
-          ap (λ (x : Answer). record { number = x .number; units = 0; greedy = 0; openings-first = 0 }) (a ∙ sym (kept-refused line lent f′ (sym e) .answers))
+          ap (λ (x : Answer). record { number = x .number; units = 0; greedy = 0; openings-first = 0 }) (a ∙ sym (board-refused line lent f′ (sym e) .answers))
 
   -- a line that was read is refused by no check
   accepted : (rows columns : ℕ) → gives (rows ∷ columns ∷ []) ≡ boardLineCall line lent .answer → lineRefusal line ≡ none
@@ -45,9 +45,9 @@ module _ (line : List ℕ) (lent : List ℤ) (room : 2048 ≤ length lent) where
     where
       go : (o : Option Refusal) → lineRefusal line ≡ o → o ≡ none
       go none e = refl
-      go (some f) e = absurd (never f rows columns (kept-refused line lent f (sym e) .answers ∙ sym a))
+      go (some f) e = absurd (never f rows columns (board-refused line lent f (sym e) .answers ∙ sym a))
 
-  module _ (rows columns : ℕ) (values : List ℤ) (k : KeptGrid (boardLineCall line lent) (gives (rows ∷ columns ∷ [])) values) where
+  module _ (rows columns : ℕ) (values : List ℤ) (k : KeepsGrid (boardLineCall line lent) (gives (rows ∷ columns ∷ [])) values) where
     -- the grid at the start of the lent run is the line's
     same-grid : gridOf rows columns (take (rows * columns) values) ≡ lineGrid line
     same-grid =

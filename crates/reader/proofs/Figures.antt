@@ -2,6 +2,7 @@
 use Prim.Native.Nat.{ℕ, _*_}
 use native.Mathlib.Omega.{arith}
 use mathlib.Core.Path.{_≡_, ap, sym, _∙_}
+use mathlib.Core.Bool.{Bool}
 use mathlib.Core.List.{List, [], _∷_, _++_}
 use mathlib.Core.Option.{Option, none, some}
 use lib.IntN.{ℤ, pos}
@@ -10,8 +11,8 @@ use Rattle.game.specs.Grid.{Grid}
 use Rattle.game.specs.Openings.{threeBV}
 use Rattle.game.specs.Position.{untouched}
 use Rattle.game.specs.Area.{areaOf}
-use Rattle.game.specs.Rounds.{greedySteps, movesOf, openingsFirstSteps}
-use Rattle.game.specs.Calls.{Answer, Refusal, firstGiven, gives, greedyCall, gridChecks, listCheck, numberOf, openingsFirstCall, playedRound, refuses, threeBVCall, trace, unless, unlessListed}
+use Rattle.game.specs.Rounds.{greedySteps, movesOf, openingsFirstSteps, roundSteps}
+use Rattle.game.specs.Calls.{Answer, Refusal, firstGiven, gives, gridChecks, listCheck, numberOf, priceCall, pricedRound, refuses, threeBVCall, trace, unless, unlessListed}
 use Rattle.checks.proofs.Verdict.{all-fine}
 use Rattle.checks.proofs.More.{enough}
 use Rattle.lines.specs.PriceLine.{Price}
@@ -36,8 +37,7 @@ list = replicate 2048 0
 module _ (g : Grid) (taken : Taken (g .rows) (g .columns) (g .values)) where
   fine : none ≡ firstGiven (gridChecks g area)
   fine =
-      let s = taken .shaped in
-      all-fine g area (λ e. omega arith) (s .few-rows) (λ e. omega arith) (s .few-columns) (taken .whole) (omega (arith, taken .few, length-replicate 10240 (pos 0)))
+      all-fine g area (record { shaped = taken .shaped; whole = taken .whole; room = omega (arith, taken .few, length-replicate 10240 (pos 0)) })
 
   list-fine : none ≡ firstGiven (gridChecks g area ++ listCheck g list ∷ [])
   list-fine = enough (gridChecks g area) (length list) (g .rows * g .columns) trace fine (omega (arith, taken .few, length-replicate {A = ℕ} 2048 0))
@@ -46,13 +46,9 @@ module _ (g : Grid) (taken : Taken (g .rows) (g .columns) (g .values)) where
   unfolding threeBVCall
   units-answer = ap (λ (o : Option Refusal). unless o area (record { answer = gives (threeBV g ∷ []); work = areaOf g (untouched g) area }) .answer) (sym fine)
 
-  pub greedy-answer : greedyCall g area list .answer ≡ gives (length (movesOf (greedySteps g)) ∷ [])
-  unfolding greedyCall
-  greedy-answer = ap (λ (o : Option Refusal). unlessListed o area list (playedRound g (movesOf (greedySteps g)) area list) .answer) (sym list-fine)
-
-  pub openings-first-answer : openingsFirstCall g area list .answer ≡ gives (length (movesOf (openingsFirstSteps g)) ∷ [])
-  unfolding openingsFirstCall
-  openings-first-answer = ap (λ (o : Option Refusal). unlessListed o area list (playedRound g (movesOf (openingsFirstSteps g)) area list) .answer) (sym list-fine)
+  pub clicks-answer : (openings-first : Bool) → priceCall openings-first g area list .answer ≡ gives (length (movesOf (roundSteps openings-first g)) ∷ [])
+  unfolding priceCall
+  clicks-answer openings-first = ap (λ (o : Option Refusal). unlessListed o area list (pricedRound openings-first g area list) .answer) (sym list-fine)
 
 -- ---- a price by its parts
 

@@ -9,4 +9,4 @@ pub mod Figures
 pub mod Boards
 pub mod Lines
 pub mod Sessions
-pub mod Once
+pub mod OneAnswer

@@ -13,7 +13,7 @@ use Rattle.reader.specs.Prices.{answerLine}
 use Rattle.reader.specs.Blocks.{Cut, Desk, DeskOutcome, blockCall, cutFrom, deskAfter, endCall, heldAfter, keptOver, lastLine, printed, unlessDesk}
 use Rattle.reader.specs.Bytes.{Room, deskOf}
 use Rattle.reader.specs.Sessions.{AllAnswered, Fits, KeptOf, calls, joined, toPrint}
-use Rattle.reader.specs.Answers.{KeptDesk}
+use Rattle.reader.specs.Answers.{KeepsDesk}
 use Rattle.reader.proofs.After.{block-desk, held-reads, heldBy}
 use Rattle.reader.proofs.Cuts.{cut-joins}
 use Rattle.reader.proofs.Desks.{Keeps, Told, block-answers}
@@ -79,14 +79,14 @@ blocks-join b bs begun later e =
     ∙ ap (λ (x : Cut). concat-map answerLine (allLines x)) (sym (cut-joins begun b (joined bs)))
 
 -- none of the calls is refused, and they print the answers to these lines
-pub record Answers (lines : List (List ℕ)) (outcomes : List DeskOutcome) : Type 0 where
+pub record AnswersLines (lines : List (List ℕ)) (outcomes : List DeskOutcome) : Type 0 where
   pub passed : Each (λ (o : DeskOutcome). o .answer .number ≡ 0) outcomes
   pub said : concat-map toPrint outcomes ≡ concat-map answerLine lines
 
 answers-from : (blocks : List (List ℕ)) (begun held out : List ℕ) (count : ℕ) → Keeps begun held count → 517 ≤ length held → 15 ≤ length out → Each (Fits out) blocks
-    → Answers (allLines (cutFrom begun (joined blocks))) (calls blocks held count out)
+    → AnswersLines (allLines (cutFrom begun (joined blocks))) (calls blocks held count out)
 answers-from [] begun held out count k h r fits =
-    subst (λ (o : DeskOutcome). Answers (lastLine begun) (o ∷ [])) (end-comes begun held count k h out r)
+    subst (λ (o : DeskOutcome). AnswersLines (lastLine begun) (o ∷ [])) (end-comes begun held count k h out r)
     (record {
       passed = (refl, tt);
       said = append-nil _ ∙ said-first (lastLine (take count held)) out ∙ last-answer begun held count k h;
@@ -98,7 +98,7 @@ answers-from (b ∷ bs) begun held out count k h r (f, fits) =
     let rest =
     answers-from bs (cutFrom begun b .goes-on) (d .held) (d .out) (d .count) (t .keeps) (omega (arith, t .held-whole)) (omega (arith, room))
     (subst (λ (n : ℕ). Each (λ (b : List ℕ). 15 * length b ≤ n) bs) (sym room) fits) in
-    subst (λ (o : DeskOutcome). Answers (allLines (cutFrom begun (joined (b ∷ bs)))) (o ∷ calls bs (o .held) (getD (o .answer .values) 0 0) (o .out)))
+    subst (λ (o : DeskOutcome). AnswersLines (allLines (cutFrom begun (joined (b ∷ bs)))) (o ∷ calls bs (o .held) (getD (o .answer .values) 0 0) (o .out)))
     (block-comes begun held count k h b out f)
     (record {
       passed = (refl, rest .passed);
@@ -119,15 +119,15 @@ abbrev pub left : List ℕ → ℕ → List ℕ → ℕ → Desk
 left held kept out written = record { held = held; count = kept; out = out; written = written }
 
 -- a call whose checks passed left the desk that it is promised
-pub left-passed : (held out : List ℕ) (d : Desk) (o : DeskOutcome) → unlessDesk none held out d ≡ o → (held′ out′ : List ℕ) (kept written : ℕ) → KeptDesk o (gives (kept ∷ written ∷ [])) held′ out′ → left held′ kept out′ written ≡ d
+pub left-passed : (held out : List ℕ) (d : Desk) (o : DeskOutcome) → unlessDesk none held out d ≡ o → (held′ out′ : List ℕ) (kept written : ℕ) → KeepsDesk o (gives (kept ∷ written ∷ [])) held′ out′ → left held′ kept out′ written ≡ d
 left-passed held out d o e held′ out′ kept written k =
-    let q = subst (λ (p : DeskOutcome). KeptDesk p (gives (kept ∷ written ∷ [])) held′ out′) (sym e) k in
+    let q = subst (λ (p : DeskOutcome). KeepsDesk p (gives (kept ∷ written ∷ [])) held′ out′) (sym e) k in
     let same-kept : kept ≡ d .count = ap (λ (a : Answer). getD (a .values) 0 0) (q .answers) in
     let same-written : written ≡ d .written = ap (λ (a : Answer). getD (a .values) 1 0) (q .answers) in
     λ i. left (q .keeps i) (same-kept i) (q .prints i) (same-written i)
 
 -- and was not refused
-pub passed-not-refused : (held out : List ℕ) (d : Desk) (o : DeskOutcome) → unlessDesk none held out d ≡ o → (held′ out′ : List ℕ) (f : Refusal) → KeptDesk o (refuses f) held′ out′ → ⊥
+pub passed-not-refused : (held out : List ℕ) (d : Desk) (o : DeskOutcome) → unlessDesk none held out d ≡ o → (held′ out′ : List ℕ) (f : Refusal) → KeepsDesk o (refuses f) held′ out′ → ⊥
 passed-not-refused held out d o e held′ out′ f k = let z : _≡_ {A = ℕ} 0 2 = ap (λ (a : Answer). length (a .values)) (k .answers ∙ ap (λ (p : DeskOutcome). p .answer) (sym e)) in omega arith
 
 -- ---- what is kept from block to block

@@ -6,15 +6,14 @@ use native.Mathlib.Nat.{div-lt-iff-lt-mul, le-div-iff-mul-le}
 use mathlib.Core.Path.{_≡_, refl, ap, sym, _∙_}
 use mathlib.Core.Bool.{Bool, _||_, false, true}
 use mathlib.Core.List.{List, [], _∷_}
-use mathlib.Core.Option.{Option, none, some}
+use mathlib.Core.Option.{Option, Option·some-ne-none, none, some}
 use lib.Dec.{ltb}
 use lib.ListN.{length, take}
 use borrow.Author.Tests.{le-ltb, lt-ltb}
 use Rattle.game.specs.Calls.{Refusal, firstGiven, gives, refuses, trace, work}
-use Rattle.checks.proofs.Verdict.{none≢some}
 use Rattle.reader.specs.Blocks.{Desk, blockCall, cutFrom, deskAfter, endCall, heldCheck, lastLine, outCheck, unlessDesk}
 use Rattle.reader.specs.Bytes.{Room, blockRead, byteRead, deskOf}
-use Rattle.reader.specs.Answers.{KeptDesk}
+use Rattle.reader.specs.Answers.{KeepsDesk}
 use Rattle.reader.proofs.After.{block-desk, end-desk, end-none}
 
 -- ---- the refusal that is given
@@ -56,11 +55,11 @@ room-by m n h = omega (arith, le-div-iff-mul-le {k = 15} {x = n} {y = m} (omega 
 pub room-given : (held : List ℕ) (count : ℕ) (out : List ℕ) (n : ℕ) → given held count out n ≡ none → Room (deskOf held count out) n
 room-given held count out n e =
     elim (decLe 517 (length held)) [
-      | no h ↦ absurd (none≢some (short-held held count out n (omega arith) ∙ e))
+      | no h ↦ absurd (Option·some-ne-none _ (short-held held count out n (omega arith) ∙ e))
       | yes held-room ↦ elim (decLe count 517) [
-        | no h ↦ absurd (none≢some (many-kept held count out n held-room (omega arith) ∙ e))
+        | no h ↦ absurd (Option·some-ne-none _ (many-kept held count out n held-room (omega arith) ∙ e))
         | yes few ↦ elim (decLe (15 * n) (length out)) [
-          | no h ↦ absurd (none≢some (short-out held count out n held-room few (omega arith) ∙ e))
+          | no h ↦ absurd (Option·some-ne-none _ (short-out held count out n held-room few (omega arith) ∙ e))
           | yes out-room ↦ record { held-room = held-room; few = few; out-room = omega arith }
         ]
       ]
@@ -68,7 +67,7 @@ room-given held count out n e =
 
 -- ---- the promise is kept
 
-desk-refused : (o : Option Refusal) (f : Refusal) (held out : List ℕ) (d : Desk) → some f ≡ o → KeptDesk (unlessDesk o held out d) (refuses f) held out
+desk-refused : (o : Option Refusal) (f : Refusal) (held out : List ℕ) (d : Desk) → some f ≡ o → KeepsDesk (unlessDesk o held out d) (refuses f) held out
 desk-refused o f held out d e =
     record {
       answers = ap (λ (v : Option Refusal). unlessDesk v held out d .answer) e;
@@ -77,7 +76,7 @@ desk-refused o f held out d e =
     }
 
 desk-else : (o : Option Refusal) (held out : List ℕ) (d d′ : Desk) → none ≡ o → d′ ≡ d
-    → KeptDesk (unlessDesk o held out d) (gives (d′ .count ∷ d′ .written ∷ [])) (d′ .held) (d′ .out)
+    → KeepsDesk (unlessDesk o held out d) (gives (d′ .count ∷ d′ .written ∷ [])) (d′ .held) (d′ .out)
 desk-else o held out d d′ e q =
     record {
       answers = ap (λ (x : Desk). gives (x .count ∷ x .written ∷ [])) q ∙ ap (λ (v : Option Refusal). unlessDesk v held out d .answer) e;
@@ -85,12 +84,12 @@ desk-else o held out d d′ e q =
       prints = ap (λ (x : Desk). x .out) q ∙ ap (λ (v : Option Refusal). unlessDesk v held out d .out) e;
     }
 
-pub block-refused : (block held : List ℕ) (count : ℕ) (out : List ℕ) (f : Refusal) → some f ≡ given held count out (length block) → KeptDesk (blockCall block held count out) (refuses f) held out
+pub block-refused : (block held : List ℕ) (count : ℕ) (out : List ℕ) (f : Refusal) → some f ≡ given held count out (length block) → KeepsDesk (blockCall block held count out) (refuses f) held out
 unfolding blockCall
 block-refused block held count out f e = desk-refused (given held count out (length block)) f held out (deskAfter (cutFrom (take count held) block) held out) e
 
 pub block-kept : (block held : List ℕ) (count : ℕ) (out : List ℕ) (d : Desk) → none ≡ given held count out (length block) → d ≡ blockRead (deskOf held count out) block
-    → KeptDesk (blockCall block held count out) (gives (d .count ∷ d .written ∷ [])) (d .held) (d .out)
+    → KeepsDesk (blockCall block held count out) (gives (d .count ∷ d .written ∷ [])) (d .held) (d .out)
 unfolding blockCall
 block-kept block held count out d e q =
     desk-else (given held count out (length block)) held out (deskAfter (cutFrom (take count held) block) held out) d e
@@ -103,18 +102,18 @@ module _ (held : List ℕ) (count : ℕ) (out : List ℕ) where
   abbrev ended : Desk
   ended = deskAfter (record { ended = lastLine (take count held); goes-on = [] }) held out
 
-  pub end-refused : (f : Refusal) → some f ≡ given held count out 1 → KeptDesk (endCall held count out) (refuses f) held out
+  pub end-refused : (f : Refusal) → some f ≡ given held count out 1 → KeepsDesk (endCall held count out) (refuses f) held out
   unfolding endCall
   end-refused f e = desk-refused (given held count out 1) f held out ended e
 
-  pub end-empty : none ≡ given held count out 1 → count ≡ 0 → KeptDesk (endCall held count out) (gives (0 ∷ 0 ∷ [])) held out
+  pub end-empty : none ≡ given held count out 1 → count ≡ 0 → KeepsDesk (endCall held count out) (gives (0 ∷ 0 ∷ [])) held out
   unfolding endCall
   end-empty e z =
       desk-else (given held count out 1) held out ended (deskOf held 0 out) e
       (end-none held out ∙ ap (λ (n : ℕ). deskAfter (record { ended = lastLine (take n held); goes-on = [] }) held out) (sym z))
 
   pub end-answered : (d : Desk) → none ≡ given held count out 1 → (count ≡ 0 → ⊥) → d ≡ byteRead (deskOf held count out) 10
-      → KeptDesk (endCall held count out) (gives (d .count ∷ d .written ∷ [])) (d .held) (d .out)
+      → KeepsDesk (endCall held count out) (gives (d .count ∷ d .written ∷ [])) (d .held) (d .out)
   unfolding endCall
   end-answered d e some-kept q =
       desk-else (given held count out 1) held out ended d e (q ∙ end-desk held count out (room-given held count out 1 (sym e)) some-kept)

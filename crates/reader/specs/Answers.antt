@@ -2,18 +2,11 @@
 use Prim.Native.Nat.{ℕ}
 use mathlib.Core.Path.{_≡_}
 use mathlib.Core.List.{List, [], _∷_}
-use Rattle.game.specs.Calls.{Answer, gives, refuses, trace, work}
-use Rattle.game.specs.Calls as Game
+use Rattle.game.specs.Calls.{Answer, gives, refuses}
+use Rattle.refusals.specs.Names.{named}
 use Rattle.reader.specs.Blocks.{DeskOutcome}
-use Rattle.reader.specs.declared.Refusal.{Refusal}
-use Rattle.reader.specs.declared.Refusal.the-variants.{Trace, Work}
 use Rattle.reader.specs.declared.Answered.{Answered}
 use Rattle.reader.specs.declared.Answered.the-variants.{Kept, Refused}
-
--- the refusal of that name
-abbrev pub named : Refusal → Game.Refusal
-named Work = work
-named Trace = trace
 
 -- a block answered: 0, the bytes kept and the bytes to be printed, or the refusal's number alone
 abbrev pub answeredAnswer : Answered → Answer
@@ -21,7 +14,7 @@ answeredAnswer (Kept count written) = gives (count ∷ written ∷ [])
 answeredAnswer (Refused f) = refuses (named f)
 
 -- a call with a block keeps its promise
-pub record KeptDesk (promise : DeskOutcome) (answer : Answer) (held out : List ℕ) : Type 0 where
+pub record KeepsDesk (promise : DeskOutcome) (answer : Answer) (held out : List ℕ) : Type 0 where
   pub answers : answer ≡ promise .answer
   pub keeps : held ≡ promise .held
   pub prints : out ≡ promise .out

@@ -1,11 +1,11 @@
 // A block of input answered: its lines priced as they end, and the line that goes on kept.
 use crate::Answered;
-use crate::Refusal;
+use refusals::Refusal;
 ghost use mathlib.Core.Path.{_≡_};
 ghost use lib.ListN.{length};
 ghost use Rattle.reader.specs.Blocks.{blockCall, endCall};
 ghost use Rattle.reader.specs.Bytes.{Room, blockRead, byteRead, deskAt, deskOf};
-ghost use Rattle.reader.specs.Answers.{KeptDesk, answeredAnswer};
+ghost use Rattle.reader.specs.Answers.{KeepsDesk, answeredAnswer};
 
 // How much is kept of the line that goes on, and how much is to be printed.
 pub struct Place {
@@ -65,7 +65,7 @@ fn read_block(block: &[u8], held: &mut [u8], count: usize, out: &mut [u8]) -> Pl
 
 // A block of input: the lines that end in it are answered, and what goes on is kept.
 pub fn answer_block(block: &[u8], held: &mut [u8], count: usize, out: &mut [u8]) -> Answered
-    ensures { λ r. ⌜ KeptDesk (blockCall (now (block .entry)) (now (held .entry)) count (now (out .entry))) (answeredAnswer r) (now (held .exit)) (now (out .exit)) ⌝ }
+    ensures { λ r. ⌜ KeepsDesk (blockCall (now (block .entry)) (now (held .entry)) count (now (out .entry))) (answeredAnswer r) (now (held .exit)) (now (out .exit)) ⌝ }
 {
     if held.len() < 517 {
         return Answered::Refused(Refusal::Work);
@@ -84,7 +84,7 @@ pub fn answer_block(block: &[u8], held: &mut [u8], count: usize, out: &mut [u8])
 
 // The end of input: a line that goes on is answered as if its line feed were there.
 pub fn answer_end(held: &[u8], count: usize, out: &mut [u8]) -> Answered
-    ensures { λ r. ⌜ KeptDesk (endCall (now (held .entry)) count (now (out .entry))) (answeredAnswer r) (now (held .entry)) (now (out .exit)) ⌝ }
+    ensures { λ r. ⌜ KeepsDesk (endCall (now (held .entry)) count (now (out .entry))) (answeredAnswer r) (now (held .entry)) (now (out .exit)) ⌝ }
 {
     if held.len() < 517 {
         return Answered::Refused(Refusal::Work);

@@ -1,12 +1,8 @@
 // The board reader's work on slices: one line priced, and a block of input answered.
+use refusals::Refusal;
+
 pub mod price; // one line priced
 pub mod block; // a block of input answered
-
-// Why a block is refused.
-pub enum Refusal {
-    Work,
-    Trace,
-}
 
 // What a call with a block answers: the bytes kept of the line that goes on, and the bytes to be printed.
 pub enum Answered {

@@ -1,6 +1,7 @@
 // One line priced.
 use lines::board::Board;
 use lines::price::Price;
+use refusals::Refusal;
 use zini::Counted;
 use zini::Priced;
 ghost use Prim.Native.Nat.{ℕ};
@@ -10,11 +11,11 @@ ghost use mathlib.Core.Option.{none, some};
 ghost use lib.ListN.{length};
 ghost use Rattle.game.specs.Grid.{Grid};
 ghost use Rattle.game.specs.Openings.{threeBV};
-ghost use Rattle.game.specs.Rounds.{greedySteps, movesOf, openingsFirstSteps};
-ghost use Rattle.game.specs.Calls.{gives, numberOf};
+ghost use Rattle.game.specs.Rounds.{movesOf, roundSteps};
+ghost use Rattle.game.specs.Calls.{gives};
 ghost use Rattle.area.specs.Numbers.{gridOf};
 ghost use Rattle.zini.specs.Answers.{countedAnswer, pricedAnswer};
-ghost use Rattle.lines.specs.Answers.{named};
+ghost use Rattle.refusals.specs.Names.{named};
 ghost use Rattle.lines.specs.PriceLine.{heldPrice};
 ghost use Rattle.reader.specs.Taken.{Taken};
 ghost use Rattle.reader.specs.Prices.{priceOf, priceOr};
@@ -49,25 +50,14 @@ fn units(rows: usize, columns: usize, grid: &[i32]) -> usize
     units_of(counted)
 }
 
-// Greedy clicks of a board that was taken.
-fn greedy(rows: usize, columns: usize, grid: &[i32]) -> usize
+// Greedy or openings-first clicks of a board that was taken.
+fn clicks(rows: usize, columns: usize, grid: &[i32], openings_first: bool) -> usize
     requires { ⌜ Taken rows columns (now grid) ⌝ }
-    ensures { λ r. ⌜ r ≡ length (movesOf (greedySteps (gridOf rows columns (now (grid .entry))))) ⌝ }
+    ensures { λ r. ⌜ r ≡ length (movesOf (roundSteps «openings_first» (gridOf rows columns (now (grid .entry))))) ⌝ }
 {
     let mut work = [0i32; 10240];
     let mut list = [0u32; 2048];
-    let priced = zini::prices::greedy(rows, columns, grid, &mut work, &mut list);
-    clicks_of(priced)
-}
-
-// Openings-first clicks of a board that was taken.
-fn openings_first(rows: usize, columns: usize, grid: &[i32]) -> usize
-    requires { ⌜ Taken rows columns (now grid) ⌝ }
-    ensures { λ r. ⌜ r ≡ length (movesOf (openingsFirstSteps (gridOf rows columns (now (grid .entry))))) ⌝ }
-{
-    let mut work = [0i32; 10240];
-    let mut list = [0u32; 2048];
-    let priced = zini::prices::openings_first(rows, columns, grid, &mut work, &mut list);
+    let priced = zini::prices::price(rows, columns, grid, &mut work, &mut list, openings_first);
     clicks_of(priced)
 }
 
@@ -77,8 +67,8 @@ fn priced(rows: usize, columns: usize, grid: &[i32]) -> Price
     ensures { λ r. ⌜ heldPrice r ≡ priceOr none (gridOf rows columns (now (grid .entry))) ⌝ }
 {
     let units = units(rows, columns, grid);
-    let greedy = greedy(rows, columns, grid);
-    let openings_first = openings_first(rows, columns, grid);
+    let greedy = clicks(rows, columns, grid, false);
+    let openings_first = clicks(rows, columns, grid, true);
     Price {
         number: 0,
         units,
@@ -87,24 +77,11 @@ fn priced(rows: usize, columns: usize, grid: &[i32]) -> Price
     }
 }
 
-// The number of a line's refusal.
-pub fn number_of(refusal: lines::Refusal) -> usize
-    ensures { λ r. ⌜ r ≡ numberOf (named refusal) ⌝ }
-{
-    match refusal {
-        lines::Refusal::Shape => 1,
-        lines::Refusal::Board => 2,
-        lines::Refusal::Trace => 4,
-        lines::Refusal::Frame => 8,
-        lines::Refusal::Size => 9,
-    }
-}
-
 // The price of a line that is refused: zeros after its number.
-fn refused(refusal: lines::Refusal) -> Price
+fn refused(refusal: Refusal) -> Price
     ensures { λ r. ⌜ ((g : Grid) → heldPrice r ≡ priceOr (some (named refusal)) g) ⌝ }
 {
-    let number = number_of(refusal);
+    let number = refusals::number_of(refusal) as usize;
     Price {
         number,
         units: 0,

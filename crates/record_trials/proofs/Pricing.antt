@@ -48,12 +48,13 @@ use denote.Triple.Table.{entered, cited}
 use denote.Triple.Walked.{says, Stays, gave-slice, stay-none, stay-none-slice, walkOf, Walks, ends-at, walked, goes-gave-slice, goes-none, goes-none-slice, walk-meets}
 use denote.Exit.{yes}
 use Rattle.area.specs.Numbers.{gridOf}
+use Rattle.game.specs.Calls.{priceCall}
 use Rattle.zini.specs.Answers.{pricedAnswer}
 use Rattle.zini.specs.declared.Priced.{Priced}
 use Rattle.zini.proofs.Priced as S
 use Rattle.zini.proofs.Priced.Laws as S′
 use Rattle.records.specs.declared.MoveRecord.{MoveRecord}
-use Rattle.by_records.specs.Promises.{KeptRun, priceCall, within}
+use Rattle.by_records.specs.Promises.{KeepsRecords, inRecords, within}
 use Rattle.by_records.proofs.greedy_records as by
 use Rattle.by_records.proofs.greedy_records.Symbol as greedy-def
 use Rattle.by_records.proofs.greedy_records.Symbol.{name as #by-records·greedy-records}
@@ -112,7 +113,7 @@ clauses 𝓤 b κs a =
     record {
       ghost = Unit {0};
       requires = λ _. emp 𝓤;
-      ensures = λ _ r e. fact 𝓤 (KeptRun g (within g ws ms 9 (priceCall b g ws ms)) rs (pricedAnswer (r .answer)) (now (e .1 .1 .1 .0)) (now (e .1 .1 .1 .1 .0)) (r .run));
+      ensures = λ _ r e. fact 𝓤 (KeepsRecords (inRecords g (within g ws ms 9 (priceCall b g ws ms)) rs) (pricedAnswer (r .answer)) (now (e .1 .1 .1 .0)) (now (e .1 .1 .1 .1 .0)) (r .run));
     }
 
 abbrev called : {M : Type 1} (𝓤 : URA M) → Bool → Clauses 𝓤 by.ended
@@ -121,7 +122,7 @@ called 𝓤 b κs a =
     record {
       ghost = Unit {0};
       requires = λ _. emp 𝓤;
-      ensures = λ _ r e. fact 𝓤 (KeptRun g (within g ws ms (length rs) (priceCall b g ws ms)) rs (pricedAnswer r) (now (e .1 .1 .1 .0)) (now (e .1 .1 .1 .1 .0)) (now (e .1 .1 .1 .1 .1 .0)));
+      ensures = λ _ r e. fact 𝓤 (KeepsRecords (inRecords g (within g ws ms (length rs) (priceCall b g ws ms)) rs) (pricedAnswer r) (now (e .1 .1 .1 .0)) (now (e .1 .1 .1 .1 .0)) (now (e .1 .1 .1 .1 .1 .0)));
     }
 
 module _ {M : Type 1} (𝓤 : URA M) (H : Heap 𝓤) (A : Atoms 𝓤) where
@@ -159,7 +160,7 @@ module _ {M : Type 1} (𝓤 : URA M) (H : Heap 𝓤) (A : Atoms 𝓤) (W : Given
   abbrev Promised : ℕ → Priced → List ℤ → List ℕ → List MoveRecord → Type 0
   Promised n r w l zs =
       let g = gridOf rows columns (now grid) in
-      KeptRun g (within g (now work) (now list) n (priceCall openings-first g (now work) (now list))) ys (pricedAnswer r) w l zs
+      KeepsRecords (inRecords g (within g (now work) (now list) n (priceCall openings-first g (now work) (now list))) ys) (pricedAnswer r) w l zs
 
   abbrev OwnGrid : Fml
   OwnGrid = ShrSlice (named 0) κg i32 .own grid (vg ∷ [])

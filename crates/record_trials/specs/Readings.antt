@@ -6,13 +6,13 @@ use lib.IntN.{ℤ}
 use lib.ListN.{drop}
 use Rattle.game.specs.Grid.{Grid}
 use Rattle.game.specs.Calls.{randomRoundCall, randomSearchCall}
-use Rattle.zini.specs.Answers.{Kept, KeptList, rolledAnswer}
+use Rattle.zini.specs.Answers.{Keeps, KeepsList, rolledAnswer}
 use Rattle.zini.specs.declared.Rolled.{Rolled}
 use Rattle.by_reader.specs.Stands.{standsAt}
 
 -- the promises of both calls, from a place of the bytes; between is the work area after the round
 pub record Twice (g : Grid) (ws : List ℤ) (ms bytes : List ℕ) (place rounds : ℕ) (round search : Rolled) (end : ℕ) (work : List ℤ) (list : List ℕ) : Type 0 where
   pub between : List ℤ
-  pub first : KeptList (randomRoundCall g ws ms (drop place bytes)) (rolledAnswer round) between list
-  pub second : Kept (randomSearchCall g between (drop (standsAt round place) bytes) rounds) (rolledAnswer search) work
+  pub first : KeepsList (randomRoundCall g ws ms (drop place bytes)) (rolledAnswer round) between list
+  pub second : Keeps (randomSearchCall g between (drop (standsAt round place) bytes) rounds) (rolledAnswer search) work
   pub stands : end ≡ standsAt search (standsAt round place)

@@ -7,8 +7,8 @@ use zini::Replayed;
 use zini::Rolled;
 ghost use Rattle.game.specs.Calls.{greedyCall, openingsFirstCall, randomRoundCall};
 ghost use Rattle.area.specs.Numbers.{gridOf};
-ghost use Rattle.zini.specs.Answers.{pricedAnswer, replayedAnswer, rolledAnswer};
-ghost use Rattle.by_records.specs.Promises.{KeptReplay, KeptRun, within};
+ghost use Rattle.zini.specs.Answers.{KeepsList, pricedAnswer, replayedAnswer, rolledAnswer};
+ghost use Rattle.by_records.specs.Promises.{KeepsRecords, inRecords, replayRecordsCall, within};
 ghost use Rattle.record_trials.specs.Readings.{Twice};
 
 // What greedy or openings-first answers, and the run that was lent.
@@ -39,7 +39,7 @@ fn greedy_run(
     list: &mut [u32],
     run: [MoveRecord; 9],
 ) -> PricedRun
-    ensures { λ r. ⌜ KeptRun (gridOf rows columns (now (grid .entry))) (within (gridOf rows columns (now (grid .entry))) (now (work .entry)) (now (list .entry)) 9 (greedyCall (gridOf rows columns (now (grid .entry))) (now (work .entry)) (now (list .entry)))) run (pricedAnswer (r .answer)) (now (work .exit)) (now (list .exit)) (r .run) ⌝ }
+    ensures { λ r. ⌜ KeepsRecords (inRecords (gridOf rows columns (now (grid .entry))) (within (gridOf rows columns (now (grid .entry))) (now (work .entry)) (now (list .entry)) 9 (greedyCall (gridOf rows columns (now (grid .entry))) (now (work .entry)) (now (list .entry)))) run) (pricedAnswer (r .answer)) (now (work .exit)) (now (list .exit)) (r .run) ⌝ }
 {
     let mut lent = run;
     let answer = by_records::greedy_records(rows, columns, grid, work, list, &mut lent);
@@ -55,7 +55,7 @@ fn openings_first_run(
     list: &mut [u32],
     run: [MoveRecord; 9],
 ) -> PricedRun
-    ensures { λ r. ⌜ KeptRun (gridOf rows columns (now (grid .entry))) (within (gridOf rows columns (now (grid .entry))) (now (work .entry)) (now (list .entry)) 9 (openingsFirstCall (gridOf rows columns (now (grid .entry))) (now (work .entry)) (now (list .entry)))) run (pricedAnswer (r .answer)) (now (work .exit)) (now (list .exit)) (r .run) ⌝ }
+    ensures { λ r. ⌜ KeepsRecords (inRecords (gridOf rows columns (now (grid .entry))) (within (gridOf rows columns (now (grid .entry))) (now (work .entry)) (now (list .entry)) 9 (openingsFirstCall (gridOf rows columns (now (grid .entry))) (now (work .entry)) (now (list .entry)))) run) (pricedAnswer (r .answer)) (now (work .exit)) (now (list .exit)) (r .run) ⌝ }
 {
     let mut lent = run;
     let answer = by_records::openings_first_records(rows, columns, grid, work, list, &mut lent);
@@ -72,7 +72,7 @@ fn random_run(
     run: [MoveRecord; 9],
     draws: &[u8],
 ) -> RolledRun
-    ensures { λ r. ⌜ KeptRun (gridOf rows columns (now (grid .entry))) (within (gridOf rows columns (now (grid .entry))) (now (work .entry)) (now (list .entry)) 9 (randomRoundCall (gridOf rows columns (now (grid .entry))) (now (work .entry)) (now (list .entry)) (now (draws .entry)))) run (rolledAnswer (r .answer)) (now (work .exit)) (now (list .exit)) (r .run) ⌝ }
+    ensures { λ r. ⌜ KeepsRecords (inRecords (gridOf rows columns (now (grid .entry))) (within (gridOf rows columns (now (grid .entry))) (now (work .entry)) (now (list .entry)) 9 (randomRoundCall (gridOf rows columns (now (grid .entry))) (now (work .entry)) (now (list .entry)) (now (draws .entry)))) run) (rolledAnswer (r .answer)) (now (work .exit)) (now (list .exit)) (r .run) ⌝ }
 {
     let mut lent = run;
     let answer = by_records::random_round_records(
@@ -97,7 +97,7 @@ fn replay_run(
     run: [MoveRecord; 9],
     count: usize,
 ) -> Replayed
-    ensures { λ r. ⌜ KeptReplay (gridOf rows columns (now (grid .entry))) (now (work .entry)) (now (list .entry)) run count (replayedAnswer r) (now (work .exit)) (now (list .exit)) ⌝ }
+    ensures { λ r. ⌜ KeepsList (replayRecordsCall (gridOf rows columns (now (grid .entry))) (now (work .entry)) (now (list .entry)) run count) (replayedAnswer r) (now (work .exit)) (now (list .exit)) ⌝ }
 {
     by_records::replay_records(rows, columns, grid, work, list, &run, count)
 }
@@ -138,7 +138,7 @@ fn plain(number: u64, first: u64, second: u64) -> Plain {
 fn of_priced(answer: Priced) -> Plain {
     match answer {
         Priced::Clicks(clicks) => plain(0, clicks as u64, 0),
-        Priced::Refused(refusal) => plain(checks::number_of(refusal) as u64, 0, 0),
+        Priced::Refused(refusal) => plain(refusals::number_of(refusal) as u64, 0, 0),
     }
 }
 
@@ -146,7 +146,7 @@ fn of_priced(answer: Priced) -> Plain {
 fn of_rolled(answer: Rolled) -> Plain {
     match answer {
         Rolled::Clicks(clicks, used) => plain(0, clicks as u64, used as u64),
-        Rolled::Refused(refusal) => plain(checks::number_of(refusal) as u64, 0, 0),
+        Rolled::Refused(refusal) => plain(refusals::number_of(refusal) as u64, 0, 0),
     }
 }
 
@@ -155,7 +155,7 @@ fn of_replayed(answer: Replayed) -> Plain {
     match answer {
         Replayed::Played(made, closed) => plain(0, made as u64, closed as u64),
         Replayed::Move(place) => plain(7, place as u64, 0),
-        Replayed::Refused(refusal) => plain(checks::number_of(refusal) as u64, 0, 0),
+        Replayed::Refused(refusal) => plain(refusals::number_of(refusal) as u64, 0, 0),
     }
 }
 

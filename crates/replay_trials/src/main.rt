@@ -6,7 +6,7 @@ fn taken_apart(answer: Replayed) -> Plain {
     match answer {
         Replayed::Played(made, closed) => made_plain(0, made as u64, closed as u64),
         Replayed::Move(place) => made_plain(7, place as u64, 0),
-        Replayed::Refused(refusal) => made_plain(checks::number_of(refusal) as u64, 0, 0),
+        Replayed::Refused(refusal) => made_plain(refusals::number_of(refusal) as u64, 0, 0),
     }
 }
 

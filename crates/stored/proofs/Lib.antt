@@ -1,4 +1,4 @@
 pub mod Words
 pub mod MoveCalls
 pub mod Stores
-pub mod Once
+pub mod OneAnswer

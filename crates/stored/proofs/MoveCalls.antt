@@ -3,7 +3,7 @@ use Prim.Native.Nat.{ℕ, _+_, _*_, _%_, _<_, _≤_}
 use mathlib.Core.Path.{_≡_, ap, refl, sym, _∙_}
 use mathlib.Core.Bool.{Bool, true, false, not, _||_}
 use mathlib.Core.List.{List, [], _∷_}
-use mathlib.Core.Option.{Option, none, some}
+use mathlib.Core.Option.{Option, Option·some-ne-none, none, some}
 use lib.Dec.{eqb, ltb}
 use lib.ListN.{length, take}
 use borrow.Author.Tests.{eq-eqb, eqb-true, le-ltb, lt-ltb, ltb-false, ne-eqb, not-false}
@@ -12,8 +12,10 @@ use Rattle.game.specs.Area.{begun}
 use Rattle.game.specs.Calls.{Answer, Refusal, firstGiven, frame, gives, refuses, shape, sideOut, trace}
 use Rattle.hex.specs.Hex.{isWrong}
 use Rattle.stored.specs.MoveLine.{RunOutcome, moveLine, moveLineChecks, readMovesCall, storedOf, unlessGiven, writeChecks, writeMovesCall}
-use Rattle.stored.specs.Answers.{KeptRun}
-use Rattle.lines.proofs.Verdict.{columnsByte, either-false, none≢some, rowsByte, side-fine, side-in, side-none}
+use Rattle.stored.specs.Answers.{KeepsRun}
+use Rattle.game.proofs.Checks.{side-in}
+use Rattle.game.proofs.Truth.{or-no}
+use Rattle.lines.proofs.Verdict.{columnsByte, rowsByte, side-fine, side-none}
 use Rattle.stored.proofs.Words.{wordsIn}
 
 second-holds : (a b : Bool) → b ≡ true → (a || b) ≡ true
@@ -90,18 +92,18 @@ pub record PassedMoves (line lent : List ℕ) : Type 0 where
   pub room : length (wordsIn line) ≤ length lent
 
 none-given : (a b s t : Bool) → readVerdict a b s t ≡ none → (a ≡ false) × (b ≡ false) × (s ≡ false) × (t ≡ false)
-none-given true b s t e = absurd (none≢some e)
-none-given false true s t e = absurd (none≢some e)
-none-given false false true t e = absurd (none≢some e)
-none-given false false false true e = absurd (none≢some e)
+none-given true b s t e = absurd (Option·some-ne-none _ e)
+none-given false true s t e = absurd (Option·some-ne-none _ e)
+none-given false false true t e = absurd (Option·some-ne-none _ e)
+none-given false false false true e = absurd (Option·some-ne-none _ e)
 none-given false false false false e = (refl, refl, refl, refl)
 
 pub passed-moves : (line lent : List ℕ) → firstGiven (moveLineChecks line lent) ≡ none → PassedMoves line lent
 unfolding storedOf
 passed-moves line lent e =
     let q = none-given (some-of isWrong line) (ltb (length line) 4 || not (eqb (length line % 8) 4)) (sideOut (rowsByte line) || sideOut (columnsByte line)) (ltb (length lent) (length (wordsIn line))) e in
-    let f = either-false (ltb (length line) 4) (not (eqb (length line % 8) 4)) (q .1) in
-    let s = either-false (sideOut (rowsByte line)) (sideOut (columnsByte line)) (q .2) in
+    let f = or-no (ltb (length line) 4) (not (eqb (length line % 8) 4)) (q .1) in
+    let s = or-no (sideOut (rowsByte line)) (sideOut (columnsByte line)) (q .2) in
     record {
       clean = q .0;
       enough = ltb-false (length line) 4 (f .0);
@@ -158,15 +160,15 @@ pub record PassedWrite (rows columns : ℕ) (list : List ℕ) (n : ℕ) (lent : 
   pub room : 4 + 8 * n ≤ length lent
 
 none-written : (s t f : Bool) → writeVerdict s t f ≡ none → (s ≡ false) × (t ≡ false) × (f ≡ false)
-none-written true t f e = absurd (none≢some e)
-none-written false true f e = absurd (none≢some e)
-none-written false false true e = absurd (none≢some e)
+none-written true t f e = absurd (Option·some-ne-none _ e)
+none-written false true f e = absurd (Option·some-ne-none _ e)
+none-written false false true e = absurd (Option·some-ne-none _ e)
 none-written false false false e = (refl, refl, refl)
 
 pub passed-write : (rows columns : ℕ) (list : List ℕ) (n : ℕ) (lent : List ℕ) → firstGiven (writeChecks rows columns list n lent) ≡ none → PassedWrite rows columns list n lent
 passed-write rows columns list n lent e =
     let q = none-written (sideOut rows || sideOut columns) (ltb (length list) n) (ltb (length lent) (4 + 8 * n)) e in
-    let s = either-false (sideOut rows) (sideOut columns) (q .0) in
+    let s = or-no (sideOut rows) (sideOut columns) (q .0) in
     record {
       some-rows = side-in rows (s .0) .0;
       few-rows = side-in rows (s .0) .1;
@@ -179,14 +181,14 @@ passed-write rows columns list n lent e =
 -- ---- what a call comes to
 
 module _ (o : Option Refusal) (lent : List ℕ) (x : RunOutcome) where
-  pub run-refused : (f : Refusal) → some f ≡ o → KeptRun (unlessGiven o lent x) (refuses f) lent
+  pub run-refused : (f : Refusal) → some f ≡ o → KeepsRun (unlessGiven o lent x) (refuses f) lent
   run-refused f e =
       record {
         answers = ap (λ (v : Option Refusal). unlessGiven v lent x .answer) e;
         leaves = ap (λ (v : Option Refusal). unlessGiven v lent x .run) e;
       }
 
-  pub run-else : (a : Answer) (run : List ℕ) → none ≡ o → a ≡ x .answer → run ≡ x .run → KeptRun (unlessGiven o lent x) a run
+  pub run-else : (a : Answer) (run : List ℕ) → none ≡ o → a ≡ x .answer → run ≡ x .run → KeepsRun (unlessGiven o lent x) a run
   run-else a run e f g =
       record {
         answers = f ∙ ap (λ (v : Option Refusal). unlessGiven v lent x .answer) e;
@@ -194,21 +196,21 @@ module _ (o : Option Refusal) (lent : List ℕ) (x : RunOutcome) where
       }
 
 module _ (line lent : List ℕ) where
-  pub read-refused : (f : Refusal) → some f ≡ firstGiven (moveLineChecks line lent) → KeptRun (readMovesCall line lent) (refuses f) lent
+  pub read-refused : (f : Refusal) → some f ≡ firstGiven (moveLineChecks line lent) → KeepsRun (readMovesCall line lent) (refuses f) lent
   unfolding readMovesCall
   read-refused f e = run-refused (firstGiven (moveLineChecks line lent)) lent _ f e
 
   pub read-kept : (rows columns n : ℕ) (run : List ℕ) → none ≡ firstGiven (moveLineChecks line lent) → rows ≡ rowsByte line → columns ≡ columnsByte line → n ≡ length (wordsIn line) → run ≡ begun (wordsIn line) lent
-      → KeptRun (readMovesCall line lent) (gives (rows ∷ columns ∷ n ∷ [])) run
+      → KeepsRun (readMovesCall line lent) (gives (rows ∷ columns ∷ n ∷ [])) run
   unfolding readMovesCall storedOf
   read-kept rows columns n run e r c k w = run-else (firstGiven (moveLineChecks line lent)) lent _ (gives (rows ∷ columns ∷ n ∷ [])) run e (λ i. gives (r i ∷ c i ∷ k i ∷ [])) w
 
 module _ (rows columns : ℕ) (list : List ℕ) (n : ℕ) (lent : List ℕ) where
-  pub write-refused : (f : Refusal) → some f ≡ firstGiven (writeChecks rows columns list n lent) → KeptRun (writeMovesCall rows columns list n lent) (refuses f) lent
+  pub write-refused : (f : Refusal) → some f ≡ firstGiven (writeChecks rows columns list n lent) → KeepsRun (writeMovesCall rows columns list n lent) (refuses f) lent
   unfolding writeMovesCall
   write-refused f e = run-refused (firstGiven (writeChecks rows columns list n lent)) lent _ f e
 
   pub write-kept : (digits : ℕ) (run : List ℕ) → none ≡ firstGiven (writeChecks rows columns list n lent) → digits ≡ 4 + 8 * n → run ≡ begun (moveLine rows columns (take n list)) lent
-      → KeptRun (writeMovesCall rows columns list n lent) (gives (digits ∷ [])) run
+      → KeepsRun (writeMovesCall rows columns list n lent) (gives (digits ∷ [])) run
   unfolding writeMovesCall
   write-kept digits run e d w = run-else (firstGiven (writeChecks rows columns list n lent)) lent _ (gives (digits ∷ [])) run e (λ i. gives (d i ∷ [])) w

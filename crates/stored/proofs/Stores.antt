@@ -3,7 +3,7 @@ use Prim.Native.Nat.{ℕ, _+_, _-_, _*_, _/_, _%_, _<_, _≤_}
 use native.Mathlib.Omega.{arith}
 use native.Mathlib.Decide.{decLe}
 use mathlib.Core.Path.{_≡_, ap, refl, sym, _∙_}
-use mathlib.Core.Bool.{Bool, true, false, _||_, cond, not}
+use mathlib.Core.Bool.{Bool, true, false, true≢false, _||_, cond, not}
 use mathlib.Core.List.{List, [], _∷_}
 use mathlib.Core.Option.{none}
 use lib.Dec.{ltb}
@@ -14,7 +14,8 @@ use Rattle.hex.specs.Hex.{byteDigits, bytesOf, hexDigit, hexValue, isDecimal, i
 use Rattle.stored.specs.MoveLine.{moveLine, moveLineChecks, storedOf, wordBytes, wordsOf}
 use Rattle.hex.proofs.Digits.{from-low, high-digit, inside, low-digit, over, to-high, value-small}
 use Rattle.hex.proofs.Bytes.{length-bytes}
-use Rattle.lines.proofs.Verdict.{columnsByte, either-false, rowsByte, true≢false}
+use Rattle.game.proofs.Truth.{or-no}
+use Rattle.lines.proofs.Verdict.{columnsByte, rowsByte}
 use Rattle.stored.proofs.Words.{length-line, wordsIn}
 use Rattle.stored.proofs.MoveCalls.{but-room, passed-moves}
 
@@ -98,8 +99,8 @@ digits-back : (line : List ℕ) → some-of isWrong line ≡ false → length li
 digits-back [] e h = refl
 digits-back (d ∷ []) e h = absurd (omega arith)
 digits-back (d ∷ f ∷ ds) e h =
-    let p = either-false (isWrong d) (isWrong f || some-of isWrong ds) e in
-    let q = either-false (isWrong f) (some-of isWrong ds) (p .1) in
+    let p = or-no (isWrong d) (isWrong f || some-of isWrong ds) e in
+    let q = or-no (isWrong f) (some-of isWrong ds) (p .1) in
     let high : (16 * hexValue d + hexValue f) / 16 ≡ hexValue d = omega (arith, value-small f) in
     let low : (16 * hexValue d + hexValue f) % 16 ≡ hexValue f = omega (arith, value-small f) in
     λ i. (ap hexDigit high ∙ digit-back d (p .0)) i ∷ (ap hexDigit low ∙ digit-back f (q .0)) i ∷ digits-back ds (q .1) (omega arith) i

@@ -3,7 +3,7 @@ use mathlib.Core.Path.{_≡_}
 use mathlib.Core.List.{List, [], _∷_}
 use Prim.Native.Nat.{ℕ}
 use Rattle.game.specs.Calls.{Answer, gives, refuses}
-use Rattle.lines.specs.Answers.{named}
+use Rattle.refusals.specs.Names.{named}
 use Rattle.stored.specs.MoveLine.{RunOutcome}
 use Rattle.stored.specs.declared.MovesRead.{MovesRead}
 use Rattle.stored.specs.declared.MovesRead.the-variants as Reads
@@ -21,6 +21,6 @@ writtenAnswer (Writes.Digits n) = gives (n ∷ [])
 writtenAnswer (Writes.Refused f) = refuses (named f)
 
 -- a call that writes into one lent run keeps its promise
-pub record KeptRun (promise : RunOutcome) (answer : Answer) (run : List ℕ) : Type 0 where
+pub record KeepsRun (promise : RunOutcome) (answer : Answer) (run : List ℕ) : Type 0 where
   pub answers : answer ≡ promise .answer
   pub leaves : run ≡ promise .run

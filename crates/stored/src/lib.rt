@@ -1,7 +1,7 @@
 // Stored move lists: rows, columns, then each move as four bytes, high first.
-use lines::Checked;
-use lines::Refusal;
 use lines::board;
+use refusals::Checked;
+use refusals::Refusal;
 ghost use mathlib.Core.Path.{_≡_};
 ghost use Prim.Native.Nat.{_+_, _*_, _<_, _≤_};
 ghost use lib.ListN.{drop, getD, length, take};
@@ -11,8 +11,8 @@ ghost use Rattle.game.specs.Area.{begun};
 ghost use Rattle.game.specs.Calls.{firstGiven};
 ghost use Rattle.hex.specs.Hex.{byteDigits, bytesOf};
 ghost use Rattle.stored.specs.MoveLine.{moveLine, moveLineChecks, readMovesCall, wordBytes, wordDigits, wordsOf, writeChecks, writeMovesCall};
-ghost use Rattle.stored.specs.Answers.{KeptRun, readAnswer, writtenAnswer};
-ghost use Rattle.lines.specs.Answers.{refusalOf};
+ghost use Rattle.stored.specs.Answers.{KeepsRun, readAnswer, writtenAnswer};
+ghost use Rattle.refusals.specs.Names.{refusalOf};
 
 // What reading a stored line answers: rows, columns and how many moves.
 pub enum MovesRead {
@@ -75,7 +75,7 @@ fn check_moves(line: &[u8], list: &[u32]) -> Checked
 
 // A stored line without its line feed read: rows, columns and how many moves, and the moves at the start of the list.
 pub fn read_moves(line: &[u8], list: &mut [u32]) -> MovesRead
-    ensures { λ r. ⌜ KeptRun (readMovesCall (now (line .entry)) (now (list .entry))) (readAnswer r) (now (list .exit)) ⌝ }
+    ensures { λ r. ⌜ KeepsRun (readMovesCall (now (line .entry)) (now (list .entry))) (readAnswer r) (now (list .exit)) ⌝ }
 {
     let checked = check_moves(line, list);
     match checked {
@@ -155,7 +155,7 @@ pub fn write_moves(
     count: usize,
     line: &mut [u8],
 ) -> MovesWritten
-    ensures { λ r. ⌜ KeptRun (writeMovesCall rows columns (now (list .entry)) count (now (line .entry))) (writtenAnswer r) (now (line .exit)) ⌝ }
+    ensures { λ r. ⌜ KeepsRun (writeMovesCall rows columns (now (list .entry)) count (now (line .entry))) (writtenAnswer r) (now (line .exit)) ⌝ }
 {
     let checked = check_written(rows, columns, list, count, line);
     match checked {

@@ -149,7 +149,7 @@ fn taken_apart(answer: Rolled) -> Search {
             used,
         },
         Rolled::Refused(refusal) => Search {
-            number: checks::number_of(refusal) as usize,
+            number: refusals::number_of(refusal) as usize,
             clicks: 0,
             used: 0,
         },
@@ -208,7 +208,7 @@ fn random_search(number: u64, line: &[u8], grid: &[i32], draws: &mut [u8]) -> u6
 {
     let mut work = [0i32; 10240];
     take_draws(line, draws_from(grid.len()), draws);
-    let answer = zini::rolls::random_search(
+    let answer = zini::random_calls::random_search(
         byte_at(line, 0),
         byte_at(line, 1),
         grid,

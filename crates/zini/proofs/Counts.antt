@@ -9,16 +9,16 @@ use Rattle.game.specs.Openings.{threeBV}
 use Rattle.game.specs.Position.{untouched}
 use Rattle.game.specs.Area.{areaOf}
 use Rattle.game.specs.Calls.{Refusal, firstGiven, gridChecks, gives, refuses, threeBVCall}
-use Rattle.zini.specs.Answers.{Kept}
-use Rattle.zini.proofs.Promises.{kept-else, kept-refused}
+use Rattle.zini.specs.Answers.{Keeps}
+use Rattle.zini.proofs.Promises.{keeps-else, keeps-refused}
 
-pub count-refused : (g : Grid) (w : List ℤ) (f : Refusal) → some f ≡ firstGiven (gridChecks g w) → Kept (threeBVCall g w) (refuses f) w
+pub count-refused : (g : Grid) (w : List ℤ) (f : Refusal) → some f ≡ firstGiven (gridChecks g w) → Keeps (threeBVCall g w) (refuses f) w
 unfolding threeBVCall
-count-refused g w f e = kept-refused (firstGiven (gridChecks g w)) f w (record { answer = gives (threeBV g ∷ []); work = areaOf g (untouched g) w }) e
+count-refused g w f e = keeps-refused (firstGiven (gridChecks g w)) f w (record { answer = gives (threeBV g ∷ []); work = areaOf g (untouched g) w }) e
 
 pub count-answered : (g : Grid) (w w′ : List ℤ) (u : ℕ) → none ≡ firstGiven (gridChecks g w) → u ≡ threeBV g → w′ ≡ areaOf g (untouched g) w
-    → Kept (threeBVCall g w) (gives (u ∷ [])) w′
+    → Keeps (threeBVCall g w) (gives (u ∷ [])) w′
 unfolding threeBVCall
 count-answered g w w′ u e p q =
-    kept-else (firstGiven (gridChecks g w)) (gives (u ∷ [])) w w′ (record { answer = gives (threeBV g ∷ []); work = areaOf g (untouched g) w }) e
+    keeps-else (firstGiven (gridChecks g w)) (gives (u ∷ [])) w w′ (record { answer = gives (threeBV g ∷ []); work = areaOf g (untouched g) w }) e
     (record { answers = ap (λ (n : ℕ). gives (n ∷ [])) p; leaves = q })

@@ -4,4 +4,4 @@ pub mod Played
 pub mod Clearing
 pub mod Rolling
 pub mod Written
-pub mod Once
+pub mod OneAnswer

@@ -18,7 +18,7 @@ use Rattle.random.specs.Promises.{Rolling, Searching}
 use Rattle.random.specs.declared.Finish.{Finish}
 use Rattle.random.specs.declared.Finish.the-variants.{Dry, Ended}
 use Rattle.rounds.proofs.Ending.{listed-moves}
-use Rattle.zini.specs.Answers.{Kept, KeptList}
+use Rattle.zini.specs.Answers.{Keeps, KeepsList}
 use Rattle.zini.specs.Clearing.{Cleared}
 use Rattle.zini.proofs.Clearing.{area-cleared, list-cleared}
 
@@ -32,7 +32,7 @@ differ n k e = let q : _≡_ {A = ℕ} 0 6 = ap (λ (r : Finish). answerOf r .nu
 
 module _ (rows columns : ℕ) (g : Grid) (old w w′ : List ℤ) (x : Finish) where
   pub round-ended : (o : Option Round) (before l : List ℕ) (n k : ℕ) → ((r : Round) → o ≡ some r → length (movesOf (r .steps)) ≤ length before)
-      → x ≡ Ended n k → ((s : Position) → w ≡ held g s old → w′ ≡ areaOf g s old) → Rolling rows columns g old o before w l x → KeptList (drawnRound g o old before) (gives (n ∷ k ∷ [])) w′ l
+      → x ≡ Ended n k → ((s : Position) → w ≡ held g s old → w′ ≡ areaOf g s old) → Rolling rows columns g old o before w l x → KeepsList (drawnRound g o old before) (gives (n ∷ k ∷ [])) w′ l
   round-ended none before l n k few e f p = absurd (differ n k (sym e ∙ p .answer))
   round-ended (some r) before l n k few e f p =
       record {
@@ -42,7 +42,7 @@ module _ (rows columns : ℕ) (g : Grid) (old w w′ : List ℤ) (x : Finish) wh
       }
 
   pub round-dry : (o : Option Round) (before l l′ : List ℕ) → 5 * size g ≤ length old → size g ≤ length before → x ≡ Dry → Cleared (pos 0) (5 * size g) w w′ → Cleared 0 (size g) l l′
-      → Rolling rows columns g old o before w l x → KeptList (drawnRound g o old before) (refuses draws) w′ l′
+      → Rolling rows columns g old o before w l x → KeepsList (drawnRound g o old before) (refuses draws) w′ l′
   round-dry none before l l′ h b e cw cl p =
       record {
         answers = refl;
@@ -51,11 +51,11 @@ module _ (rows columns : ℕ) (g : Grid) (old w w′ : List ℤ) (x : Finish) wh
       }
   round-dry (some r) before l l′ h b e cw cl p = absurd (differ _ _ (sym (p .answer) ∙ e))
 
-  pub search-ended : (o : Option Searched) (n k : ℕ) → x ≡ Ended n k → ((s : Position) → w ≡ held g s old → w′ ≡ areaOf g s old) → Searching rows columns g old o w x → Kept (drawnSearch g o old) (gives (n ∷ k ∷ [])) w′
+  pub search-ended : (o : Option Searched) (n k : ℕ) → x ≡ Ended n k → ((s : Position) → w ≡ held g s old → w′ ≡ areaOf g s old) → Searching rows columns g old o w x → Keeps (drawnSearch g o old) (gives (n ∷ k ∷ [])) w′
   search-ended none n k e f p = absurd (differ n k (sym e ∙ p .answer))
   search-ended (some r) n k e f p = record { answers = ap answerOf (sym e ∙ p .answer); leaves = f _ (p .stands .holds-it) }
 
-  pub search-dry : (o : Option Searched) → 5 * size g ≤ length old → x ≡ Dry → Cleared (pos 0) (5 * size g) w w′ → Searching rows columns g old o w x → Kept (drawnSearch g o old) (refuses draws) w′
+  pub search-dry : (o : Option Searched) → 5 * size g ≤ length old → x ≡ Dry → Cleared (pos 0) (5 * size g) w w′ → Searching rows columns g old o w x → Keeps (drawnSearch g o old) (refuses draws) w′
   search-dry none h e cw p = record { answers = refl; leaves = area-cleared g (p .position) old w w′ h (p .stands .holds-it) cw }
   search-dry (some r) h e cw p = absurd (differ _ _ (sym (p .answer) ∙ e))
 

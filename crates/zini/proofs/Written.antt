@@ -7,6 +7,7 @@ use mathlib.Core.List.{List, [], _∷_, _++_, map}
 use mathlib.Core.Option.{Option, none, some}
 use lib.IntN.{ℤ}
 use lib.ListN.{drop, getD, length, length-map, take}
+use lib.Seq.{take-append-seam}
 use borrow.Author.Tests.{ne-eqb}
 use Rattle.game.specs.Draws.{lent}
 use Rattle.game.specs.Grid.{Grid, size}
@@ -15,7 +16,7 @@ use Rattle.game.specs.Moves.{replayFrom, word}
 use Rattle.game.specs.Position.{untouched}
 use Rattle.game.specs.Rounds.{Round, Searched, Step, greedySteps, movesOf, openingsFirstSteps, randomRound, randomSearch}
 use Rattle.game.specs.Demands.{Sound, SoundSearch}
-use Rattle.game.specs.Calls.{Answer, ListOutcome, Refusal, board, draws, drawnRound, drawnSearch, firstGiven, frame, gives, greedyCall, gridChecks, listCheck, move, numberOf, openingsFirstCall, playedRound, Outcome, randomRoundCall, randomSearchCall, rounds, roundsCheck, shape, size-over, trace, unless, unlessListed, work}
+use Rattle.game.specs.Calls.{Answer, ListOutcome, Outcome, Refusal, drawnRound, drawnSearch, draws, firstGiven, gives, greedyCall, gridChecks, listCheck, numberOf, openingsFirstCall, playedRound, priceCall, randomRoundCall, randomSearchCall, rounds, roundsCheck, trace, unless, unlessListed}
 use Rattle.game.proofs.Parts.{joined, search-parts}
 use Rattle.game.proofs.Replays.{round-replays}
 use Rattle.game.proofs.Draws.{lent-places}
@@ -23,37 +24,24 @@ use Rattle.game.proofs.Randoms.{random-sound}
 use Rattle.game.proofs.Rounds.{greedy-sound, openings-first-sound}
 use Rattle.game.proofs.Searches.{search-sound}
 use Rattle.area.proofs.Cells.{cells-few}
-use Rattle.zini.specs.Answers.{Kept, KeptList}
+use Rattle.refusals.proofs.ReadBack.{numbered}
+use Rattle.zini.specs.Answers.{Keeps, KeepsList}
 use Rattle.zini.specs.Written.{Told, Written}
-use Rattle.checks.proofs.More.{all-passed, none-below}
-
-numbered : (f : Refusal) → 1 ≤ numberOf f
-numbered shape = omega arith
-numbered board = omega arith
-numbered work = omega arith
-numbered trace = omega arith
-numbered rounds = omega arith
-numbered draws = omega arith
-numbered move = omega arith
-numbered frame = omega arith
-numbered size-over = omega arith
+use Rattle.checks.proofs.More.{none-below}
+use Rattle.checks.proofs.Verdict.{all-passed}
 
 -- a call that answered 0 was not refused
-not-refused : (o : Option Refusal) (w w′ : List ℤ) (l l′ : List ℕ) (x : ListOutcome) (vs : List ℕ) → KeptList (unlessListed o w l x) (gives vs) w′ l′ → (o ≡ none) × KeptList x (gives vs) w′ l′
+not-refused : (o : Option Refusal) (w w′ : List ℤ) (l l′ : List ℕ) (x : ListOutcome) (vs : List ℕ) → KeepsList (unlessListed o w l x) (gives vs) w′ l′ → (o ≡ none) × KeepsList x (gives vs) w′ l′
 not-refused none w w′ l l′ x vs k = (refl, k)
 not-refused (some f) w w′ l l′ x vs k = absurd (let e : 0 ≡ numberOf f = ap (λ (a : Answer). a .number) (k .answers) in omega (arith, numbered f))
 
-not-turned-down : (o : Option Refusal) (w w′ : List ℤ) (x : Outcome) (vs : List ℕ) → Kept (unless o w x) (gives vs) w′ → (o ≡ none) × Kept x (gives vs) w′
+not-turned-down : (o : Option Refusal) (w w′ : List ℤ) (x : Outcome) (vs : List ℕ) → Keeps (unless o w x) (gives vs) w′ → (o ≡ none) × Keeps x (gives vs) w′
 not-turned-down none w w′ x vs k = (refl, k)
 not-turned-down (some f) w w′ x vs k = absurd (let e : 0 ≡ numberOf f = ap (λ (a : Answer). a .number) (k .answers) in omega (arith, numbered f))
 
 -- the first words of a list that moves were written into
-all-first : (xs ys : List ℕ) → take (length xs) (xs ++ ys) ≡ xs
-all-first [] ys = refl
-all-first (x ∷ xs) ys = ap (λ (r : List ℕ). x ∷ r) (all-first xs ys)
-
-first-words : (xs ys : List ℕ) (n : ℕ) → n ≡ length xs → take n (xs ++ ys) ≡ xs
-first-words xs ys n e = ap (λ (k : ℕ). take k (xs ++ ys)) e ∙ all-first xs ys
+pub first-words : (xs ys : List ℕ) (n : ℕ) → n ≡ length xs → take n (xs ++ ys) ≡ xs
+first-words xs ys n e = ap (λ (k : ℕ). take k (xs ++ ys)) e ∙ take-append-seam xs ys
 
 -- the round's moves stand in the list
 stands-written : (g : Grid) (ts : List Step) (l l′ : List ℕ) (n : ℕ) → size g ≤ 65536 → Sound g ts → n ≡ length (movesOf ts) → l′ ≡ listOf (movesOf ts) l → Written g n l′
@@ -68,40 +56,40 @@ small : (g : Grid) (w : List ℤ) (l : List ℕ) → firstGiven (gridChecks g w 
 small g w l e = omega (arith, cells-few (g .rows) (g .columns) (all-passed g w (length l) (size g) trace e .0 .shaped))
 
 played-written : (g : Grid) (ts : List Step) (w w′ : List ℤ) (l l′ : List ℕ) (n : ℕ) → Sound g ts
-    → KeptList (unlessListed (firstGiven (gridChecks g w ++ listCheck g l ∷ [])) w l (playedRound g (movesOf ts) w l)) (gives (n ∷ [])) w′ l′ → Written g n l′
+    → KeepsList (unlessListed (firstGiven (gridChecks g w ++ listCheck g l ∷ [])) w l (playedRound g (movesOf ts) w l)) (gives (n ∷ [])) w′ l′ → Written g n l′
 played-written g ts w w′ l l′ n d k =
     let p = not-refused (firstGiven (gridChecks g w ++ listCheck g l ∷ [])) w w′ l l′ (playedRound g (movesOf ts) w l) (n ∷ []) k in
     stands-written g ts l l′ n (small g w l (p .0)) d (ap (λ (a : Answer). getD (a .values) 0 0) (p .1 .answers)) (p .1 .lists)
 
 -- ---- the calls
 
-pub greedy-written : (g : Grid) (w w′ : List ℤ) (l l′ : List ℕ) (n : ℕ) → KeptList (greedyCall g w l) (gives (n ∷ [])) w′ l′ → Written g n l′
-unfolding greedyCall
+pub greedy-written : (g : Grid) (w w′ : List ℤ) (l l′ : List ℕ) (n : ℕ) → KeepsList (greedyCall g w l) (gives (n ∷ [])) w′ l′ → Written g n l′
+unfolding priceCall
 greedy-written g w w′ l l′ n k = played-written g (greedySteps g) w w′ l l′ n (greedy-sound g) k
 
-pub openings-first-written : (g : Grid) (w w′ : List ℤ) (l l′ : List ℕ) (n : ℕ) → KeptList (openingsFirstCall g w l) (gives (n ∷ [])) w′ l′ → Written g n l′
-unfolding openingsFirstCall
+pub openings-first-written : (g : Grid) (w w′ : List ℤ) (l l′ : List ℕ) (n : ℕ) → KeepsList (openingsFirstCall g w l) (gives (n ∷ [])) w′ l′ → Written g n l′
+unfolding priceCall
 openings-first-written g w w′ l l′ n k = played-written g (openingsFirstSteps g) w w′ l l′ n (openings-first-sound g) k
 
-pub random-written : (g : Grid) (w w′ : List ℤ) (l l′ bytes : List ℕ) (n used : ℕ) → KeptList (randomRoundCall g w l bytes) (gives (n ∷ used ∷ [])) w′ l′ → Written g n l′
+pub random-written : (g : Grid) (w w′ : List ℤ) (l l′ bytes : List ℕ) (n used : ℕ) → KeepsList (randomRoundCall g w l bytes) (gives (n ∷ used ∷ [])) w′ l′ → Written g n l′
 unfolding randomRoundCall
 random-written g w w′ l l′ bytes n used k =
     let p = not-refused (firstGiven (gridChecks g w ++ listCheck g l ∷ [])) w w′ l l′ (drawnRound g (randomRound g (lent bytes) 0) w l) (n ∷ used ∷ []) k in
     go (randomRound g (lent bytes) 0) (λ r e. random-sound g (lent bytes) (lent-places bytes) 0 r e) (small g w l (p .0)) (p .1)
   where
-    go : (o : Option Round) → ((r : Round) → o ≡ some r → Sound g (r .steps)) → size g ≤ 65536 → KeptList (drawnRound g o w l) (gives (n ∷ used ∷ [])) w′ l′ → Written g n l′
+    go : (o : Option Round) → ((r : Round) → o ≡ some r → Sound g (r .steps)) → size g ≤ 65536 → KeepsList (drawnRound g o w l) (gives (n ∷ used ∷ [])) w′ l′ → Written g n l′
     go none d h k = absurd (let e : 0 ≡ numberOf draws = ap (λ (a : Answer). a .number) (k .answers) in omega arith)
     go (some r) d h k = stands-written g (r .steps) l l′ n h (d r refl) (ap (λ (a : Answer). getD (a .values) 0 0) (k .answers)) (k .lists)
 
 -- each round of a search
-pub search-told : (g : Grid) (w w′ : List ℤ) (bytes : List ℕ) (n clicks used : ℕ) → Kept (randomSearchCall g w bytes n) (gives (clicks ∷ used ∷ [])) w′ → Told g bytes n clicks used
+pub search-told : (g : Grid) (w w′ : List ℤ) (bytes : List ℕ) (n clicks used : ℕ) → Keeps (randomSearchCall g w bytes n) (gives (clicks ∷ used ∷ [])) w′ → Told g bytes n clicks used
 unfolding randomSearchCall
 search-told g w w′ bytes n clicks used k =
     let p = not-turned-down (firstGiven (gridChecks g w ++ roundsCheck n ∷ [])) w w′ (drawnSearch g (randomSearch g (lent bytes) n) w) (clicks ∷ used ∷ []) k in
     let h : 1 ≤ n = all-passed g w n 1 rounds (ap (λ (b : Bool). firstGiven (gridChecks g w ++ record { given = b; refusal = rounds } ∷ [])) (none-below n) ∙ p .0) .1 in
     go (randomSearch g (lent bytes) n) (λ r e. search-sound g (lent bytes) (lent-places bytes) n r h e) refl (p .1)
   where
-    go : (o : Option Searched) → ((r : Searched) → o ≡ some r → SoundSearch g (lent bytes) n r) → randomSearch g (lent bytes) n ≡ o → Kept (drawnSearch g o w) (gives (clicks ∷ used ∷ [])) w′ → Told g bytes n clicks used
+    go : (o : Option Searched) → ((r : Searched) → o ≡ some r → SoundSearch g (lent bytes) n r) → randomSearch g (lent bytes) n ≡ o → Keeps (drawnSearch g o w) (gives (clicks ∷ used ∷ [])) w′ → Told g bytes n clicks used
     go none d e k = absurd (let e : 0 ≡ numberOf draws = ap (λ (a : Answer). a .number) (k .answers) in omega arith)
     go (some r) d e k =
         record {
@@ -114,7 +102,7 @@ search-told g w w′ bytes n clicks used k =
 
 -- two searches, the second with the bytes that the first left, answer together what one search of all their rounds answers
 pub searches-join : (g : Grid) (w w′ v v′ : List ℤ) (bytes : List ℕ) (m n clicks used clicks′ used′ : ℕ)
-    → Kept (randomSearchCall g w bytes m) (gives (clicks ∷ used ∷ [])) w′ → Kept (randomSearchCall g v (drop used bytes) n) (gives (clicks′ ∷ used′ ∷ [])) v′
+    → Keeps (randomSearchCall g w bytes m) (gives (clicks ∷ used ∷ [])) w′ → Keeps (randomSearchCall g v (drop used bytes) n) (gives (clicks′ ∷ used′ ∷ [])) v′
     → randomSearchCall g w bytes (m + n) .answer ≡ gives (min clicks clicks′ ∷ (used + used′) ∷ [])
 unfolding randomSearchCall
 searches-join g w w′ v v′ bytes m n clicks used clicks′ used′ k k′ =
@@ -128,7 +116,7 @@ searches-join g w w′ v v′ bytes m n clicks used clicks′ used′ k k′ =
     b : Told g (drop used bytes) n clicks′ used′
     b = search-told g v v′ (drop used bytes) n clicks′ used′ k′
 
-    fine : (firstGiven (gridChecks g w ++ roundsCheck m ∷ []) ≡ none) × Kept (drawnSearch g (randomSearch g (lent bytes) m) w) (gives (clicks ∷ used ∷ [])) w′
+    fine : (firstGiven (gridChecks g w ++ roundsCheck m ∷ []) ≡ none) × Keeps (drawnSearch g (randomSearch g (lent bytes) m) w) (gives (clicks ∷ used ∷ [])) w′
     fine = not-turned-down (firstGiven (gridChecks g w ++ roundsCheck m ∷ [])) w w′ (drawnSearch g (randomSearch g (lent bytes) m) w) (clicks ∷ used ∷ []) k
 
     given-as : (i j : ℕ) → 1 ≤ i → 1 ≤ j → firstGiven (gridChecks g w ++ roundsCheck i ∷ []) ≡ firstGiven (gridChecks g w ++ roundsCheck j ∷ [])

@@ -4,7 +4,7 @@ use mathlib.Core.Path.{_≡_}
 use mathlib.Core.List.{List, [], _∷_}
 use lib.IntN.{ℤ}
 use Rattle.game.specs.Calls.{Answer, ListOutcome, Outcome, gives, move, numberOf, refuses}
-use Rattle.checks.specs.Refusals.{named}
+use Rattle.refusals.specs.Names.{named}
 use Rattle.replay.specs.declared.Replay.{Replay}
 use Rattle.replay.specs.declared.Replay.the-variants as Runs
 use Rattle.zini.specs.declared.Counted.{Counted}
@@ -43,12 +43,12 @@ rolledAnswer (Rolls.Clicks n k) = gives (n ∷ k ∷ [])
 rolledAnswer (Rolls.Refused f) = refuses (named f)
 
 -- a call without a list keeps its promise
-pub record Kept (promise : Outcome) (answer : Answer) (work : List ℤ) : Type 0 where
+pub record Keeps (promise : Outcome) (answer : Answer) (work : List ℤ) : Type 0 where
   pub answers : answer ≡ promise .answer
   pub leaves : work ≡ promise .work
 
 -- a call with a list keeps its promise
-pub record KeptList (promise : ListOutcome) (answer : Answer) (work : List ℤ) (list : List ℕ) : Type 0 where
+pub record KeepsList (promise : ListOutcome) (answer : Answer) (work : List ℤ) (list : List ℕ) : Type 0 where
   pub answers : answer ≡ promise .answer
   pub leaves : work ≡ promise .work
   pub lists : list ≡ promise .list

@@ -1,13 +1,13 @@
 // The 3BV count.
 use crate::Counted;
-use checks::Checked;
+use refusals::Checked;
 ghost use Rattle.game.specs.Calls.{threeBVCall};
 ghost use Rattle.area.specs.Numbers.{gridOf};
-ghost use Rattle.zini.specs.Answers.{Kept, countedAnswer};
+ghost use Rattle.zini.specs.Answers.{Keeps, countedAnswer};
 
 // 3BV of a grid; the work area is left at the position before any move.
 pub fn three_bv(rows: usize, columns: usize, grid: &[i32], work: &mut [i32]) -> Counted
-    ensures { λ r. ⌜ Kept (threeBVCall (gridOf rows columns (now (grid .entry))) (now (work .entry))) (countedAnswer r) (now (work .exit)) ⌝ }
+    ensures { λ r. ⌜ Keeps (threeBVCall (gridOf rows columns (now (grid .entry))) (now (work .entry))) (countedAnswer r) (now (work .exit)) ⌝ }
 {
     let checked = checks::check(rows, columns, grid, work);
     match checked {

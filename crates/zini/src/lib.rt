@@ -1,11 +1,11 @@
 // The public calls: each checks its input in document 01's order, and answers an enum.
-use checks::Refusal;
+use refusals::Refusal;
 
 pub mod count; // 3BV
 pub mod replays; // a stored list played on a board
 pub mod prices; // greedy and openings-first rounds
 mod clears; // lent memory filled with 0
-pub mod rolls; // random rounds and searches
+pub mod random_calls; // random rounds and searches
 
 // What the 3BV count answers.
 pub enum Counted {

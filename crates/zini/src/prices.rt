@@ -1,15 +1,14 @@
 // Greedy and openings-first rounds: clicks, and the moves listed.
 use crate::Priced;
-use checks::Checked;
+use refusals::Checked;
 ghost use mathlib.Core.Path.{_≡_};
-ghost use mathlib.Core.List.{[], _∷_, _++_};
+ghost use mathlib.Core.List.{[], _∷_};
 ghost use Prim.Native.Nat.{_*_, _≤_};
 ghost use lib.ListN.{length};
-ghost use Rattle.game.specs.Rounds.{movesOf, roundSteps};
-ghost use Rattle.game.specs.Calls.{firstGiven, gives, greedyCall, gridChecks, listCheck, openingsFirstCall, playedRound, unlessListed};
+ghost use Rattle.game.specs.Calls.{gives, greedyCall, openingsFirstCall, priceCall, pricedRound};
 ghost use Rattle.area.specs.Numbers.{gridOf};
 ghost use Rattle.area.specs.Stages.{Shape};
-ghost use Rattle.zini.specs.Answers.{KeptList, pricedAnswer};
+ghost use Rattle.zini.specs.Answers.{KeepsList, pricedAnswer};
 
 // A round whose input has been checked. Answers its clicks.
 fn price_checked(
@@ -22,7 +21,7 @@ fn price_checked(
 ) -> usize
     requires { ⌜ Shape rows columns ⌝ }
     requires { ⌜ (length (now grid) ≡ rows * columns) × (5 * (rows * columns) ≤ length (now work)) × (rows * columns ≤ length (now list)) ⌝ }
-    ensures { λ r. ⌜ KeptList (playedRound (gridOf rows columns (now (grid .entry))) (movesOf (roundSteps «openings_first» (gridOf rows columns (now (grid .entry))))) (now (work .entry)) (now (list .entry))) (gives (r ∷ [])) (now (work .exit)) (now (list .exit)) ⌝ }
+    ensures { λ r. ⌜ KeepsList (pricedRound «openings_first» (gridOf rows columns (now (grid .entry))) (now (work .entry)) (now (list .entry))) (gives (r ∷ [])) (now (work .exit)) (now (list .exit)) ⌝ }
 {
     let counts = start::begin::set_up(grid, rows, columns, work);
     let safe = counts.safe;
@@ -31,8 +30,8 @@ fn price_checked(
     clicks
 }
 
-// A round on a board, in the one order or the other.
-fn price(
+// Greedy ZiNi, or openings-first: its clicks, and its moves in the list.
+pub fn price(
     rows: usize,
     columns: usize,
     grid: &[i32],
@@ -40,9 +39,9 @@ fn price(
     list: &mut [u32],
     openings_first: bool,
 ) -> Priced
-    ensures { λ r. ⌜ KeptList (unlessListed (firstGiven (gridChecks (gridOf rows columns (now (grid .entry))) (now (work .entry)) ++ listCheck (gridOf rows columns (now (grid .entry))) (now (list .entry)) ∷ [])) (now (work .entry)) (now (list .entry)) (playedRound (gridOf rows columns (now (grid .entry))) (movesOf (roundSteps «openings_first» (gridOf rows columns (now (grid .entry))))) (now (work .entry)) (now (list .entry)))) (pricedAnswer r) (now (work .exit)) (now (list .exit)) ⌝ }
+    ensures { λ r. ⌜ KeepsList (priceCall «openings_first» (gridOf rows columns (now (grid .entry))) (now (work .entry)) (now (list .entry))) (pricedAnswer r) (now (work .exit)) (now (list .exit)) ⌝ }
 {
-    let checked = checks::check_list(rows, columns, grid, work, list);
+    let checked = checks::check_room(rows, columns, grid, work, list.len());
     match checked {
         Checked::Refused(refusal) => Priced::Refused(refusal),
         Checked::Fine => {
@@ -60,7 +59,7 @@ pub fn greedy(
     work: &mut [i32],
     list: &mut [u32],
 ) -> Priced
-    ensures { λ r. ⌜ KeptList (greedyCall (gridOf rows columns (now (grid .entry))) (now (work .entry)) (now (list .entry))) (pricedAnswer r) (now (work .exit)) (now (list .exit)) ⌝ }
+    ensures { λ r. ⌜ KeepsList (greedyCall (gridOf rows columns (now (grid .entry))) (now (work .entry)) (now (list .entry))) (pricedAnswer r) (now (work .exit)) (now (list .exit)) ⌝ }
 {
     price(rows, columns, grid, work, list, false)
 }
@@ -73,7 +72,7 @@ pub fn openings_first(
     work: &mut [i32],
     list: &mut [u32],
 ) -> Priced
-    ensures { λ r. ⌜ KeptList (openingsFirstCall (gridOf rows columns (now (grid .entry))) (now (work .entry)) (now (list .entry))) (pricedAnswer r) (now (work .exit)) (now (list .exit)) ⌝ }
+    ensures { λ r. ⌜ KeepsList (openingsFirstCall (gridOf rows columns (now (grid .entry))) (now (work .entry)) (now (list .entry))) (pricedAnswer r) (now (work .exit)) (now (list .exit)) ⌝ }
 {
     price(rows, columns, grid, work, list, true)
 }

@@ -1,16 +1,14 @@
 // Replay of a stored move list.
 use crate::Replayed;
-use checks::Checked;
-use checks::Refusal;
+use refusals::Checked;
+use refusals::Refusal;
 ghost use mathlib.Core.Path.{_≡_};
 ghost use Prim.Native.Nat.{_*_, _≤_};
-ghost use lib.ListN.{length, take};
-ghost use Rattle.game.specs.Position.{untouched};
-ghost use Rattle.game.specs.Moves.{replayFrom};
-ghost use Rattle.game.specs.Calls.{replayCall, replayed};
+ghost use lib.ListN.{length};
+ghost use Rattle.game.specs.Calls.{replayCall, replayedList};
 ghost use Rattle.area.specs.Numbers.{gridOf};
 ghost use Rattle.area.specs.Stages.{Shape};
-ghost use Rattle.zini.specs.Answers.{Kept, answered, replayedAnswer};
+ghost use Rattle.zini.specs.Answers.{Keeps, answered, replayedAnswer};
 
 // What a replay came to.
 fn replay_answer(count: usize, played: replay::Replay) -> Replayed
@@ -33,7 +31,7 @@ fn replay_checked(
 ) -> Replayed
     requires { ⌜ Shape rows columns ⌝ }
     requires { ⌜ (length (now grid) ≡ rows * columns) × (5 * (rows * columns) ≤ length (now work)) × (count ≤ length (now list)) ⌝ }
-    ensures { λ r. ⌜ Kept (replayed (gridOf rows columns (now (grid .entry))) count (replayFrom (gridOf rows columns (now (grid .entry))) 0 (untouched (gridOf rows columns (now (grid .entry)))) (take count (now (list .entry)))) (now (work .entry))) (replayedAnswer r) (now (work .exit)) ⌝ }
+    ensures { λ r. ⌜ Keeps (replayedList (gridOf rows columns (now (grid .entry))) (now (work .entry)) (now (list .entry)) count) (replayedAnswer r) (now (work .exit)) ⌝ }
 {
     let counts = start::begin::set_up(grid, rows, columns, work);
     let safe = counts.safe;
@@ -51,7 +49,7 @@ pub fn replay(
     list: &[u32],
     count: usize,
 ) -> Replayed
-    ensures { λ r. ⌜ Kept (replayCall (gridOf rows columns (now (grid .entry))) (now (work .entry)) (now (list .entry)) count) (replayedAnswer r) (now (work .exit)) ⌝ }
+    ensures { λ r. ⌜ Keeps (replayCall (gridOf rows columns (now (grid .entry))) (now (work .entry)) (now (list .entry)) count) (replayedAnswer r) (now (work .exit)) ⌝ }
 {
     let checked = checks::check_more(rows, columns, grid, work, list.len(), count, Refusal::Trace);
     match checked {

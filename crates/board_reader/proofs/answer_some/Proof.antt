@@ -6,10 +6,11 @@ use lib.ListN.{take}
 use lib.Seq.{length-take-le}
 use borrow.Author.Needs.{needs}
 use Rattle.reader.specs.Blocks.{blockCall}
-use Rattle.reader.specs.Answers.{KeptDesk, answeredAnswer, named}
+use Rattle.reader.specs.Answers.{KeepsDesk, answeredAnswer}
+use Rattle.refusals.specs.Names.{named}
 use Rattle.reader.specs.declared.Answered.{Answered}
-use Rattle.board_reader.specs.Turns.{Answers, cutOn, keptAfter}
-use Rattle.board_reader.specs.declared.Kept.{Kept}
+use Rattle.board_reader.specs.Turns.{AnsweredBlock, cutOn, keptAfter}
+use Rattle.board_reader.specs.declared.PartLine.{PartLine}
 use Rattle.board_reader.specs.declared.Turn.{Turn}
 use Rattle.board_reader.proofs.Turning.{Left, block-left, block-passed}
 use Rattle.board_reader.proofs.answer_some.Statement.{statement}
@@ -35,7 +36,7 @@ left-by d =
     let a = s .args in
     let b = d .before .before .before .before .before .answer-block in
     block-left (a .kept) (s .pre .0) (a .block .now) (a .out .now) (s .pre .1) (b .last .1 .0) (b .last .1 .1 .1 .0) (d .answered .given .0 .0) (d .answered .given .0 .1 .0)
-    (subst (λ (r : Answered). KeptDesk (blockCall (a .block .now) (a .kept .bytes) (a .kept .count) (a .out .now)) (answeredAnswer r) (b .last .1 .0) (b .last .1 .1 .1 .0)) (d .answered .given .1) (b .ensures))
+    (subst (λ (r : Answered). KeepsDesk (blockCall (a .block .now) (a .kept .bytes) (a .kept .count) (a .out .now)) (answeredAnswer r) (b .last .1 .0) (b .last .1 .1 .1 .0)) (d .answered .given .1) (b .ensures))
 
 slice-reshare-prefix-print : tie.Need-slice-reshare-prefix-print
 slice-reshare-prefix-print c = left-by (c .before) .inside
@@ -56,7 +57,7 @@ returns c =
     let b = c .before .before .before .before .before .answer-block in
     absurd
     (block-passed (a .kept) (s .pre .0) (a .block .now) (a .out .now) (s .pre .1) (b .last .1 .0) (b .last .1 .1 .1 .0) (named (c .enum-told .given .0 .0))
-    (subst (λ (r : Answered). KeptDesk (blockCall (a .block .now) (a .kept .bytes) (a .kept .count) (a .out .now)) (answeredAnswer r) (b .last .1 .0) (b .last .1 .1 .1 .0)) (c .enum-told .given .1) (b .ensures)))
+    (subst (λ (r : Answered). KeepsDesk (blockCall (a .block .now) (a .kept .bytes) (a .kept .count) (a .out .now)) (answeredAnswer r) (b .last .1 .0) (b .last .1 .1 .1 .0)) (c .enum-told .given .1) (b .ensures)))
 
 same-length-2 : tie.Need-same-length-2
 same-length-2 c = search needs

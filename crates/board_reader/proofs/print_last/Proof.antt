@@ -5,9 +5,10 @@ use lib.ListN.{take}
 use lib.Seq.{length-take-le}
 use borrow.Author.Needs.{needs}
 use Rattle.reader.specs.Blocks.{endCall, lastLine}
-use Rattle.reader.specs.Answers.{KeptDesk, answeredAnswer, named}
+use Rattle.reader.specs.Answers.{KeepsDesk, answeredAnswer}
+use Rattle.refusals.specs.Names.{named}
 use Rattle.reader.specs.declared.Answered.{Answered}
-use Rattle.board_reader.specs.declared.Kept.{Kept}
+use Rattle.board_reader.specs.declared.PartLine.{PartLine}
 use Rattle.board_reader.proofs.Turning.{Left, end-left, end-passed, ended}
 use Rattle.board_reader.proofs.print_last.Statement.{statement}
 use Rattle.board_reader.proofs.print_last.Tie as tie
@@ -32,7 +33,7 @@ left-by d =
     let k = s .args .kept in
     let b = d .before .before .before .before .answer-end in
     end-left k (s .pre .0) (s .args .out .now) (s .pre .1) (k .bytes) (b .last .1 .1 .0) (d .answered .given .0 .0) (d .answered .given .0 .1 .0)
-    (subst (λ (r : Answered). KeptDesk (endCall (k .bytes) (k .count) (s .args .out .now)) (answeredAnswer r) (k .bytes) (b .last .1 .1 .0)) (d .answered .given .1) (b .ensures))
+    (subst (λ (r : Answered). KeepsDesk (endCall (k .bytes) (k .count) (s .args .out .now)) (answeredAnswer r) (k .bytes) (b .last .1 .1 .0)) (d .answered .given .1) (b .ensures))
 
 slice-reshare-prefix-print : tie.Need-slice-reshare-prefix-print
 slice-reshare-prefix-print c = left-by (c .before) .inside
@@ -56,7 +57,7 @@ returns c =
     let b = c .before .before .before .before .answer-end in
     absurd
     (end-passed k (s .pre .0) (s .args .out .now) (s .pre .1) (k .bytes) (b .last .1 .1 .0) (named (c .enum-told .given .0 .0))
-    (subst (λ (r : Answered). KeptDesk (endCall (k .bytes) (k .count) (s .args .out .now)) (answeredAnswer r) (k .bytes) (b .last .1 .1 .0)) (c .enum-told .given .1) (b .ensures)))
+    (subst (λ (r : Answered). KeepsDesk (endCall (k .bytes) (k .count) (s .args .out .now)) (answeredAnswer r) (k .bytes) (b .last .1 .1 .0)) (c .enum-told .given .1) (b .ensures)))
 
 same-length-2 : tie.Need-same-length-2
 same-length-2 c = search needs

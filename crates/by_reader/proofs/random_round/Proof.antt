@@ -48,7 +48,7 @@ use denote.Triple.Walked.{says, Stays, stay-ref, stay-none, stay-none-slice, gav
 use denote.Exit.{yes}
 use Rattle.game.specs.Calls.{randomRoundCall}
 use Rattle.area.specs.Numbers.{gridOf}
-use Rattle.zini.specs.Answers.{KeptList, rolledAnswer}
+use Rattle.zini.specs.Answers.{KeepsList, rolledAnswer}
 use Rattle.zini.specs.declared.Rolled.{Rolled}
 use Rattle.zini.proofs.Rolled as S
 use Rattle.zini.proofs.Rolled.Laws as S′
@@ -123,7 +123,7 @@ module _ {M : Type 1} (𝓤 : URA M) (H : Heap 𝓤) (A : Atoms 𝓤) (W : Given
 
   -- what the call keeps
   abbrev Promised : Rolled → List ℤ → List ℕ → Type 0
-  Promised r w l = KeptList (randomRoundCall (gridOf rows columns (now grid)) (now work) (now list) (drop-list (h .place) (now (h .bytes)))) (rolledAnswer r) w l
+  Promised r w l = KeepsList (randomRoundCall (gridOf rows columns (now grid)) (now work) (now list) (drop-list (h .place) (now (h .bytes)))) (rolledAnswer r) w l
 
   abbrev Own : Fml
   Own = B κ′ .own h (T′.lowered h ∷ [])

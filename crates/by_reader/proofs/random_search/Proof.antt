@@ -48,7 +48,7 @@ use denote.Triple.Walked.{says, Stays, stay-ref, stay-none, stay-none-slice, gav
 use denote.Exit.{yes}
 use Rattle.game.specs.Calls.{randomSearchCall}
 use Rattle.area.specs.Numbers.{gridOf}
-use Rattle.zini.specs.Answers.{Kept, rolledAnswer}
+use Rattle.zini.specs.Answers.{Keeps, rolledAnswer}
 use Rattle.zini.specs.declared.Rolled.{Rolled}
 use Rattle.zini.proofs.Rolled as S
 use Rattle.zini.proofs.Rolled.Laws as S′
@@ -120,7 +120,7 @@ module _ {M : Type 1} (𝓤 : URA M) (H : Heap 𝓤) (A : Atoms 𝓤) (W : Given
 
   -- what the call keeps
   abbrev Promised : Rolled → List ℤ → Type 0
-  Promised r w = Kept (randomSearchCall (gridOf rows columns (now grid)) (now work) (drop-list (h .place) (now (h .bytes))) rounds) (rolledAnswer r) w
+  Promised r w = Keeps (randomSearchCall (gridOf rows columns (now grid)) (now work) (drop-list (h .place) (now (h .bytes))) rounds) (rolledAnswer r) w
 
   abbrev Own : Fml
   Own = B κ′ .own h (T′.lowered h ∷ [])

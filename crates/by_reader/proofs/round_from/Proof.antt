@@ -6,7 +6,7 @@ use denote.Ref.{now}
 use borrow.Author.Needs.{needs}
 use Rattle.game.specs.Calls.{randomRoundCall}
 use Rattle.area.specs.Numbers.{gridOf}
-use Rattle.zini.specs.Answers.{KeptList, rolledAnswer}
+use Rattle.zini.specs.Answers.{KeepsList, rolledAnswer}
 use Rattle.by_reader.proofs.Within.{from-place, round-fits}
 use Rattle.by_reader.proofs.round_from.Statement.{statement}
 use Rattle.by_reader.proofs.round_from.Tie as tie
@@ -39,7 +39,7 @@ returns c =
     let start = c .before .before .before .before .before .before .before .start-at in
     let rolled = c .before .before .before .random-round in
     let g = gridOf (a .rows) (a .columns) (now (a .grid)) in
-    let k = subst (λ (l : List ℕ). KeptList (randomRoundCall g (now (a .work)) (now (a .list)) l) (rolledAnswer (rolled .result)) (rolled .last .1 .1 .1 .0) (rolled .last .1 .1 .1 .1 .0))
+    let k = subst (λ (l : List ℕ). KeepsList (randomRoundCall g (now (a .work)) (now (a .list)) l) (rolledAnswer (rolled .result)) (rolled .last .1 .1 .1 .0) (rolled .last .1 .1 .1 .1 .0))
     (from-place (now (a .bytes)) (a .place) (start .result) (start .ensures)) (rolled .ensures) in
     (k, round-fits (rolled .result) (a .place) (now (a .bytes)) (s .fits .place .fits) (s .good .1 .1 .1 .1 .1 .0 .0) g (now (a .work)) (now (a .list)) (k .answers))
 

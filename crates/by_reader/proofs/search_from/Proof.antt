@@ -6,7 +6,7 @@ use denote.Ref.{now}
 use borrow.Author.Needs.{needs}
 use Rattle.game.specs.Calls.{randomSearchCall}
 use Rattle.area.specs.Numbers.{gridOf}
-use Rattle.zini.specs.Answers.{Kept, rolledAnswer}
+use Rattle.zini.specs.Answers.{Keeps, rolledAnswer}
 use Rattle.by_reader.proofs.Within.{from-place, search-fits}
 use Rattle.by_reader.proofs.search_from.Statement.{statement}
 use Rattle.by_reader.proofs.search_from.Tie as tie
@@ -36,7 +36,7 @@ returns c =
     let start = c .before .before .before .before .start-at in
     let rolled = c .before .random-search in
     let g = gridOf (a .rows) (a .columns) (now (a .grid)) in
-    let k = subst (λ (l : List ℕ). Kept (randomSearchCall g (now (a .work)) l (a .rounds)) (rolledAnswer (rolled .result)) (rolled .last .1 .1 .1 .0))
+    let k = subst (λ (l : List ℕ). Keeps (randomSearchCall g (now (a .work)) l (a .rounds)) (rolledAnswer (rolled .result)) (rolled .last .1 .1 .1 .0))
     (from-place (now (a .bytes)) (a .place) (start .result) (start .ensures)) (rolled .ensures) in
     (k, search-fits (rolled .result) (a .place) (now (a .bytes)) (s .fits .place .fits) (s .good .1 .1 .1 .1 .0 .0) g (now (a .work)) (a .rounds) (k .answers))
 

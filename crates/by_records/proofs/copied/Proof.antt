@@ -8,7 +8,7 @@ use borrow.Author.Needs.{needs}
 use Rattle.game.specs.Calls.{Refusal, firstGiven, gridChecks, trace}
 use Rattle.game.specs.Grid.{Grid}
 use Rattle.area.specs.Numbers.{gridOf}
-use Rattle.checks.specs.Refusals.{refusalOf}
+use Rattle.refusals.specs.Names.{refusalOf}
 use Rattle.checks.proofs.More.{enough, first-stands, reaches, too-low}
 use Rattle.by_records.specs.Promises.{copiedIf}
 use Rattle.by_records.proofs.copied.Statement.{statement}

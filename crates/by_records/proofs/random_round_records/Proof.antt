@@ -46,7 +46,7 @@ use denote.Triple.Walked.{says, Stays, stay-slice, gave-slice, stay-none, stay-n
 use denote.Exit.{yes}
 use Rattle.game.specs.Calls.{randomRoundCall}
 use Rattle.area.specs.Numbers.{gridOf}
-use Rattle.zini.specs.Answers.{KeptList, rolledAnswer}
+use Rattle.zini.specs.Answers.{KeepsList, rolledAnswer}
 use Rattle.zini.specs.declared.Rolled.{Rolled}
 use Rattle.zini.proofs.Rolled as S
 use Rattle.zini.proofs.Rolled.Laws as S′
@@ -59,7 +59,7 @@ use Rattle.records.proofs.records_of.Symbol.{name as #records·records-of}
 use Rattle.records.proofs.records_of.Met as rec-thm
 use Rattle.by_records.specs.Promises.{within, writtenBy}
 use Rattle.records.proofs.Again.{LentAgain, lends-again, comes-back}
-use Rattle.by_records.proofs.Room.{kept-run}
+use Rattle.by_records.proofs.Keeping.{keeps-records}
 use Rattle.by_records.proofs.random_within as fl
 use Rattle.by_records.proofs.random_within.Symbol as fl-def
 use Rattle.by_records.proofs.random_within.Symbol.{name as #by-records·random-within}
@@ -124,7 +124,7 @@ module _ {M : Type 1} (𝓤 : URA M) (H : Heap 𝓤) (A : Atoms 𝓤) (W : Given
 
   -- what the flat call keeps
   abbrev Promised : Rolled → List ℤ → List ℕ → Type 0
-  Promised r w l = KeptList (within (gridOf rows columns (now grid)) (now work) ms (length (now records)) (randomRoundCall (gridOf rows columns (now grid)) (now work) ms (now draws))) (rolledAnswer r) w l
+  Promised r w l = KeepsList (within (gridOf rows columns (now grid)) (now work) ms (length (now records)) (randomRoundCall (gridOf rows columns (now grid)) (now work) ms (now draws))) (rolledAnswer r) w l
 
   abbrev OwnGrid : Fml
   OwnGrid = ShrSlice (named 0) κg i32 .own grid (vg ∷ [])
@@ -197,7 +197,7 @@ module _ {M : Type 1} (𝓤 : URA M) (H : Heap 𝓤) (A : Atoms 𝓤) (W : Given
   exits r u w l rs n len len₂ len₃ e e₂ e₃ =
       qed W (‵ (fobs γ (codedHoleys u32 .code (heres u32 l))) ∷ ‵ (fbor κl (Held u32 (length l) b o γ)) ∷ ‵ (flft κl ql) ∷ ‵ (flft κw qw) ∷ (‵ (flft κg qg) ⊛ (‵ (flft κd qd) ⊛ ‵ ftrue)) ∷ ‵ (flft κr qr) ∷ ‵ (fsep OwnGrid OwnDraws) ∷ ‵ (finally i32 (work .name) w) ∷ ‵ (finally R (records .name) rs) ∷ ‵ (S.the-row .own r (u ∷ [])) ∷ []) ∵
       suffices ! _ (ends-at 𝓤 H A f.ended stayed (f.clauses 𝓤 H A at-mem run) W (((κg, (κw, (κl, (κr, (κd, tt))))), (qg, (qw, (ql, (qr, (qd, tt))))), tt, a, at), tt) u r (tt, (tt, (tt, (w, (l, (rs, (tt, tt))))))) (tt, (tt, (tt, (len, (len₂, (len₃, (tt, tt)))))))) $
-      says ! (kept-run (gridOf rows columns (now grid)) (within (gridOf rows columns (now grid)) (now work) ms (length (now records)) (randomRoundCall (gridOf rows columns (now grid)) (now work) ms (now draws))) (now records) (rolledAnswer r) w l rs n e e₂ e₃) $
+      says ! (keeps-records (gridOf rows columns (now grid)) (within (gridOf rows columns (now grid)) (now work) ms (length (now records)) (randomRoundCall (gridOf rows columns (now grid)) (now work) ms (now draws))) (now records) (rolledAnswer r) w l rs n e e₂ e₃) $
       move ! (4 ∷ []) $ split ! $ move ! (6 ∷ 1 ∷ []) $ join ! $ move ! (4 ∷ 0 ∷ []) $ join ! $ move ! (4 ∷ 0 ∷ []) $ join ! $ move ! (1 ∷ 0 ∷ []) $ join ! $ frame ! $
       -- [obs; the list's borrow; the grid and the draws; the work area's last value; the run's; the answer]
       fjoin ! $ pureI ! (at-slice u32 (x γ l) (v ∷ [])) (tt, (tt, tt)) (ap (λ (j : ℕ). sliceVal (b, o) j ∷ []) (sym len₂), subst (Room u32) (sym len₂) room) $ fjoin ! $

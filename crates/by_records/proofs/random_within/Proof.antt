@@ -4,11 +4,10 @@ use mathlib.Core.List.{[], _∷_, _++_}
 use mathlib.Core.Option.{Option}
 use denote.Ref.{now}
 use borrow.Author.Needs.{needs}
-use Rattle.game.specs.Calls.{ListOutcome, Refusal, firstGiven, randomRoundCall, gridChecks}
+use Rattle.game.specs.Calls.{ListOutcome, Refusal, firstGiven, randomRoundCall, gridChecks, roomCheck}
 use Rattle.area.specs.Numbers.{gridOf}
-use Rattle.checks.specs.Refusals.{refusalOf}
+use Rattle.refusals.specs.Names.{refusalOf}
 use Rattle.zini.proofs.Promises.{list-else, list-refused}
-use Rattle.by_records.specs.Promises.{roomCheck}
 use Rattle.by_records.proofs.random_within.Statement.{statement}
 use Rattle.by_records.proofs.random_within.Tie as tie
 

@@ -46,7 +46,7 @@ use denote.Triple.Walked.{says, Stays, stay-slice, gave-slice, stay-none, stay-n
 use denote.Exit.{yes}
 use Rattle.game.specs.Calls.{firstGiven, replayCall}
 use Rattle.area.specs.Numbers.{gridOf}
-use Rattle.zini.specs.Answers.{Kept, replayedAnswer}
+use Rattle.zini.specs.Answers.{Keeps, replayedAnswer}
 use Rattle.zini.specs.declared.Replayed.{Replayed}
 use Rattle.zini.proofs.Replayed as S
 use Rattle.zini.proofs.Replayed.Laws as S′
@@ -63,6 +63,7 @@ use Rattle.by_records.proofs.copied as cpd
 use Rattle.by_records.proofs.copied.Symbol as cpd-def
 use Rattle.by_records.proofs.copied.Symbol.{name as #by-records·copied}
 use Rattle.by_records.proofs.copied.Met as cpd-thm
+use Rattle.by_records.proofs.Keeping.{keeps-replay}
 use Rattle.by_records.proofs.replay_within as fl
 use Rattle.by_records.proofs.replay_within.Symbol as fl-def
 use Rattle.by_records.proofs.replay_within.Symbol.{name as #by-records·replay-within}
@@ -123,7 +124,7 @@ module _ {M : Type 1} (𝓤 : URA M) (H : Heap 𝓤) (A : Atoms 𝓤) (W : Given
   Counted n = (vs ws : List ℤ) → length vs ≡ length (grid .now) → length ws ≡ length (work .now) → n ≡ copiedIf (firstGiven (replayChecks (gridOf rows columns vs) ws (length (records .now)) (length ms) count)) count
 
   abbrev Promised : Replayed → List ℤ → List ℕ → Type 0
-  Promised r w l = Kept (replayWithin (gridOf rows columns (now grid)) (now work) (length (records .now)) count (replayCall (gridOf rows columns (now grid)) (now work) l count)) (replayedAnswer r) w
+  Promised r w l = Keeps (replayWithin (gridOf rows columns (now grid)) (now work) (length (records .now)) count (replayCall (gridOf rows columns (now grid)) (now work) l count)) (replayedAnswer r) w
 
   abbrev OwnGrid : Fml
   OwnGrid = ShrSlice (named 0) κg i32 .own grid (vg ∷ [])
@@ -191,7 +192,7 @@ module _ {M : Type 1} (𝓤 : URA M) (H : Heap 𝓤) (A : Atoms 𝓤) (W : Given
   exits r u w l n len len₂ e e₂ e₃ =
       qed W (‵ (fobs γ (codedHoleys u32 .code (heres u32 l))) ∷ ‵ (fbor κl (Held u32 (length l) b o γ)) ∷ ‵ (flft κl ql) ∷ ‵ (flft κw qw) ∷ ‵ (flft κg qg) ∷ (‵ (flft κr qr) ⊛ ‵ ftrue) ∷ ‵ OwnGrid ∷ ‵ (finally i32 (work .name) w) ∷ ‵ OwnRun ∷ ‵ (S.the-row .own r (u ∷ [])) ∷ []) ∵
       suffices ! _ (ends-at 𝓤 H A f.ended stayed (f.clauses 𝓤 H A at-mem run) W (((κg, (κw, (κl, (κr, tt)))), (qg, (qw, (ql, (qr, tt)))), tt, a, at), tt) u r (tt, (tt, (tt, (w, (l, (tt, (tt, tt))))))) (tt, (tt, (tt, (len, (len₂, (tt, (tt, tt)))))))) $
-      says ! (record { words = e₂ ∙ ap (λ (j : ℕ). over (map (moveWord rows) (take j (records .now))) ms) (e (now grid) (now work) refl refl); flat = e₃ }) $
+      says ! (keeps-replay (gridOf rows columns (now grid)) (now work) ms (records .now) count (replayedAnswer r) w l (e₂ ∙ ap (λ (j : ℕ). over (map (moveWord rows) (take j (records .now))) ms) (e (now grid) (now work) refl refl)) e₃) $
       move ! (2 ∷ 5 ∷ []) $ join ! $ move ! (3 ∷ 0 ∷ []) $ join ! $ move ! (3 ∷ 0 ∷ []) $ join ! $ frame ! $
       -- [obs; the list's borrow; the grid; the work area's last value; the run; the answer]
       fjoin ! $ pureI ! (at-slice u32 (x γ l) (v ∷ [])) (tt, (tt, tt)) (ap (λ (j : ℕ). sliceVal (b, o) j ∷ []) (sym len₂), subst (Room u32) (sym len₂) room) $ fjoin ! $

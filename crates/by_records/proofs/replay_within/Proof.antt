@@ -4,11 +4,10 @@ use mathlib.Core.List.{[], _∷_, _++_}
 use mathlib.Core.Option.{Option}
 use denote.Ref.{now}
 use borrow.Author.Needs.{needs}
-use Rattle.game.specs.Calls.{Outcome, Refusal, firstGiven, gridChecks, replayCall}
+use Rattle.game.specs.Calls.{Outcome, Refusal, firstGiven, gridChecks, replayCall, aboveCheck}
 use Rattle.area.specs.Numbers.{gridOf}
-use Rattle.checks.specs.Refusals.{refusalOf}
-use Rattle.zini.proofs.Promises.{kept-else, kept-refused}
-use Rattle.by_records.specs.Promises.{aboveCheck}
+use Rattle.refusals.specs.Names.{refusalOf}
+use Rattle.zini.proofs.Promises.{keeps-else, keeps-refused}
 use Rattle.by_records.proofs.replay_within.Statement.{statement}
 use Rattle.by_records.proofs.replay_within.Tie as tie
 
@@ -38,7 +37,7 @@ same-length c = search needs
 returns : tie.Need-returns
 returns c =
     let s = c .before .before .before .before .before .before in
-    kept-refused (given s) _ _ (come s) (ap refusalOf (sym (c .before .checked .given .1)) ∙ c .before .before .before .check-more .ensures)
+    keeps-refused (given s) _ _ (come s) (ap refusalOf (sym (c .before .checked .given .1)) ∙ c .before .before .before .check-more .ensures)
 
 same-length-2 : tie.Need-same-length-2
 same-length-2 c = search needs
@@ -46,7 +45,7 @@ same-length-2 c = search needs
 returns-2 : tie.Need-returns-2
 returns-2 c =
     let s = c .before .before .before .before .before .before .before .before in
-    kept-else (given s) _ _ _ (come s) (ap refusalOf (sym (c .before .before .before .enum-told .given .1)) ∙ c .before .before .before .before .before .check-more .ensures) (c .before .replay .ensures)
+    keeps-else (given s) _ _ _ (come s) (ap refusalOf (sym (c .before .before .before .enum-told .given .1)) ∙ c .before .before .before .before .before .check-more .ensures) (c .before .replay .ensures)
 
 pub replay-within-spec : {M : Type 1} → statement M
 replay-within-spec =

@@ -1,54 +1,36 @@
--- `by_records::written_on`: each arm by the refusal it is for. Assumes nothing.
-use Prim.Native.Nat.{ℕ}
-use mathlib.Core.Path.{sym, ap}
+-- `by_records::written_on`: by whether its number is that of DRAWS; no refusal's number is 0. Assumes nothing.
+use Prim.Native.Nat.{ℕ, _≤_}
+use native.Mathlib.Omega.{arith}
+use mathlib.Core.Path.{_≡_, sym, _∙_}
+use mathlib.Core.Bool.{cond}
+use mathlib.Core.List.{[]}
+use borrow.Author.Tests.{ne-eqb}
 use borrow.Author.Needs.{needs}
-use Rattle.zini.specs.Answers.{pricedAnswer}
-use Rattle.zini.specs.declared.Priced.the-variants as Prices
-use Rattle.checks.specs.declared.Refusal.{Refusal}
+use Rattle.game.specs.Calls.{draws, numberOf}
+use Rattle.refusals.specs.Names.{named}
+use Rattle.refusals.proofs.ReadBack.{numbered}
 use Rattle.by_records.specs.Promises.{writtenBy}
 use Rattle.by_records.proofs.written_on.Statement.{statement}
 use Rattle.by_records.proofs.written_on.Tie as tie
 
--- what a refusal writes
-abbrev left : ℕ → Refusal → ℕ
-left cells f = writtenBy cells (pricedAnswer (Prices.Refused f))
+-- by the number
+on-draws : (cells n : ℕ) → n ≡ numberOf draws → cells ≡ writtenBy cells (record { number = n; values = [] })
+on-draws cells n e = sym (λ i. writtenBy cells (record { number = e i; values = [] }))
 
-enum-told : tie.Need-enum-told
-enum-told c = search needs
+on-another : (cells n : ℕ) → 1 ≤ n → (n ≡ numberOf draws → ⊥) → 0 ≡ writtenBy cells (record { number = n; values = [] })
+on-another cells n h d = sym (λ i. cond (ne-eqb n 0 (λ e. omega arith) i) 0 (cond (ne-eqb n (numberOf draws) d i) cells 0))
 
-enum-told-2 : tie.Need-enum-told-2
-enum-told-2 c = search needs
+number-of-requires : tie.Need-number-of-requires
+number-of-requires c κs = search needs
 
-enum-told-3 : tie.Need-enum-told-3
-enum-told-3 c = search needs
-
-enum-told-4 : tie.Need-enum-told-4
-enum-told-4 c = search needs
-
-enum-told-5 : tie.Need-enum-told-5
-enum-told-5 c = search needs
-
-enum-told-6 : tie.Need-enum-told-6
-enum-told-6 c = search needs
+number-of-requires-2 : tie.Need-number-of-requires-2
+number-of-requires-2 c κs = search needs
 
 returns : tie.Need-returns
-returns c = ap (left (c .before .before .args .cells)) (sym (c .enum-told .given .1))
+returns c = on-draws (c .before .before .before .args .cells) (numberOf (named (c .before .before .before .args .refusal))) (sym (c .before .before .number-of .ensures) ∙ c .if1 .taken ∙ c .before .number-of2 .ensures)
 
 returns-2 : tie.Need-returns-2
-returns-2 c = ap (left (c .before .before .args .cells)) (sym (c .enum-told2 .given .1))
-
-returns-3 : tie.Need-returns-3
-returns-3 c = ap (left (c .before .before .args .cells)) (sym (c .enum-told3 .given .1))
-
-returns-4 : tie.Need-returns-4
-returns-4 c = ap (left (c .before .before .args .cells)) (sym (c .enum-told4 .given .1))
-
-returns-5 : tie.Need-returns-5
-returns-5 c = ap (left (c .before .before .args .cells)) (sym (c .enum-told5 .given .1))
-
-returns-6 : tie.Need-returns-6
-returns-6 c = ap (left (c .before .before .args .cells)) (sym (c .enum-told6 .given .1))
+returns-2 c = let f = named (c .before .before .before .args .refusal) in on-another (c .before .before .before .args .cells) (numberOf f) (numbered f) (λ e. c .if1 .left (c .before .before .number-of .ensures ∙ e ∙ sym (c .before .number-of2 .ensures)))
 
 pub written-on-spec : {M : Type 1} → statement M
-written-on-spec =
-    tie.close (tie.spec enum-told enum-told-2 enum-told-3 enum-told-4 enum-told-5 enum-told-6 returns returns-2 returns-3 returns-4 returns-5 returns-6)
+written-on-spec = tie.close (tie.spec number-of-requires number-of-requires-2 returns returns-2)

@@ -4,7 +4,8 @@ use mathlib.Core.List.{List}
 use mathlib.Core.Option.{none}
 use Rattle.game.specs.Calls.{Check, firstGiven, gridChecks}
 use Rattle.area.specs.Numbers.{gridOf}
-use Rattle.checks.specs.Refusals.{named, refusalOf, below}
+use Rattle.refusals.specs.Names.{named, refusalOf}
+use Rattle.checks.specs.OneMore.{below}
 use Rattle.checks.proofs.More.{first-stands, too-low, enough}
 use borrow.Author.Needs.{needs}
 use Rattle.checks.proofs.check_more.Statement.{statement}

@@ -1,12 +1,12 @@
 -- `hex::is_end`: a line feed alone ends a line. Assumes nothing.
 use mathlib.Core.Path.{ap, sym, _∙_}
 use borrow.Author.Needs.{needs}
-use Rattle.hex.proofs.Digits.{endSort, sort-end}
+use Rattle.hex.proofs.Digits.{endAs, character-end}
 use Rattle.hex.proofs.is_end.Statement.{statement}
 use Rattle.hex.proofs.is_end.Tie as tie
 
-sort-of-requires : tie.Need-sort-of-requires
-sort-of-requires c κs = search needs
+character-of-requires : tie.Need-character-of-requires
+character-of-requires c κs = search needs
 
 enum-told : tie.Need-enum-told
 enum-told c = search needs
@@ -18,15 +18,15 @@ enum-told-3 : tie.Need-enum-told-3
 enum-told-3 c = search needs
 
 returns : tie.Need-returns
-returns c = ap endSort (sym (c .enum-told .given .1) ∙ c .before .before .sort-of .ensures) ∙ sort-end _
+returns c = ap endAs (sym (c .enum-told .given .1) ∙ c .before .before .character-of .ensures) ∙ character-end _
 
 returns-2 : tie.Need-returns-2
-returns-2 c = ap endSort (sym (c .enum-told2 .given .1) ∙ c .before .before .sort-of .ensures) ∙ sort-end _
+returns-2 c = ap endAs (sym (c .enum-told2 .given .1) ∙ c .before .before .character-of .ensures) ∙ character-end _
 
 returns-3 : tie.Need-returns-3
-returns-3 c = ap endSort (sym (c .enum-told3 .given .1) ∙ c .before .before .sort-of .ensures) ∙ sort-end _
+returns-3 c = ap endAs (sym (c .enum-told3 .given .1) ∙ c .before .before .character-of .ensures) ∙ character-end _
 
 pub is-end-spec : {M : Type 1} → statement M
 is-end-spec =
     tie.close
-    (tie.spec sort-of-requires enum-told enum-told-2 enum-told-3 returns returns-2 returns-3)
+    (tie.spec character-of-requires enum-told enum-told-2 enum-told-3 returns returns-2 returns-3)

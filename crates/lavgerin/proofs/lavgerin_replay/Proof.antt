@@ -21,6 +21,9 @@ enum-known-answer-3 c = search needs
 number-of-requires : tie.Need-number-of-requires
 number-of-requires c κs = search needs
 
+number-of-requires-2 : tie.Need-number-of-requires-2
+number-of-requires-2 c κs = search needs
+
 same-length : tie.Need-same-length
 same-length c = search needs
 
@@ -31,13 +34,13 @@ same-length-2 : tie.Need-same-length-2
 same-length-2 c = search needs
 
 returns-2 : tie.Need-returns-2
-returns-2 c = returned-two (c .before .before .before .before .replay .ensures) (ap replayedAnswer (c .before .answer2 .given .1)) refl refl refl
+returns-2 c = returned-two (c .before .before .before .before .before .replay .ensures) (ap replayedAnswer (c .before .before .answer2 .given .1)) (c .number-of .ensures) refl refl
 
 same-length-3 : tie.Need-same-length-3
 same-length-3 c = search needs
 
 returns-3 : tie.Need-returns-3
-returns-3 c = returned-two (c .before .before .before .before .before .replay .ensures) (ap replayedAnswer (c .before .before .answer3 .given .1)) (c .number-of .ensures) refl refl
+returns-3 c = returned-two (c .before .before .before .before .before .replay .ensures) (ap replayedAnswer (c .before .before .answer3 .given .1)) (c .number-of2 .ensures) refl refl
 
 pub lavgerin-replay-spec : {M : Type 1} → statement M
 lavgerin-replay-spec =
@@ -46,8 +49,9 @@ lavgerin-replay-spec =
     replay-requires
     enum-known-answer
     enum-known-answer-2
-    enum-known-answer-3
     number-of-requires
+    enum-known-answer-3
+    number-of-requires-2
     same-length
     returns
     same-length-2

@@ -53,7 +53,7 @@ use Rattle.zini.specs.declared.Rolled.{Rolled}
 use Rattle.zini.proofs.Rolled as S
 use Rattle.zini.proofs.Rolled.Laws as S′
 use Rattle.records.specs.declared.MoveRecord.{MoveRecord}
-use Rattle.by_records.specs.Promises.{KeptRun, within}
+use Rattle.by_records.specs.Promises.{KeepsRecords, inRecords, within}
 use Rattle.by_records.proofs.random_round_records as by
 use Rattle.by_records.proofs.random_round_records.Symbol as by-def
 use Rattle.by_records.proofs.random_round_records.Symbol.{name as #by-records·random-round-records}
@@ -109,7 +109,7 @@ module _ {M : Type 1} (𝓤 : URA M) (H : Heap 𝓤) (A : Atoms 𝓤) (W : Given
   abbrev Promised : ℕ → Rolled → List ℤ → List ℕ → List MoveRecord → Type 0
   Promised n r w l zs =
       let g = gridOf rows columns (now grid) in
-      KeptRun g (within g (now work) (now list) n (randomRoundCall g (now work) (now list) (now draws))) ys (rolledAnswer r) w l zs
+      KeepsRecords (inRecords g (within g (now work) (now list) n (randomRoundCall g (now work) (now list) (now draws))) ys) (rolledAnswer r) w l zs
 
   abbrev OwnGrid : Fml
   OwnGrid = ShrSlice (named 0) κg i32 .own grid (vg ∷ [])

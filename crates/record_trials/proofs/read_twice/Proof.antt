@@ -44,7 +44,7 @@ use denote.Triple.Walked.{says, Stays, gave-slice, stay-none, stay-none-slice, w
 use denote.Exit.{yes}
 use Rattle.area.specs.Numbers.{gridOf}
 use Rattle.game.specs.Calls.{randomRoundCall, randomSearchCall}
-use Rattle.zini.specs.Answers.{Kept, KeptList, rolledAnswer}
+use Rattle.zini.specs.Answers.{Keeps, KeepsList, rolledAnswer}
 use Rattle.zini.specs.declared.Rolled.{Rolled}
 use Rattle.zini.proofs.Rolled as S
 use Rattle.zini.proofs.Rolled.Laws as S′
@@ -137,10 +137,10 @@ module _ {M : Type 1} (𝓤 : URA M) (H : Heap 𝓤) (A : Atoms 𝓤) (W : Given
   AtPlace r = (r .bytes ≡ bytes) × (r .place ≡ place)
 
   abbrev Rounded : DrawReader → Rolled → List ℤ → List ℕ → DrawReader → Type 0
-  Rounded r r₁ w l h = KeptList (randomRoundCall (gridOf rows columns (now grid)) ws (now list) (drop-list (r .place) (now (r .bytes)))) (rolledAnswer r₁) w l × (h ≡ readOn r r₁)
+  Rounded r r₁ w l h = KeepsList (randomRoundCall (gridOf rows columns (now grid)) ws (now list) (drop-list (r .place) (now (r .bytes)))) (rolledAnswer r₁) w l × (h ≡ readOn r r₁)
 
   abbrev Searched : DrawReader → List ℤ → Rolled → List ℤ → DrawReader → Type 0
-  Searched h w r₂ w₂ h₂ = Kept (randomSearchCall (gridOf rows columns (now grid)) w (drop-list (h .place) (now (h .bytes))) rounds) (rolledAnswer r₂) w₂ × (h₂ ≡ readOn h r₂)
+  Searched h w r₂ w₂ h₂ = Keeps (randomSearchCall (gridOf rows columns (now grid)) w (drop-list (h .place) (now (h .bytes))) rounds) (rolledAnswer r₂) w₂ × (h₂ ≡ readOn h r₂)
 
   -- one after the other they keep what is promised
   twice : (r h h₂ : DrawReader) (r₁ r₂ : Rolled) (w w₂ : List ℤ) (l : List ℕ) → AtPlace r → Rounded r r₁ w l h → Searched h w r₂ w₂ h₂
@@ -151,8 +151,8 @@ module _ {M : Type 1} (𝓤 : URA M) (H : Heap 𝓤) (A : Atoms 𝓤) (W : Given
       let g = gridOf rows columns (now grid) in
       record {
         between = w;
-        first = subst (λ (p : ℕ). KeptList (randomRoundCall g ws (now list) (drop-list p (now bytes))) (rolledAnswer r₁) w l) (e .1) (subst (λ (y : RefT (List ℕ)). KeptList (randomRoundCall g ws (now list) (drop-list (r .place) (now y))) (rolledAnswer r₁) w l) (e .0) (e₁ .0));
-        second = subst (λ (p : ℕ). Kept (randomSearchCall g w (drop-list p (now bytes)) rounds) (rolledAnswer r₂) w₂) from (subst (λ (y : RefT (List ℕ)). Kept (randomSearchCall g w (drop-list (h .place) (now y)) rounds) (rolledAnswer r₂) w₂) same (e₂ .0));
+        first = subst (λ (p : ℕ). KeepsList (randomRoundCall g ws (now list) (drop-list p (now bytes))) (rolledAnswer r₁) w l) (e .1) (subst (λ (y : RefT (List ℕ)). KeepsList (randomRoundCall g ws (now list) (drop-list (r .place) (now y))) (rolledAnswer r₁) w l) (e .0) (e₁ .0));
+        second = subst (λ (p : ℕ). Keeps (randomSearchCall g w (drop-list p (now bytes)) rounds) (rolledAnswer r₂) w₂) from (subst (λ (y : RefT (List ℕ)). Keeps (randomSearchCall g w (drop-list (h .place) (now y)) rounds) (rolledAnswer r₂) w₂) same (e₂ .0));
         stands = ap (λ (y : DrawReader). y .place) (e₂ .1) ∙ ap (standsAt r₂) from;
       }
 

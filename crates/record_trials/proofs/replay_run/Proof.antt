@@ -44,12 +44,12 @@ use denote.Triple.Table.{entered, cited}
 use denote.Triple.Walked.{says, Stays, gave-slice, stay-none, stay-none-slice, walkOf, Walks, ends-at, walked, goes-gave-slice, goes-none, goes-none-slice, walk-meets}
 use denote.Exit.{yes}
 use Rattle.area.specs.Numbers.{gridOf}
-use Rattle.zini.specs.Answers.{replayedAnswer}
+use Rattle.zini.specs.Answers.{KeepsList, replayedAnswer}
 use Rattle.zini.specs.declared.Replayed.{Replayed}
 use Rattle.zini.proofs.Replayed as S
 use Rattle.zini.proofs.Replayed.Laws as S′
 use Rattle.records.specs.declared.MoveRecord.{MoveRecord}
-use Rattle.by_records.specs.Promises.{KeptReplay}
+use Rattle.by_records.specs.Promises.{replayRecordsCall}
 use Rattle.by_records.proofs.replay_records as by
 use Rattle.by_records.proofs.replay_records.Symbol as by-def
 use Rattle.by_records.proofs.replay_records.Symbol.{name as #by-records·replay-records}
@@ -97,7 +97,7 @@ module _ {M : Type 1} (𝓤 : URA M) (H : Heap 𝓤) (A : Atoms 𝓤) (W : Given
 
   -- what the call keeps
   abbrev Promised : Replayed → List ℤ → List ℕ → Type 0
-  Promised r w l = KeptReplay (gridOf rows columns (now grid)) (now work) (now list) ys count (replayedAnswer r) w l
+  Promised r w l = KeepsList (replayRecordsCall (gridOf rows columns (now grid)) (now work) (now list) ys count) (replayedAnswer r) w l
 
   abbrev OwnGrid : Fml
   OwnGrid = ShrSlice (named 0) κg i32 .own grid (vg ∷ [])

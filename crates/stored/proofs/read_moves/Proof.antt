@@ -4,7 +4,7 @@ use mathlib.Core.Path.{_≡_, ap, sym, _∙_}
 use mathlib.Core.Option.{none}
 use Rattle.game.specs.Calls.{firstGiven}
 use Rattle.stored.specs.MoveLine.{moveLineChecks}
-use Rattle.lines.specs.Answers.{refusalOf}
+use Rattle.refusals.specs.Names.{refusalOf}
 use Rattle.stored.proofs.Words.{length-stored}
 use Rattle.stored.proofs.MoveCalls.{PassedMoves, passed-moves, read-kept, read-refused}
 use borrow.Author.Needs.{needs}

@@ -4,7 +4,7 @@ use mathlib.Core.Path.{_≡_, ap, sym, _∙_}
 use mathlib.Core.Option.{none}
 use Rattle.game.specs.Calls.{firstGiven}
 use Rattle.stored.specs.MoveLine.{writeChecks}
-use Rattle.lines.specs.Answers.{refusalOf}
+use Rattle.refusals.specs.Names.{refusalOf}
 use Rattle.stored.proofs.MoveCalls.{PassedWrite, passed-write, write-kept, write-refused}
 use borrow.Author.Needs.{needs}
 use Rattle.stored.proofs.write_moves.Statement.{statement}

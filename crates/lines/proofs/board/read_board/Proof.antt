@@ -1,7 +1,7 @@
 -- `lines::board::read_board`: refused as the checks say, else read. Assumes nothing.
 use mathlib.Core.Path.{ap, sym, _∙_}
-use Rattle.lines.specs.Answers.{refusalOf}
-use Rattle.lines.proofs.Calls.{kept-refused}
+use Rattle.refusals.specs.Names.{refusalOf}
+use Rattle.lines.proofs.Calls.{board-refused}
 use borrow.Author.Needs.{needs}
 use Rattle.lines.proofs.board.read_board.Statement.{statement}
 use Rattle.lines.proofs.board.read_board.Tie as tie
@@ -21,7 +21,7 @@ read-checked-requires c κs = sym (c .before .before .before .check .ensures) �
 returns : tie.Need-returns
 returns c =
     let a = c .before .before .before .before .before .args in
-    kept-refused (a .line .now) (a .grid .now) _ (ap refusalOf (sym (c .before .checked .given .1)) ∙ c .before .before .before .check .ensures)
+    board-refused (a .line .now) (a .grid .now) _ (ap refusalOf (sym (c .before .checked .given .1)) ∙ c .before .before .before .check .ensures)
 
 same-length : tie.Need-same-length
 same-length c = search needs

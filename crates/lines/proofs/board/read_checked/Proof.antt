@@ -6,7 +6,7 @@ use Rattle.game.specs.Area.{begun}
 use Rattle.hex.specs.Hex.{bytesOf}
 use Rattle.lines.specs.BoardLine.{cellValues, gridOfBytes}
 use Rattle.lines.proofs.Verdict.{Passed, cellsOf, passed, product-small}
-use Rattle.lines.proofs.Calls.{kept-read, kept-short}
+use Rattle.lines.proofs.Calls.{board-read, board-short}
 use borrow.Author.Needs.{needs}
 use Rattle.lines.proofs.board.read_checked.Statement.{statement}
 use Rattle.lines.proofs.board.read_checked.Tie as tie
@@ -33,7 +33,7 @@ returns : tie.Need-returns
 unfolding gridOfBytes
 returns c =
     let s = c .before .before .before .before in
-    kept-short (s .args .line .now) (s .args .grid .now) (s .pre) (omega (arith, cells-are (c .before)))
+    board-short (s .args .line .now) (s .args .grid .now) (s .pre) (omega (arith, cells-are (c .before)))
 
 mul-fill : tie.Need-mul-fill
 mul-fill c = search needs
@@ -55,7 +55,7 @@ returns-2 c =
     let s = c .before .before .before .before .before .before .before in
     let b = c .before .before .before .before in
     let a = s .args in
-    kept-read (a .line .now) (a .grid .now) _ _ _ (s .pre) (omega (arith, cells-are b)) (omega (arith, b .before .byte-at .ensures .0)) (omega (arith, b .byte-at2 .ensures .0))
+    board-read (a .line .now) (a .grid .now) _ _ _ (s .pre) (omega (arith, cells-are b)) (omega (arith, b .before .byte-at .ensures .0)) (omega (arith, b .byte-at2 .ensures .0))
     (c .before .fill .ensures ∙ ap (λ (n : ℕ). begun (cellValues (bytesOf (a .line .now)) n) (a .grid .now)) (cells-are b))
 
 pub read-checked-spec : {M : Type 1} → statement M

@@ -1,6 +1,6 @@
 -- `reader::price::clicks_of`: the clicks of an answer of one value. Assumes nothing.
 use mathlib.Core.Path.{ap, sym}
-use Rattle.checks.specs.Refusals.{named}
+use Rattle.refusals.specs.Names.{named}
 use Rattle.zini.specs.Answers.{pricedAnswer}
 use Rattle.reader.proofs.Figures.{no-value, one-value}
 use borrow.Author.Needs.{needs}

@@ -8,7 +8,8 @@ use lib.IntN.{ℤ, pos}
 use lib.ListN.{length, length-replicate, replicate, take}
 use Rattle.game.specs.Calls.{Answer}
 use Rattle.lines.specs.BoardLine.{boardLineCall, lineGrid}
-use Rattle.lines.specs.Answers.{KeptGrid, boardAnswer, named}
+use Rattle.lines.specs.Answers.{KeepsGrid, boardAnswer}
+use Rattle.refusals.specs.Names.{named}
 use Rattle.area.specs.Numbers.{gridOf}
 use Rattle.reader.specs.Taken.{Taken}
 use Rattle.reader.specs.Prices.{priceOf, priceOr}
@@ -37,7 +38,7 @@ record Read (rows columns : ℕ) (line : List ℕ) (values : List ℤ) : Type 0 
 read-board : (c : tie.After-board2) → Read (c .board2 .given .0 .0) (c .board2 .given .0 .1 .0) (line (c .before .before .before)) (c .before .before .before .read-board .last .1 .0)
 read-board c =
     let r = c .before .before .before in
-    let k = subst (λ (a : Answer). KeptGrid (boardLineCall (line r) grid) a (r .read-board .last .1 .0)) (ap boardAnswer (c .board2 .given .1)) (r .read-board .ensures) in
+    let k = subst (λ (a : Answer). KeepsGrid (boardLineCall (line r) grid) a (r .read-board .last .1 .0)) (ap boardAnswer (c .board2 .given .1)) (r .read-board .ensures) in
     record {
       taken = line-taken (line r) grid room (c .board2 .given .0 .0) (c .board2 .given .0 .1 .0) (r .read-board .last .1 .0) k;
       enough = enough-values (line r) grid room (c .board2 .given .0 .0) (c .board2 .given .0 .1 .0) (r .read-board .last .1 .0) k;

@@ -10,11 +10,11 @@ use Rattle.reader.proofs.price.priced.Tie as tie
 units-requires : tie.Need-units-requires
 units-requires c κs = search needs
 
-greedy-requires : tie.Need-greedy-requires
-greedy-requires c κs = search needs
+clicks-requires : tie.Need-clicks-requires
+clicks-requires c κs = search needs
 
-openings-first-requires : tie.Need-openings-first-requires
-openings-first-requires c κs = search needs
+clicks-requires-2 : tie.Need-clicks-requires-2
+clicks-requires-2 c κs = search needs
 
 returns : tie.Need-returns
 returns c =
@@ -22,4 +22,4 @@ returns c =
     by-figures (gridOf (a .rows) (a .columns) (a .grid .now)) (heldPrice _) (omega arith) (search needs) (search needs) (search needs)
 
 pub priced-spec : {M : Type 1} → statement M
-priced-spec = tie.close (tie.spec units-requires greedy-requires openings-first-requires returns)
+priced-spec = tie.close (tie.spec units-requires clicks-requires clicks-requires-2 returns)

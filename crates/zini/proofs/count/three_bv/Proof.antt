@@ -9,7 +9,7 @@ use Rattle.area.specs.Numbers.{gridOf}
 use lib.ListN.{length}
 use Rattle.area.proofs.Held.{length-held}
 use Rattle.area.proofs.Cells.{cells-few}
-use Rattle.checks.specs.Refusals.{refusalOf}
+use Rattle.refusals.specs.Names.{refusalOf}
 use Rattle.checks.proofs.Verdict.{Passed, passed}
 use Rattle.zini.proofs.Counts.{count-refused, count-answered}
 use Rattle.zini.proofs.count.three_bv.Statement.{statement}

@@ -1,5 +1,4 @@
 -- `zini::prices::greedy`: a round in the greedy order. Assumes nothing.
-use Rattle.game.specs.Calls.{greedyCall}
 use borrow.Author.Needs.{needs}
 use Rattle.zini.proofs.prices.greedy.Statement.{statement}
 use Rattle.zini.proofs.prices.greedy.Tie as tie
@@ -14,7 +13,6 @@ same-length-2 : tie.Need-same-length-2
 same-length-2 c = search needs
 
 returns : tie.Need-returns
-unfolding greedyCall
 returns c = c .before .before .before .price .ensures
 
 pub greedy-spec : {M : Type 1} → statement M

@@ -1,5 +1,4 @@
 -- `zini::prices::openings_first`: a round in the openings-first order. Assumes nothing.
-use Rattle.game.specs.Calls.{openingsFirstCall}
 use borrow.Author.Needs.{needs}
 use Rattle.zini.proofs.prices.openings_first.Statement.{statement}
 use Rattle.zini.proofs.prices.openings_first.Tie as tie
@@ -14,7 +13,6 @@ same-length-2 : tie.Need-same-length-2
 same-length-2 c = search needs
 
 returns : tie.Need-returns
-unfolding openingsFirstCall
 returns c = c .before .before .before .price .ensures
 
 pub openings-first-spec : {M : Type 1} → statement M

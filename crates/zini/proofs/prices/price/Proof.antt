@@ -4,11 +4,11 @@ use mathlib.Core.List.{_++_}
 use mathlib.Core.Option.{Option, none}
 use Prim.Native.Nat.{_*_}
 use lib.ListN.{length}
-use Rattle.game.specs.Rounds.{movesOf, roundSteps}
-use Rattle.game.specs.Calls.{ListOutcome, Refusal, firstGiven, gridChecks, playedRound, trace}
+use Rattle.game.specs.Calls.{ListOutcome, Refusal, firstGiven, gridChecks, priceCall, pricedRound, trace}
 use Rattle.area.specs.Numbers.{gridOf}
-use Rattle.checks.specs.Refusals.{refusalOf}
-use Rattle.checks.proofs.More.{reaches, all-passed}
+use Rattle.refusals.specs.Names.{refusalOf}
+use Rattle.checks.proofs.More.{reaches}
+use Rattle.checks.proofs.Verdict.{all-passed}
 use Rattle.zini.proofs.Promises.{list-else, list-refused}
 use borrow.Author.Needs.{needs}
 use Rattle.zini.proofs.prices.price.Statement.{statement}
@@ -22,15 +22,14 @@ given c =
 -- what the call comes to where none is
 abbrev come : tie.Start → ListOutcome
 come c =
-    let g = gridOf (c .args .rows) (c .args .columns) (c .args .grid .now) in
-    playedRound g (movesOf (roundSteps (c .args .openings-first) g)) (c .args .work .now) (c .args .list .now)
+    pricedRound (c .args .openings-first) (gridOf (c .args .rows) (c .args .columns) (c .args .grid .now)) (c .args .work .now) (c .args .list .now)
 
 -- where nothing is refused
-verdict : (c : tie.After-enum-told) → given (c .before .before .before .before .before .before) ≡ none
-verdict c = sym (c .before .before .check-list .ensures) ∙ ap refusalOf (c .enum-told .given .1)
+verdict : (c : tie.After-enum-told) → given (c .before .before .before .before .before) ≡ none
+verdict c = sym (c .before .before .check-room .ensures) ∙ ap refusalOf (c .enum-told .given .1)
 
-check-list-requires : tie.Need-check-list-requires
-check-list-requires c κs = search needs
+check-room-requires : tie.Need-check-room-requires
+check-room-requires c κs = search needs
 
 enum-known-checked : tie.Need-enum-known-checked
 enum-known-checked c = search needs
@@ -40,41 +39,39 @@ enum-told c = search needs
 
 price-checked-requires : tie.Need-price-checked-requires
 price-checked-requires c κs =
-    let a = c .before .before .before .before .before .before .before .before .args in
+    let a = c .before .before .before .before .before .before .before .args in
     let p = all-passed (gridOf (a .rows) (a .columns) (a .grid .now)) (a .work .now) (length (a .list .now)) (a .rows * a .columns) trace (verdict (c .before .before)) in
     (p .0 .shaped, (p .0 .whole, p .0 .room, p .1))
 
 same-length : tie.Need-same-length
 same-length c = search needs
 
+returns : tie.Need-returns
+unfolding priceCall
+returns c =
+    list-refused (given (c .before .before .before .before .before .before)) _ _ _ (come (c .before .before .before .before .before .before)) (ap refusalOf (sym (c .before .checked .given .1)) ∙ c .before .before .before .check-room .ensures)
+
 same-length-2 : tie.Need-same-length-2
 same-length-2 c = search needs
-
-returns : tie.Need-returns
-returns c =
-    list-refused (given (c .before .before .before .before .before .before .before)) _ _ _ (come (c .before .before .before .before .before .before .before)) (ap refusalOf (sym (c .before .checked .given .1)) ∙ c .before .before .before .check-list .ensures)
 
 same-length-3 : tie.Need-same-length-3
 same-length-3 c = search needs
 
-same-length-4 : tie.Need-same-length-4
-same-length-4 c = search needs
-
 returns-2 : tie.Need-returns-2
+unfolding priceCall
 returns-2 c =
-    list-else (given (c .before .before .before .before .before .before .before .before .before .before .before .before)) _ _ _ _ _ (come (c .before .before .before .before .before .before .before .before .before .before .before .before)) (sym (verdict (c .before .before .before .before .before .before))) (c .before .before .before .price-checked .ensures)
+    list-else (given (c .before .before .before .before .before .before .before .before .before .before .before)) _ _ _ _ _ (come (c .before .before .before .before .before .before .before .before .before .before .before)) (sym (verdict (c .before .before .before .before .before .before))) (c .before .before .before .price-checked .ensures)
 
 pub price-spec : {M : Type 1} → statement M
 price-spec =
     tie.close
     (tie.spec
-    check-list-requires
+    check-room-requires
     enum-known-checked
     enum-told
     price-checked-requires
     same-length
-    same-length-2
     returns
+    same-length-2
     same-length-3
-    same-length-4
     returns-2)

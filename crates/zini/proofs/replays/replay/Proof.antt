@@ -2,14 +2,13 @@
 use mathlib.Core.Path.{_≡_, ap, sym, _∙_}
 use mathlib.Core.List.{_++_}
 use mathlib.Core.Option.{Option, none}
-use Rattle.game.specs.Position.{untouched}
-use Rattle.game.specs.Moves.{replayFrom}
-use Rattle.game.specs.Calls.{Outcome, Refusal, firstGiven, gridChecks, replayCall, replayed, trace}
+use Rattle.game.specs.Calls.{Outcome, Refusal, firstGiven, gridChecks, replayCall, replayedList, trace}
 use Rattle.area.specs.Numbers.{gridOf}
-use lib.ListN.{length, take}
-use Rattle.checks.specs.Refusals.{refusalOf}
-use Rattle.checks.proofs.More.{reaches, all-passed}
-use Rattle.zini.proofs.Promises.{kept-else, kept-refused}
+use lib.ListN.{length}
+use Rattle.refusals.specs.Names.{refusalOf}
+use Rattle.checks.proofs.More.{reaches}
+use Rattle.checks.proofs.Verdict.{all-passed}
+use Rattle.zini.proofs.Promises.{keeps-else, keeps-refused}
 use borrow.Author.Needs.{needs}
 use Rattle.zini.proofs.replays.replay.Statement.{statement}
 use Rattle.zini.proofs.replays.replay.Tie as tie
@@ -22,8 +21,7 @@ given c =
 -- what the call comes to where none is
 abbrev come : tie.Start → Outcome
 come c =
-    let g = gridOf (c .args .rows) (c .args .columns) (c .args .grid .now) in
-    replayed g (c .args .count) (replayFrom g 0 (untouched g) (take (c .args .count) (c .args .list .now))) (c .args .work .now)
+    replayedList (gridOf (c .args .rows) (c .args .columns) (c .args .grid .now)) (c .args .work .now) (c .args .list .now) (c .args .count)
 
 -- where nothing is refused
 verdict : (c : tie.After-enum-told) → given (c .before .before .before .before .before) ≡ none
@@ -50,7 +48,7 @@ same-length c = search needs
 returns : tie.Need-returns
 unfolding replayCall
 returns c =
-    kept-refused (given (c .before .before .before .before .before .before)) _ _ (come (c .before .before .before .before .before .before)) (ap refusalOf (sym (c .before .checked .given .1)) ∙ c .before .before .before .check-more .ensures)
+    keeps-refused (given (c .before .before .before .before .before .before)) _ _ (come (c .before .before .before .before .before .before)) (ap refusalOf (sym (c .before .checked .given .1)) ∙ c .before .before .before .check-more .ensures)
 
 same-length-2 : tie.Need-same-length-2
 same-length-2 c = search needs
@@ -58,7 +56,7 @@ same-length-2 c = search needs
 returns-2 : tie.Need-returns-2
 unfolding replayCall
 returns-2 c =
-    kept-else (given (c .before .before .before .before .before .before .before .before)) _ _ _ (come (c .before .before .before .before .before .before .before .before)) (sym (verdict (c .before .before .before))) (c .before .replay-checked .ensures)
+    keeps-else (given (c .before .before .before .before .before .before .before .before)) _ _ _ (come (c .before .before .before .before .before .before .before .before)) (sym (verdict (c .before .before .before))) (c .before .replay-checked .ensures)
 
 pub replay-spec : {M : Type 1} → statement M
 replay-spec =

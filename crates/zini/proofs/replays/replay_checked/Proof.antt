@@ -5,11 +5,11 @@ use mathlib.Core.Path.{refl, sym, subst}
 use lib.ListN.{take}
 use Rattle.game.specs.Position.{untouched}
 use Rattle.game.specs.Moves.{replayFrom}
-use Rattle.game.specs.Calls.{replayed}
+use Rattle.game.specs.Calls.{replayedList}
 use Rattle.game.proofs.Tidy.{untouched-tidy}
 use Rattle.area.specs.Numbers.{gridOf}
 use Rattle.area.proofs.Cells.{cells-few}
-use Rattle.zini.specs.Answers.{Kept, replayedAnswer}
+use Rattle.zini.specs.Answers.{Keeps, replayedAnswer}
 use Rattle.zini.specs.declared.Replayed.{Replayed}
 use Rattle.zini.proofs.Played.{fresh, replay-kept}
 use Rattle.zini.proofs.replays.replay_checked.Statement.{statement}
@@ -39,7 +39,7 @@ returns c =
     let g = gridOf (a .rows) (a .columns) (a .grid .now) in
     let t = fresh (a .rows) (a .columns) g (a .work .now) _ refl refl (c .before .before .before .before .before .before .before .before .before .before .before .pre .0) (omega arith) (c .before .before .before .before .before .before .before .before .set-up .ensures .work) in
     let k = c .before .before .before .before .before .run .ensures g (untouched g) (a .work .now) t (untouched-tidy g) (c .before .before .before .before .before .before .before .before .set-up .ensures .safe) in
-    subst (λ (x : Replayed). Kept (replayed g (a .count) (replayFrom g 0 (untouched g) (take (a .count) (a .list .now))) (a .work .now)) (replayedAnswer x) (c .before .before .settle .last .0))
+    subst (λ (x : Replayed). Keeps (replayedList g (a .work .now) (a .list .now) (a .count)) (replayedAnswer x) (c .before .before .settle .last .0))
     (sym (c .replay-answer .ensures))
     (replay-kept (a .rows) (a .columns) g (a .work .now) (c .before .before .before .before .before .run .last .0) (c .before .before .settle .last .0) (a .count) (replayFrom g 0 (untouched g) (take (a .count) (a .list .now))) (c .before .before .before .before .before .run .result) k
     (λ s q. c .before .before .settle .ensures g s (a .work .now) refl (omega arith) q))

@@ -1,0 +1,2 @@
+-- The refusals read back from their numbers.
+pub mod ReadBack

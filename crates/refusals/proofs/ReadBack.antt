@@ -1,0 +1,64 @@
+-- A refusal is read back from its number, so there is only one verdict of checks, and an answer's enum is read back from its number and values. Assumes nothing.
+use Prim.Native.Nat.{ℕ, _≤_}
+use native.Mathlib.Omega.{arith}
+use mathlib.Core.Path.{_≡_, ap, refl, sym, _∙_}
+use mathlib.Core.Bool.{cond}
+use mathlib.Core.List.{List, [], _∷_}
+use mathlib.Core.Option.{Option, none, some}
+use mathlib.Mathlib.Logic.Function.Defs.{LeftInverse·injective}
+use lib.Dec.{eqb}
+use Rattle.game.specs.Calls.{Answer, board, draws, frame, move, numberOf, refuses, rounds, shape, size-over, trace, work}
+use Rattle.game.specs.Calls as Game
+use Rattle.refusals.specs.Names.{named, refusalOf}
+use Rattle.refusals.specs.declared.Refusal.{Refusal}
+use Rattle.refusals.specs.declared.Refusal.the-variants.{Shape, Board, Work, Trace, Rounds, Draws, Move, Frame, Size}
+use Rattle.refusals.specs.declared.Checked.{Checked}
+use Rattle.refusals.specs.declared.Checked.the-variants.{Fine, Refused}
+
+-- the refusal of a number
+abbrev pub refusalBy : ℕ → Refusal
+refusalBy n =
+    cond (eqb n 1) Shape (cond (eqb n 2) Board (cond (eqb n 3) Work (cond (eqb n 4) Trace (cond (eqb n 5) Rounds (cond (eqb n 6) Draws (cond (eqb n 7) Move (cond (eqb n 8) Frame Size)))))))
+
+-- a refusal is read back from its number
+pub number-back : (f : Refusal) → refusalBy (numberOf (named f)) ≡ f
+number-back Shape = refl
+number-back Board = refl
+number-back Work = refl
+number-back Trace = refl
+number-back Rounds = refl
+number-back Draws = refl
+number-back Move = refl
+number-back Frame = refl
+number-back Size = refl
+
+-- no refusal's number is 0
+pub numbered : (f : Game.Refusal) → 1 ≤ numberOf f
+numbered shape = omega arith
+numbered board = omega arith
+numbered work = omega arith
+numbered trace = omega arith
+numbered rounds = omega arith
+numbered draws = omega arith
+numbered move = omega arith
+numbered frame = omega arith
+numbered size-over = omega arith
+
+-- the checks' verdict: the refusal determines it
+pub checked-once : (o : Option Game.Refusal) (r r′ : Checked) → refusalOf r ≡ o → refusalOf r′ ≡ o → r ≡ r′
+checked-once o r r′ e e′ = LeftInverse·injective checkedBy refusalOf back r r′ (e ∙ sym e′)
+  where
+    checkedBy : Option Game.Refusal → Checked
+    checkedBy none = Fine
+    checkedBy (some f) = Refused (refusalBy (numberOf f))
+
+    back : (r : Checked) → checkedBy (refusalOf r) ≡ r
+    back Fine = refl
+    back (Refused f) = ap Refused (number-back f)
+
+-- an enum from an answer: a refusal alone by its number, success by its values, of which there is one at least
+abbrev pub readBack : {A : Type 0} → (List ℕ → A) → (Refusal → A) → Answer → A
+readBack given refused a = elim (a .values) [ [] ↦ refused (refusalBy (a .number)) | v ∷ vs ↦ given (v ∷ vs) ]
+
+pub refused-back : {A : Type 0} (given : List ℕ → A) (refused : Refusal → A) (f : Refusal) → readBack given refused (refuses (named f)) ≡ refused f
+refused-back given refused f = ap refused (number-back f)

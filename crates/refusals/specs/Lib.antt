@@ -1,0 +1,2 @@
+-- What the refusals of the code stand for.
+pub mod Names

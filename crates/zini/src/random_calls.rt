@@ -1,0 +1,139 @@
+// Random rounds and searches: clicks, and draw bytes used.
+use crate::Rolled;
+use crate::clears;
+use refusals::Checked;
+use refusals::Refusal;
+ghost use mathlib.Core.Path.{_≡_};
+ghost use mathlib.Core.List.{List};
+ghost use mathlib.Core.Option.{Option};
+ghost use Prim.Native.Nat.{ℕ, _*_, _≤_};
+ghost use lib.IntN.{ℤ};
+ghost use lib.ListN.{length};
+ghost use Rattle.game.specs.Draws.{Places, Source, lent};
+ghost use Rattle.game.specs.Grid.{Grid, size};
+ghost use Rattle.game.specs.Rounds.{Searched, randomRound};
+ghost use Rattle.game.specs.Calls.{drawnSearch, randomRoundCall, randomSearchCall, roundBy, searchBy};
+ghost use Rattle.area.specs.Numbers.{gridOf};
+ghost use Rattle.area.specs.Stages.{Shape};
+ghost use Rattle.random.specs.Promises.{Rolling, Searching};
+ghost use Rattle.zini.specs.Answers.{Keeps, KeepsList, rolledAnswer};
+
+// A random round's lent memory is handed back: settled, or filled with 0 where the draws ran dry.
+fn end_round(
+    rolled: random::Finish,
+    rows: usize,
+    columns: usize,
+    work: &mut [i32],
+    list: &mut [u32],
+) -> Rolled
+    requires { ⌜ Shape rows columns ⌝ }
+    requires { ⌜ (5 * (rows * columns) ≤ length (now work)) × (rows * columns ≤ length (now list)) ⌝ }
+    ensures { λ r. ⌜ ((g : Grid) (source : Source) (old : List ℤ) (before : List ℕ) → Places source → size g ≡ rows * columns → 5 * size g ≤ length old → size g ≤ length before
+        → Rolling rows columns g old (randomRound g source 0) before (now (work .entry)) (now (list .entry)) rolled
+        → KeepsList (roundBy source g old before) (rolledAnswer r) (now (work .exit)) (now (list .exit))) ⌝ }
+{
+    match rolled {
+        random::Finish::Ended(clicks, used) => {
+            start::begin::settle(work, rows * columns);
+            Rolled::Clicks(clicks, used)
+        }
+        random::Finish::Dry => {
+            clears::clear_area(work, 5 * (rows * columns));
+            clears::clear_list(list, rows * columns);
+            Rolled::Refused(Refusal::Draws)
+        }
+    }
+}
+
+// A random search's lent memory is handed back: settled, or filled with 0 where the draws ran dry.
+fn end_search(rolled: random::Finish, rows: usize, columns: usize, work: &mut [i32]) -> Rolled
+    requires { ⌜ Shape rows columns ⌝ }
+    requires { ⌜ 5 * (rows * columns) ≤ length (now work) ⌝ }
+    ensures { λ r. ⌜ ((g : Grid) (o : Option Searched) (old : List ℤ) → size g ≡ rows * columns → 5 * size g ≤ length old
+        → Searching rows columns g old o (now (work .entry)) rolled → Keeps (drawnSearch g o old) (rolledAnswer r) (now (work .exit))) ⌝ }
+{
+    match rolled {
+        random::Finish::Ended(least, used) => {
+            start::begin::settle(work, rows * columns);
+            Rolled::Clicks(least, used)
+        }
+        random::Finish::Dry => {
+            clears::clear_area(work, 5 * (rows * columns));
+            Rolled::Refused(Refusal::Draws)
+        }
+    }
+}
+
+// A random round whose input has been checked.
+fn roll_checked(
+    rows: usize,
+    columns: usize,
+    grid: &[i32],
+    work: &mut [i32],
+    list: &mut [u32],
+    draws: &[u8],
+) -> Rolled
+    requires { ⌜ Shape rows columns ⌝ }
+    requires { ⌜ (length (now grid) ≡ rows * columns) × (5 * (rows * columns) ≤ length (now work)) × (rows * columns ≤ length (now list)) ⌝ }
+    ensures { λ r. ⌜ KeepsList (roundBy (lent (now (draws .entry))) (gridOf rows columns (now (grid .entry))) (now (work .entry)) (now (list .entry))) (rolledAnswer r) (now (work .exit)) (now (list .exit)) ⌝ }
+{
+    let counts = start::begin::set_up(grid, rows, columns, work);
+    let safe = counts.safe;
+    let rolled = random::round(work, rows, columns, list, draws, safe, 0);
+    end_round(rolled, rows, columns, work, list)
+}
+
+// A random search whose input has been checked.
+fn search_checked(
+    rows: usize,
+    columns: usize,
+    grid: &[i32],
+    work: &mut [i32],
+    draws: &[u8],
+    rounds: usize,
+) -> Rolled
+    requires { ⌜ Shape rows columns ⌝ }
+    requires { ⌜ (length (now grid) ≡ rows * columns) × (5 * (rows * columns) ≤ length (now work)) × (1 ≤ rounds) ⌝ }
+    ensures { λ r. ⌜ Keeps (searchBy (lent (now (draws .entry))) rounds (gridOf rows columns (now (grid .entry))) (now (work .entry))) (rolledAnswer r) (now (work .exit)) ⌝ }
+{
+    let counts = start::begin::set_up(grid, rows, columns, work);
+    let safe = counts.safe;
+    let rolled = random::search(work, rows, columns, draws, safe, rounds);
+    end_search(rolled, rows, columns, work)
+}
+
+// A single random round: its clicks, its moves in the list, and the draw bytes used.
+pub fn random_round(
+    rows: usize,
+    columns: usize,
+    grid: &[i32],
+    work: &mut [i32],
+    list: &mut [u32],
+    draws: &[u8],
+) -> Rolled
+    ensures { λ r. ⌜ KeepsList (randomRoundCall (gridOf rows columns (now (grid .entry))) (now (work .entry)) (now (list .entry)) (now (draws .entry))) (rolledAnswer r) (now (work .exit)) (now (list .exit)) ⌝ }
+{
+    let checked = checks::check_room(rows, columns, grid, work, list.len());
+    match checked {
+        Checked::Refused(refusal) => Rolled::Refused(refusal),
+        Checked::Fine => roll_checked(rows, columns, grid, work, list, draws),
+    }
+}
+
+// Random search over so many rounds: the least clicks, and the draw bytes used.
+pub fn random_search(
+    rows: usize,
+    columns: usize,
+    grid: &[i32],
+    work: &mut [i32],
+    draws: &[u8],
+    rounds: usize,
+) -> Rolled
+    ensures { λ r. ⌜ Keeps (randomSearchCall (gridOf rows columns (now (grid .entry))) (now (work .entry)) (now (draws .entry)) rounds) (rolledAnswer r) (now (work .exit)) ⌝ }
+{
+    let checked = checks::check_more(rows, columns, grid, work, rounds, 1, Refusal::Rounds);
+    match checked {
+        Checked::Refused(first) => Rolled::Refused(first),
+        Checked::Fine => search_checked(rows, columns, grid, work, draws, rounds),
+    }
+}
