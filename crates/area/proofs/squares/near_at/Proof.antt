@@ -1,10 +1,11 @@
--- `area::near_at`: the row and the column, each counted from 1, are tested one after the other. Assumes nothing.
+-- `area::squares::near_at`: the row and the column, each counted from 1, are tested one after the other. Assumes nothing.
 use borrow.Author.Needs.{needs}
-use Rattle.area.proofs.near_at.Statement.{statement}
-use Rattle.area.proofs.near_at.Tie as tie
+use Rattle.area.proofs.squares.near_at.Statement.{statement}
+use Rattle.area.proofs.squares.near_at.Tie as tie
 use native.Mathlib.Omega.{arith}
 use Rattle.area.proofs.Cells.{cells-few}
-use Rattle.area.proofs.Sides.{column-of, near-below, off-grid, on-grid, row-of}
+use Rattle.area.proofs.Rows.{column-inside, row-inside}
+use Rattle.area.proofs.Sides.{near-below, off-grid, on-grid}
 use Prim.Native.Nat.{ℕ, _%_, _*_, _+_, _-_, _/_, _<_, _≤_}
 use mathlib.Core.Path.{_≡_}
 use mathlib.Core.List.{[]}
@@ -49,7 +50,7 @@ mul-result-2 : tie.Need-mul-result-2
 mul-result-2 c = omega (arith, cells-few _ _ (c .before .before .pre .0))
 
 returns-2 : tie.Need-returns-2
-returns-2 c = off-grid _ _ (c .before .before .pre .0) _ _ _ (λ y h a b. omega (arith, in-row (c .before .before), row-of _ _ (c .before .before .pre .0) y))
+returns-2 c = off-grid _ _ (c .before .before .pre .0) _ _ _ (λ y h a b. omega (arith, in-row (c .before .before), row-inside _ _ y h))
 
 mul-result-3 : tie.Need-mul-result-3
 mul-result-3 c = omega (arith, cells-few _ _ (c .before .before .before .pre .0))
@@ -61,7 +62,7 @@ mul-result-4 : tie.Need-mul-result-4
 mul-result-4 c = omega (arith, cells-few _ _ (c .before .before .before .before .pre .0))
 
 returns-4 : tie.Need-returns-4
-returns-4 c = off-grid _ _ (c .before .before .before .before .pre .0) _ _ _ (λ y h a b. omega (arith, in-column (c .before .before .before .before), column-of _ _ (c .before .before .before .before .pre .0) y h))
+returns-4 c = off-grid _ _ (c .before .before .before .before .pre .0) _ _ _ (λ y h a b. omega (arith, in-column (c .before .before .before .before), column-inside _ _ y h))
 
 sub-result : tie.Need-sub-result
 sub-result c = search needs

@@ -1,4 +1,4 @@
--- `area::get`: a number below 0 reads as 0, any other as itself. Assumes nothing.
+-- `area::numbers::get`: a number below 0 reads as 0, any other as itself. Assumes nothing.
 use native.Mathlib.Omega.{arith}
 use borrow.Author.Needs.{needs, sfits-of}
 use lib.ListN.{getD}
@@ -7,8 +7,8 @@ use mir.Val.{SFits}
 use mir.Syntax.{w32}
 use mir.Facts.{toZ-ofZ}
 use Rattle.area.proofs.Signs.{taken-negative, left-negative, FromZero}
-use Rattle.area.proofs.get.Statement.{statement}
-use Rattle.area.proofs.get.Tie as tie
+use Rattle.area.proofs.numbers.get.Statement.{statement}
+use Rattle.area.proofs.numbers.get.Tie as tie
 
 -- the value read, that it fits, and what the failed test says
 abbrev val : tie.After-v → ℤ

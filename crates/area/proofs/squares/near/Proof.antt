@@ -1,4 +1,4 @@
--- `area::near`: a cell's index is that of its row and column. Assumes nothing.
+-- `area::squares::near`: a cell's index is that of its row and column. Assumes nothing.
 use Prim.Native.Nat.{ℕ}
 use mathlib.Core.Path.{subst}
 use mathlib.Core.List.{[]}
@@ -6,9 +6,9 @@ use borrow.Author.Needs.{needs}
 use Rattle.game.proofs.Squares.{index-of}
 use Rattle.area.specs.Numbers.{gridOf}
 use Rattle.area.specs.Squares.{Neighbour}
-use Rattle.area.proofs.Sides.{column-of, row-of}
-use Rattle.area.proofs.near.Statement.{statement}
-use Rattle.area.proofs.near.Tie as tie
+use Rattle.area.proofs.Rows.{column-inside, row-inside}
+use Rattle.area.proofs.squares.near.Statement.{statement}
+use Rattle.area.proofs.squares.near.Tie as tie
 
 rem-near-at : tie.Need-rem-near-at
 rem-near-at c = search needs
@@ -19,7 +19,7 @@ div-near-at c = search needs
 near-at-requires : tie.Need-near-at-requires
 near-at-requires c κs =
     let a = c .args in
-    (c .pre .0, (row-of _ _ (c .pre .0) (a .index), column-of _ _ (c .pre .0) (a .index) (c .pre .1 .0), c .pre .1 .1, c .pre .1 .2))
+    (c .pre .0, (row-inside _ _ (a .index) (c .pre .1 .0), column-inside _ _ (a .index) (c .pre .1 .0), c .pre .1 .1, c .pre .1 .2))
 
 returns : tie.Need-returns
 returns c =

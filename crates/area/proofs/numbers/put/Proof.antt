@@ -1,11 +1,11 @@
--- `area::put`: the remainder fits 31 bits, so it is stored as itself. Assumes nothing.
+-- `area::numbers::put`: the remainder fits 31 bits, so it is stored as itself. Assumes nothing.
 use borrow.Author.Needs.{needs}
 use lib.IntN.{ℤ}
 use lib.ListN.{set}
 use mathlib.Core.Path.{ap}
 use Rattle.area.proofs.Signs.{stored}
-use Rattle.area.proofs.put.Statement.{statement}
-use Rattle.area.proofs.put.Tie as tie
+use Rattle.area.proofs.numbers.put.Statement.{statement}
+use Rattle.area.proofs.numbers.put.Tie as tie
 
 cast-work : tie.Need-cast-work
 cast-work c = search needs

@@ -1,4 +1,4 @@
--- `area::mines_in_row`: the mines counted so far are those of the columns passed. Assumes nothing.
+-- `area::mines::mines_in_row`: the mines counted so far are those of the columns passed. Assumes nothing.
 use Prim.Native.Nat.{ℕ, _-_, _≤_}
 use native.Mathlib.Omega.{arith}
 use borrow.Author.Needs.{needs}
@@ -6,8 +6,8 @@ use mathlib.Core.Path.{_≡_, ap, _∙_}
 use Rattle.game.specs.Lists.{count, range}
 use Rattle.area.proofs.Tests.{byte-le, count-none-yet, count-one-more}
 use Rattle.area.specs.Numbers.{rowMine}
-use Rattle.area.proofs.mines_in_row.Statement.{statement}
-use Rattle.area.proofs.mines_in_row.Tie as tie
+use Rattle.area.proofs.mines.mines_in_row.Statement.{statement}
+use Rattle.area.proofs.mines.mines_in_row.Tie as tie
 
 abbrev Inv-loop : tie.InvT-loop
 Inv-loop grid columns row from to mines₀ column₀ mines column =

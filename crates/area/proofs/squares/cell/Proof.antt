@@ -1,11 +1,11 @@
--- `area::cell`: columns come one after the other, so a cell of the grid is below the cells. Assumes nothing.
+-- `area::squares::cell`: columns come one after the other, so a cell of the grid is below the cells. Assumes nothing.
 use Prim.Native.Nat.{_*_, _+_, _<_, _≤_}
 use native.Mathlib.Omega.{arith}
 use native.Mathlib.Nat.{mul-le-mul}
 use mathlib.Core.Path.{refl}
 use Rattle.area.proofs.Cells.{cell-below}
-use Rattle.area.proofs.cell.Statement.{statement}
-use Rattle.area.proofs.cell.Tie as tie
+use Rattle.area.proofs.squares.cell.Statement.{statement}
+use Rattle.area.proofs.squares.cell.Tie as tie
 
 -- what a cell's index stays below
 inside : (c : tie.Start) → (c .args .column * c .args .rows + c .args .row < c .args .rows * c .args .columns) × (c .args .rows * c .args .columns ≤ 65025)

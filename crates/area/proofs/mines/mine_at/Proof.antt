@@ -1,10 +1,10 @@
--- `area::mine_at`: the test on the bits is the test on the value. Assumes nothing.
+-- `area::mines::mine_at`: the test on the bits is the test on the value. Assumes nothing.
 use borrow.Author.Needs.{needs}
 use lib.ListN.{getD}
 use lib.IntN.{pos}
 use Rattle.area.proofs.Signs.{test-mine}
-use Rattle.area.proofs.mine_at.Statement.{statement}
-use Rattle.area.proofs.mine_at.Tie as tie
+use Rattle.area.proofs.mines.mine_at.Statement.{statement}
+use Rattle.area.proofs.mines.mine_at.Tie as tie
 
 mul-v : tie.Need-mul-v
 mul-v c = search needs
