@@ -4,13 +4,13 @@ use native.Mathlib.Omega.{arith}
 use mathlib.Core.Path.{_≡_, _∙_, ap, refl, sym}
 use mathlib.Core.Bool.{Bool}
 use mathlib.Core.List.{List, [], _∷_, _++_, append-assoc, append-nil, map, map-append}
-use Rattle.game.specs.Grid.{square}
+use Rattle.game.specs.Grid.{Grid, square}
 use Rattle.game.specs.Lists.{bit, concat-map, count, fold, range}
 use Rattle.game.proofs.Counts.{count-append}
 use Rattle.game.proofs.Members.{fold-append, range-more, range-none}
 use Rattle.game.proofs.Squares.{column-lt, row-lt}
 use Rattle.area.specs.Numbers.{gridOf}
-use Rattle.area.specs.Squares.{Around, blockCells, rowCells}
+use Rattle.area.specs.Squares.{Around, blockCells, rowCells, squareOf}
 
 -- the row and the column of a cell
 pub row-inside : (rows columns i : ℕ) → i < rows * columns → i % rows < rows
@@ -18,6 +18,11 @@ row-inside rows columns i h = row-lt (gridOf rows columns []) i h
 
 pub column-inside : (rows columns i : ℕ) → i < rows * columns → i / rows < columns
 column-inside rows columns i h = column-lt (gridOf rows columns []) i h
+
+-- the square turns on rows and columns alone
+pub same-square : (g : Grid) (i : ℕ) → squareOf (g .rows) (g .columns) i ≡ square g i
+unfolding square
+same-square g i = refl
 
 -- ---- a row
 

@@ -1,8 +1,8 @@
 -- `area::squares::near`: a cell's index is that of its row and column. Assumes nothing.
 use Prim.Native.Nat.{ℕ}
 use mathlib.Core.Path.{subst}
-use mathlib.Core.List.{[]}
 use borrow.Author.Needs.{needs}
+use mathlib.Core.List.{[]}
 use Rattle.game.proofs.Squares.{index-of}
 use Rattle.area.specs.Numbers.{gridOf}
 use Rattle.area.specs.Squares.{Neighbour}

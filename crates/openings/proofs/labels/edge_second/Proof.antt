@@ -1,7 +1,7 @@
--- `marks::edge_second`: by its three tests. Assumes nothing.
-use Rattle.openings.specs.Marks.{edgeSecond}
-use Rattle.openings.proofs.marks.edge_second.Statement.{statement}
-use Rattle.openings.proofs.marks.edge_second.Tie as tie
+-- `labels::edge_second`: by its three tests. Assumes nothing.
+use Rattle.openings.specs.Labels.{edgeSecond}
+use Rattle.openings.proofs.labels.edge_second.Statement.{statement}
+use Rattle.openings.proofs.labels.edge_second.Tie as tie
 use borrow.Author.Tests.{eq-eqb, ne-eqb}
 
 returns : tie.Need-returns

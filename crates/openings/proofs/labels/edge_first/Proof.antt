@@ -1,7 +1,7 @@
--- `marks::edge_first`: by its one test. Assumes nothing.
-use Rattle.openings.specs.Marks.{edgeFirst}
-use Rattle.openings.proofs.marks.edge_first.Statement.{statement}
-use Rattle.openings.proofs.marks.edge_first.Tie as tie
+-- `labels::edge_first`: by its one test. Assumes nothing.
+use Rattle.openings.specs.Labels.{edgeFirst}
+use Rattle.openings.proofs.labels.edge_first.Statement.{statement}
+use Rattle.openings.proofs.labels.edge_first.Tie as tie
 use borrow.Author.Tests.{eq-eqb, ne-eqb}
 
 returns : tie.Need-returns

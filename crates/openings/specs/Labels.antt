@@ -1,39 +1,23 @@
 -- A cell's labels in the work area, and what one more label makes of them. Assumes nothing.
-use Prim.Native.Nat.{ℕ, _+_, _*_, _<_, _≤_}
+use Prim.Native.Nat.{ℕ, _*_, _<_, _≤_}
 use mathlib.Core.Path.{_≡_}
 use mathlib.Core.Bool.{Bool, cond, not, _&&_}
 use mathlib.Core.List.{List, []}
 use lib.IntN.{ℤ, pos}
-use lib.ListN.{length, set}
+use lib.ListN.{set}
 use lib.Dec.{eqb, ltb}
 use Rattle.game.specs.Grid.{Grid}
 use Rattle.game.specs.Lists.{count, range}
-use Rattle.area.specs.Numbers.{gridOf, numberAt}
+use Rattle.area.specs.Numbers.{HasCells, firstAt, firstPlace, gridOf, kindAt, secondAt, secondPlace}
 use Rattle.area.specs.Stages.{Shape}
 
 -- a grid by its rows and columns alone: its squares are those of every grid of that shape
 abbrev pub shaped : ℕ → ℕ → Grid
 shaped rows columns = gridOf rows columns []
 
--- a cell's first label in the work area
-abbrev pub firstOf : List ℤ → ℕ → ℕ
-firstOf w i = numberAt w (5 * i)
-
--- its second label
-abbrev pub secondOf : List ℤ → ℕ → ℕ
-secondOf w i = numberAt w (5 * i + 1)
-
--- its kind: 1 for a 0-cell
-abbrev pub kindOf : List ℤ → ℕ → ℕ
-kindOf w i = numberAt w (5 * i + 2)
-
--- the cell that waits at place t
-abbrev pub waitingOf : List ℤ → ℕ → ℕ
-waitingOf w t = numberAt w (5 * t + 4)
-
 -- a 0-cell without label
 abbrev pub freshOf : List ℤ → ℕ → Bool
-freshOf w i = eqb (kindOf w i) 1 && eqb (firstOf w i) 0
+freshOf w i = eqb (kindAt w i) 1 && eqb (firstAt w i) 0
 
 -- a cell of n that is one
 abbrev pub freshCell : ℕ → List ℤ → ℕ → Bool
@@ -41,7 +25,7 @@ freshCell n w i = ltb i n && freshOf w i
 
 -- a cell of n that is no 0-cell
 abbrev pub numberedOf : ℕ → List ℤ → ℕ → Bool
-numberedOf n w i = ltb i n && not (eqb (kindOf w i) 1)
+numberedOf n w i = ltb i n && not (eqb (kindAt w i) 1)
 
 -- how many 0-cells of n have no label
 unfoldable pub freeOf : ℕ → List ℤ → ℕ
@@ -56,23 +40,23 @@ unfoldable pub edgeSecond : ℕ → ℕ → ℕ → ℕ
 edgeSecond op a b = cond (eqb a 0) b (cond (eqb a op) b (cond (eqb b 0) op b))
 
 -- the work area once the label op is put at the cell i
-unfoldable pub marked : List ℤ → ℕ → ℕ → List ℤ
-marked w i op =
-    set (set w (5 * i) (pos (edgeFirst op (firstOf w i)))) (5 * i + 1) (pos (edgeSecond op (firstOf w i) (secondOf w i)))
+unfoldable pub putLabel : List ℤ → ℕ → ℕ → List ℤ
+putLabel w i op =
+    set (set w (firstPlace i) (pos (edgeFirst op (firstAt w i)))) (secondPlace i) (pos (edgeSecond op (firstAt w i) (secondAt w i)))
 
 -- the work area once the label op is put at i, if that is a cell of number 1 or more
 abbrev pub bordered : ℕ → List ℤ → ℕ → ℕ → List ℤ
-bordered n w i op = cond (numberedOf n w i) (marked w i op) w
+bordered n w i op = cond (numberedOf n w i) (putLabel w i op) w
 
 -- i is a 0-cell without label, of n cells
 pub record Fresh (n : ℕ) (w : List ℤ) (i : ℕ) : Type 0 where
   pub inside : i < n
-  pub zero-cell : kindOf w i ≡ 1
-  pub unlabelled : firstOf w i ≡ 0
+  pub zero-cell : kindAt w i ≡ 1
+  pub unlabelled : firstAt w i ≡ 0
 
 -- what every function of the spread is called with: the shape, room for the cells, a label that fits
 pub record Ready (rows columns op : ℕ) (w : List ℤ) : Type 0 where
   pub shape : Shape rows columns
-  pub room : 5 * (rows * columns) ≤ length w
+  pub room : HasCells w (rows * columns)
   pub some-label : 1 ≤ op
   pub fits : op < 2147483648
