@@ -94,6 +94,17 @@ module _ (n : ℕ) (old : List ℤ) (room : 5 * n ≤ length old) where
       set-five (λ x. numbers (C x)) (λ x. numbers (at C i c x)) (λ x. refl) (λ x. refl) n old room i j (pos (v % 2147483648)) h k
       (ap numbers (at-here C i c i refl) ∙ e) (λ x q. ap numbers (at-other C i c x q))
 
+  -- another number of the same cell
+  pub put-again : (C : ℕ → Cell) (i j v : ℕ) (c d : Cell) → i < n → j < 5 → numbers d ≡ set (numbers c) j (pos (v % 2147483648))
+      → putAt (cellArea (at C i c) n old) (5 * i + j) v ≡ cellArea (at C i d) n old
+  put-again C i j v c d h k e =
+      put-area (at C i c) i j v d h k (e ∙ ap (λ (x : Cell). set (numbers x) j (pos (v % 2147483648))) (sym (at-here C i c i refl)))
+      ∙ same-area (at (at C i c) i d) (at C i d) (λ x _.
+      elim (ℕ-discrete x i) [
+        | yes q ↦ at-here (at C i c) i d x q ∙ sym (at-here C i d x q)
+        | no q ↦ at-other (at C i c) i d x q ∙ at-other C i c x q ∙ sym (at-other C i d x q)
+      ])
+
   -- a number read
   pub read-area : (C : ℕ → Cell) (i j : ℕ) → i < n → j < 5 → numberAt (cellArea C n old) (5 * i + j) ≡ natural (getD (numbers (C i)) j (pos 0))
   read-area C i j h k = ap natural (laid-at (λ x. numbers (C x)) (λ x. refl) n old i j h k)
