@@ -4,11 +4,10 @@ use mathlib.Core.Path.{_≡_}
 use mathlib.Core.Bool.{cond}
 use mathlib.Core.List.{List}
 use lib.IntN.{ℤ}
-use lib.ListN.{getD}
+use lib.ListN.{getD, length}
 use Rattle.game.specs.Grid.{Grid, size, mine, number}
 use Rattle.game.specs.Openings.{firstLabel, secondLabel}
 use Rattle.game.specs.Position.{Position, gain, cost}
-use Rattle.game.specs.Moves.{Reached}
 use Rattle.game.specs.Area.{laid}
 use Rattle.area.specs.Numbers.{HasCells, five}
 
@@ -43,13 +42,13 @@ pub record Shape (rows columns : ℕ) : Type 0 where
   pub some-columns : 1 ≤ columns
   pub few-columns : columns ≤ 255
 
--- the work area w stands for the position s of the grid g, laid over old
+-- the work area w stands for the position s of the grid g, which has a state for each cell; it is laid over old
 pub record Stands (rows columns : ℕ) (g : Grid) (s : Position) (old w : List ℤ) : Type 0 where
   pub rows-are : g .rows ≡ rows
   pub columns-are : g .columns ≡ columns
   pub shape : Shape rows columns
   pub room : HasCells old (size g)
-  pub reached : Reached g s
+  pub long : length s ≡ size g
   pub holds-it : w ≡ held g s old
 
 -- the work area stands for some position

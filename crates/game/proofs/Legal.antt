@@ -11,9 +11,9 @@ use lib.ListN.{getD, length, length-set, set}
 use lib.Seq.{getD-set-other, getD-set-same}
 use Rattle.game.specs.Grid.{Grid, mine, safe, size, square, zeroCell}
 use Rattle.game.specs.Lists.{all-of, has, keep}
-use Rattle.game.specs.Moves.{AllLegal, Move, Reached, after, chord, chordable, flag, left, legal, play, reveal}
+use Rattle.game.specs.Moves.{AllLegal, Move, after, chord, chordable, flag, left, legal, play, reveal}
 use Rattle.game.specs.Openings.{holds, openings, unlabelled}
-use Rattle.game.specs.Position.{Position, Tidy, cellUnit, closed, cost, flagged, gain, opened, openingClosed, unflagged, untouched}
+use Rattle.game.specs.Position.{Position, Tidy, cellUnit, closed, cost, flagged, gain, opened, openingClosed, unflagged}
 use Rattle.game.specs.Rounds.{movesAt, unitCells}
 use Rattle.game.proofs.Choices.{unit→}
 use Rattle.game.proofs.Counts.{Once, bit-le, count-each, count-none, each-map}
@@ -32,12 +32,12 @@ pub legal-append : (g : Grid) (ms ns : List Move) (s : Position) → AllLegal g 
 legal-append g [] ns s h k = k
 legal-append g (m ∷ ms) ns s h k = (h .0, legal-append g ms ns (play g s m) (h .1) k)
 
-legal-left : (g : Grid) (s : Position) (i : ℕ) → i < size g → T (safe g i) → T (closed s i) → T (legal g s (left i))
+pub legal-left : (g : Grid) (s : Position) (i : ℕ) → i < size g → T (safe g i) → T (closed s i) → T (legal g s (left i))
 unfolding legal
 legal-left g s i h t u =
     and-both (ltb i (size g) && safe g i) (closed s i) (and-both (ltb i (size g)) (safe g i) (lt→ltb i (size g) h) t) u
 
-legal-flag : (g : Grid) (s : Position) (i : ℕ) → i < size g → T (mine g i) → T (closed s i) → T (legal g s (flag i))
+pub legal-flag : (g : Grid) (s : Position) (i : ℕ) → i < size g → T (mine g i) → T (closed s i) → T (legal g s (flag i))
 unfolding legal
 legal-flag g s i h t u =
     and-both (ltb i (size g) && mine g i) (closed s i) (and-both (ltb i (size g)) (mine g i) (lt→ltb i (size g) h) t) u
@@ -58,32 +58,6 @@ legal-chord g s i h t n f =
 -- a click on a closed unit is legal
 pub click-legal : (g : Grid) (s : Position) (i : ℕ) → T (has i (unitCells g s)) → T (legal g s (left i))
 click-legal g s i t = let u = unit→ g s i t in legal-left g s i (u .inside) (u .is-safe) (u .is-closed)
-
--- ---- positions that legal play comes to
-
-pub reached-untouched : (g : Grid) → Reached g (untouched g)
-reached-untouched g = record { moves = []; all-legal = tt; comes-to = refl }
-
-pub reached-after : (g : Grid) (s : Position) (ms : List Move) → Reached g s → AllLegal g s ms → Reached g (after g s ms)
-reached-after g s ms r l =
-    record {
-      moves = r .moves ++ ms;
-      all-legal = legal-append g (r .moves) ms (untouched g) (r .all-legal) (subst (λ (p : Position). AllLegal g p ms) (sym (r .comes-to)) l);
-      comes-to = after-append g (r .moves) ms (untouched g) ∙ ap (λ (p : Position). after g p ms) (r .comes-to);
-    }
-
--- a reveal is nothing or a legal L
-pub reached-reveal : (g : Grid) (s : Position) (i : ℕ) → i < size g → Reached g s → Reached g (reveal g s i)
-unfolding play
-reached-reveal g s i h r = go (reveal g s i) (revealed g s i) refl
-  where
-    by-left : T (safe g i) → T (closed s i) → Reached g (reveal g s i)
-    by-left t u = reached-after g s (left i ∷ []) r (legal-left g s i h t u, tt)
-
-    go : (p : Position) → Revealed g s i p → p ≡ reveal g s i → Reached g p
-    go p (stays n) e = r
-    go p (opens t u n) e = subst (Reached g) (sym e) (by-left t u)
-    go p (sweeps t u z) e = subst (Reached g) (sym e) (by-left t u)
 
 -- ---- a 0-cell costs more than it gains, so none is chosen
 

@@ -20,6 +20,7 @@ pub mod Rounds
 pub mod Falls
 pub mod Searches
 pub mod Ranges
+pub mod Onwards
 pub mod Table
 pub mod Replays
 pub mod Areas

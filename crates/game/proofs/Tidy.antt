@@ -5,13 +5,13 @@ use native.Mathlib.Decide.{ℕ-discrete}
 use mathlib.Core.Path.{_∙_, _≡_, ap, refl, subst, sym}
 use mathlib.Core.Bool.{Bool, _&&_, cond, false, not, true}
 use mathlib.Core.List.{List, [], _∷_}
-use mathlib.Core.Option.{none}
+use mathlib.Core.Option.{Option, none, some}
 use lib.Dec.{T, T-not, eqb, ltb, ltb→lt, not-T}
 use lib.ListN.{getD, getD-replicate, length, length-replicate, length-set, set}
 use lib.Seq.{getD-set-other, getD-set-same}
 use Rattle.game.specs.Grid.{Grid, mine, safe, size, square}
 use Rattle.game.specs.Lists.{fold, has}
-use Rattle.game.specs.Moves.{AllLegal, Move, Reached, after, cellOf, chord, chordable, flag, left, legal, play, reveal, sweep}
+use Rattle.game.specs.Moves.{AllLegal, Move, Reached, after, cellOf, chord, chordable, flag, left, legal, legalRead, play, playRead, reveal, sweep}
 use Rattle.game.specs.Openings.{Joined, holds, joinedTo}
 use Rattle.game.specs.Position.{Position, Tidy, closed, flagged, opened, untouched}
 use Rattle.game.proofs.Chains.{joined-first, joined-last, joined-sym, joined-trans}
@@ -155,6 +155,10 @@ play-tidy g s (left i) t f = reveal-tidy g s i (legal-inside g s (left i) t) f
 play-tidy g s (flag i) t f =
     flag-tidy g s i (legal-inside g s (flag i) t) (and-right (ltb i (size g)) (mine g i) (and-left (ltb i (size g) && mine g i) (closed s i) t)) f
 play-tidy g s (chord i) t f = fold-tidy g (square g i) s (λ x u. square→ g i x (legal-inside g s (chord i) t) u .0) f
+
+pub read-tidy : (g : Grid) (s : Position) (m : Option Move) → legalRead g s m ≡ true → Tidy g s → Tidy g (playRead g s m)
+read-tidy g s none e f = f
+read-tidy g s (some m) e f = play-tidy g s m (rw e tt) f
 
 pub after-tidy : (g : Grid) (ms : List Move) (s : Position) → AllLegal g s ms → Tidy g s → Tidy g (after g s ms)
 after-tidy g [] s h f = f

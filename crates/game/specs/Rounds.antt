@@ -11,7 +11,7 @@ use Rattle.game.specs.Grid.{Grid, cells, safe, square, zeroCell}
 use Rattle.game.specs.Lists.{concat-map, keep}
 use Rattle.game.specs.Moves.{Move, after, chord, flag, left}
 use Rattle.game.specs.Openings.{threeBV, unlabelled}
-use Rattle.game.specs.Position.{Position, closed, closedSafe, opened, premium, unflagged, untouched}
+use Rattle.game.specs.Position.{Position, closed, closedSafe, closedUnits, opened, premium, unflagged, untouched}
 
 -- the cells that a step looks at: the safe cells; openings-first: the opened safe cells only
 abbrev pub looked : Bool → Grid → Position → List ℕ
@@ -118,6 +118,21 @@ firstClicks g = openingClicks g (untouched g) (cells g)
 -- the openings-first round
 unfoldable pub openingsFirstSteps : Grid → List Step
 openingsFirstSteps g = firstClicks g ++ stepsFrom (threeBV g) true g (after g (untouched g) (movesOf (firstClicks g)))
+
+-- the steps of a greedy round, or of an openings-first round
+abbrev pub roundSteps : Bool → Grid → List Step
+roundSteps false g = greedySteps g
+roundSteps true g = openingsFirstSteps g
+
+-- the steps that come before those by premium, from a position on: the opening clicks of an openings-first round
+abbrev pub firstSteps : Bool → Grid → Position → List Step
+firstSteps false g s = []
+firstSteps true g s = openingClicks g s (cells g)
+
+-- a round's steps from a position on: the opening clicks if it is openings-first, then steps by premium to the end
+unfoldable pub stepsOn : Bool → Grid → Position → List Step
+stepsOn openingsFirst g s =
+    let first = firstSteps openingsFirst g s in first ++ stepsFrom (closedUnits g s) openingsFirst g (after g s (movesOf first))
 
 -- ---- random rounds
 

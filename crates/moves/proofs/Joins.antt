@@ -7,11 +7,12 @@ use mathlib.Core.List.{List, [], _++_, _∷_, map, map-append}
 use lib.IntN.{ℤ}
 use lib.ListN.{length, length-append, length-map, set}
 use lib.Seq.{sets}
+use Rattle.play.specs.declared.Opened.{Opened}
 use Rattle.moves.specs.declared.State.{State}
 use Rattle.area.specs.Stages.{Stands}
 use Rattle.game.specs.Grid.{Grid}
 use Rattle.game.specs.Moves.{Move, after, cellOf, kindOf, play, word}
-use Rattle.game.specs.Position.{Position, closedSafe, opened}
+use Rattle.game.specs.Position.{Position, Tidy, closedSafe}
 use Rattle.moves.specs.Promises.{Carried, Made}
 use Rattle.moves.specs.Walks.{Over}
 use Rattle.game.proofs.Units.{after-append}
@@ -27,15 +28,15 @@ sets-append (x ∷ xs) ys l i =
     up i n = omega arith
 
 module _ (rows columns : ℕ) (g : Grid) (s : Position) (old : List ℤ) where
-  pub made-none : (w : List ℤ) (list : List ℕ) (t : State) → Stands rows columns g s old w → t .closed ≡ closedSafe g s
+  pub made-none : (w : List ℤ) (list : List ℕ) (t : State) → Stands rows columns g s old w → Tidy g s → t .closed ≡ closedSafe g s
       → Made rows columns g s old [] list t w list t
-  made-none w list t st e = record { stands = st; noted = refl; clicks = omega arith; left-closed = e; next-draw = refl }
+  made-none w list t st f e = record { stands = st; tidy = f; noted = refl; clicks = omega arith; left-closed = e }
 
-  pub made-one : (m : Move) (opened : ℕ) (list : List ℕ) (t : State) (w′ : List ℤ) (list′ : List ℕ) (t′ : State) → Carried (kindOf m) (cellOf m) opened list t list′ t′
-      → Stands rows columns g (play g s m) old w′ → opened + closedSafe g (play g s m) ≡ closedSafe g s → t .closed ≡ closedSafe g s
+  pub made-one : (m : Move) (opened : Opened) (list : List ℕ) (t : State) (w′ : List ℤ) (list′ : List ℕ) (t′ : State) → Carried (kindOf m) (cellOf m) opened list t list′ t′
+      → Stands rows columns g (play g s m) old w′ → Tidy g (play g s m) → opened .cells + closedSafe g (play g s m) ≡ closedSafe g s → t .closed ≡ closedSafe g s
       → Made rows columns g s old (m ∷ []) list t w′ list′ t′
-  made-one m opened list t w′ list′ t′ c st k e =
-      record { stands = st; noted = c .written; clicks = c .one-more; left-closed = omega (arith, c .fewer); next-draw = c .same-draw }
+  made-one m opened list t w′ list′ t′ c st f k e =
+      record { stands = st; tidy = f; noted = c .written; clicks = c .one-more; left-closed = omega (arith, c .fewer) }
 
   pub made-both : (ms ns : List Move) (list : List ℕ) (t : State) (v : List ℤ) (l : List ℕ) (u : State) (w′ : List ℤ) (list′ : List ℕ) (t′ : State)
       → Made rows columns g s old ms list t v l u → Made rows columns g (after g s ms) old ns l u w′ list′ t′
@@ -44,12 +45,12 @@ module _ (rows columns : ℕ) (g : Grid) (s : Position) (old : List ℤ) where
       let e = after-append g ms ns s in
       record {
         stands = rw e (b .stands);
+        tidy = rw e (b .tidy);
         noted = b .noted ∙ ap (λ (k : ℕ). sets l k (map word ns)) (a .clicks ∙ ap (λ (k : ℕ). t .moves + k) (sym (length-map ms word)))
             ∙ ap (λ (x : List ℕ). sets x (t .moves + length (map word ms)) (map word ns)) (a .noted)
             ∙ sets-append (map word ms) (map word ns) list (t .moves) ∙ ap (sets list (t .moves)) (sym (map-append word ms ns));
         clicks = omega (arith, a .clicks, b .clicks, length-append ms ns);
         left-closed = rw e (b .left-closed);
-        next-draw = b .next-draw ∙ a .next-draw;
       }
 
 -- ---- over cells in turn
@@ -58,17 +59,17 @@ module _ (many : Grid → Position → List ℕ → List Move) (rows columns : �
   pub over-none : (w : List ℤ) (list : List ℕ) (t : State) → ((g : Grid) (s : Position) → many g s [] ≡ [])
       → Over many [] rows columns w list t w list t
   over-none w list t n =
-      record { made = λ g s old st e. subst (λ (ms : List Move). Made rows columns g s old ms list t w list t) (sym (n g s)) (made-none rows columns g s old w list t st e) }
+      record { made = λ g s old st f e. subst (λ (ms : List Move). Made rows columns g s old ms list t w list t) (sym (n g s)) (made-none rows columns g s old w list t st f e) }
 
   pub over-both : (xs ys : List ℕ) (w : List ℤ) (list : List ℕ) (t : State) (v : List ℤ) (l : List ℕ) (u : State) (w′ : List ℤ) (list′ : List ℕ) (t′ : State)
       → ((g : Grid) (s : Position) → many g s (xs ++ ys) ≡ many g s xs ++ many g (after g s (many g s xs)) ys)
       → Over many xs rows columns w list t v l u → Over many ys rows columns v l u w′ list′ t′ → Over many (xs ++ ys) rows columns w list t w′ list′ t′
   over-both xs ys w list t v l u w′ list′ t′ q h k = record { made = both }
     where
-      both : (g : Grid) (s : Position) (old : List ℤ) → Stands rows columns g s old w → t .closed ≡ closedSafe g s
+      both : (g : Grid) (s : Position) (old : List ℤ) → Stands rows columns g s old w → Tidy g s → t .closed ≡ closedSafe g s
           → Made rows columns g s old (many g s (xs ++ ys)) list t w′ list′ t′
-      both g s old st e =
-          let a = h .made g s old st e in
-          let b = k .made g (after g s (many g s xs)) old (a .stands) (a .left-closed) in
+      both g s old st f e =
+          let a = h .made g s old st f e in
+          let b = k .made g (after g s (many g s xs)) old (a .stands) (a .tidy) (a .left-closed) in
           subst (λ (ms : List Move). Made rows columns g s old ms list t w′ list′ t′) (sym (q g s))
           (made-both rows columns g s old (many g s xs) (many g (after g s (many g s xs)) ys) list t v l u w′ list′ t′ a b)

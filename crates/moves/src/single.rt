@@ -1,5 +1,6 @@
 // Moves on a work area, each noted in the list: L, F on the mines of a square, C, and all three at a chosen cell.
 use crate::State;
+use play::Opened;
 ghost use mathlib.Core.Path.{_≡_};
 ghost use mathlib.Core.Bool.{cond};
 ghost use mathlib.Core.List.{List, [], _∷_, map};
@@ -9,7 +10,7 @@ ghost use lib.IntN.{ℤ};
 ghost use lib.ListN.{length, set};
 ghost use Rattle.game.specs.Lists.{keep};
 ghost use Rattle.game.specs.Grid.{Grid, safe, square, zeroCell};
-ghost use Rattle.game.specs.Position.{Position, closed as isClosed, closedSafe, unflagged};
+ghost use Rattle.game.specs.Position.{Position, Tidy, closed as isClosed, closedSafe, unflagged};
 ghost use Rattle.game.specs.Moves.{left, flag, chord};
 ghost use Rattle.game.specs.Rounds.{movesAt};
 ghost use Rattle.area.specs.Stages.{Shape, Stands};
@@ -28,16 +29,15 @@ pub fn note(list: &mut [u32], at: usize, kind: u32, index: usize)
     list[at] = kind * 65536 + index as u32;
 }
 
-// Notes a move that opened so many cells, and carries the state on.
-pub fn carry_on(list: &mut [u32], state: State, kind: u32, index: usize, opened: usize) -> State
+// Notes a move and what it opened, and carries the state on.
+pub fn carry_on(list: &mut [u32], state: State, kind: u32, index: usize, opened: Opened) -> State
     requires { ⌜ (kind ≤ 3) × (index < 65536) × (state .moves ≤ 2 ^ 48) ⌝ }
     ensures { λ r. ⌜ Carried kind index opened (now (list .entry)) state (now (list .exit)) r ⌝ }
 {
     note(list, state.moves, kind, index);
     State {
         moves: state.moves + 1,
-        closed: area::less(state.closed, opened),
-        next: state.next,
+        closed: area::less(state.closed, opened.cells),
     }
 }
 
@@ -53,7 +53,7 @@ pub fn click(
     requires { ⌜ Shape rows columns ⌝ }
     requires { ⌜ (5 * (rows * columns) ≤ length (now work)) × (index < rows * columns) × (state .moves ≤ 2 ^ 48) ⌝ }
     ensures { λ r. ⌜ r .moves ≤ state .moves + 1 ⌝ }
-    ensures { λ r. ⌜ ((g : Grid) (s : Position) (old : List ℤ) → Stands rows columns g s old (now (work .entry))
+    ensures { λ r. ⌜ ((g : Grid) (s : Position) (old : List ℤ) → Stands rows columns g s old (now (work .entry)) → Tidy g s
         → T (safe g index) → T (isClosed s index) → state .closed ≡ closedSafe g s
         → Made rows columns g s old (left index ∷ []) (now (list .entry)) state (now (work .exit)) (now (list .exit)) r) ⌝ }
 {
@@ -73,7 +73,7 @@ pub fn click_closed(
     requires { ⌜ Shape rows columns ⌝ }
     requires { ⌜ (5 * (rows * columns) ≤ length (now work)) × (index < rows * columns) × (state .moves ≤ 2 ^ 48) ⌝ }
     ensures { λ r. ⌜ r .moves ≤ state .moves + 1 ⌝ }
-    ensures { λ r. ⌜ ((g : Grid) (s : Position) (old : List ℤ) → Stands rows columns g s old (now (work .entry))
+    ensures { λ r. ⌜ ((g : Grid) (s : Position) (old : List ℤ) → Stands rows columns g s old (now (work .entry)) → Tidy g s
         → T (safe g index) → state .closed ≡ closedSafe g s
         → Made rows columns g s old (cond (isClosed s index) (left index ∷ []) []) (now (list .entry)) state (now (work .exit)) (now (list .exit)) r) ⌝ }
 {
@@ -104,7 +104,7 @@ pub fn flag_mine(
         return state;
     }
     play::flag(work, rows, columns, index);
-    carry_on(list, state, 2, index, 0)
+    carry_on(list, state, 2, index, Opened { cells: 0 })
 }
 
 // F on each mine without flag of one row, in the columns given.
@@ -142,7 +142,7 @@ pub fn flag_around(
     requires { ⌜ Shape rows columns ⌝ }
     requires { ⌜ (5 * (rows * columns) ≤ length (now work)) × (index < rows * columns) × (state .moves ≤ 2 ^ 46) ⌝ }
     ensures { λ r. ⌜ r .moves ≤ state .moves + 9 ⌝ }
-    ensures { λ r. ⌜ ((g : Grid) (s : Position) (old : List ℤ) → Stands rows columns g s old (now (work .entry)) → state .closed ≡ closedSafe g s
+    ensures { λ r. ⌜ ((g : Grid) (s : Position) (old : List ℤ) → Stands rows columns g s old (now (work .entry)) → Tidy g s → state .closed ≡ closedSafe g s
         → Made rows columns g s old (map flag (keep (unflagged g s) (square g index))) (now (list .entry)) state (now (work .exit)) (now (list .exit)) r) ⌝ }
 {
     let row = index % rows;
@@ -168,7 +168,7 @@ pub fn chord_on(
 ) -> State
     requires { ⌜ Shape rows columns ⌝ }
     requires { ⌜ (5 * (rows * columns) ≤ length (now work)) × (index < rows * columns) × (state .moves ≤ 2 ^ 48) ⌝ }
-    ensures { λ r. ⌜ ((g : Grid) (s : Position) (old : List ℤ) → Stands rows columns g s old (now (work .entry)) → state .closed ≡ closedSafe g s
+    ensures { λ r. ⌜ ((g : Grid) (s : Position) (old : List ℤ) → Stands rows columns g s old (now (work .entry)) → Tidy g s → state .closed ≡ closedSafe g s
         → Made rows columns g s old (chord index ∷ []) (now (list .entry)) state (now (work .exit)) (now (list .exit)) r) ⌝ }
 {
     let opened = play::chord(work, rows, columns, index);
@@ -186,7 +186,7 @@ pub fn act(
 ) -> State
     requires { ⌜ Shape rows columns ⌝ }
     requires { ⌜ (5 * (rows * columns) ≤ length (now work)) × (index < rows * columns) × (state .moves ≤ 2 ^ 45) ⌝ }
-    ensures { λ r. ⌜ ((g : Grid) (s : Position) (old : List ℤ) → Stands rows columns g s old (now (work .entry))
+    ensures { λ r. ⌜ ((g : Grid) (s : Position) (old : List ℤ) → Stands rows columns g s old (now (work .entry)) → Tidy g s
         → T (safe g index) → (T (zeroCell g index) → ⊥) → state .closed ≡ closedSafe g s
         → Made rows columns g s old (movesAt g s index) (now (list .entry)) state (now (work .exit)) (now (list .exit)) r) ⌝ }
 {

@@ -43,7 +43,7 @@ at-again C i c d x = go (eqb x i)
     go true = refl
     go false = refl
 
-module _ (g : Grid) (s : Position) (old : List ℤ) (i : ℕ) (room : 5 * size g ≤ length old) (inside : i < size g) (f : Tidy g s) where
+module _ (g : Grid) (s : Position) (old : List ℤ) (i : ℕ) (room : 5 * size g ≤ length old) (inside : i < size g) (long : length s ≡ size g) where
   -- a cell that keeps its state
   stays : (t : Position) (x : ℕ) → getD t x 0 ≡ getD s x 0 → restated (getD t x 0) (heldCell g s x) ≡ heldCell g s x
   stays t x e = ap (λ (k : ℕ). restated k (heldCell g s x)) e
@@ -64,13 +64,13 @@ module _ (g : Grid) (s : Position) (old : List ℤ) (i : ℕ) (room : 5 * size g
 
     gain-falls : (x : ℕ) → x < size g → gain g s x ≡ gain g (set s i 1) x + bit (has x (square g i) && bare)
     gain-falls x h =
-        open-gain g s i inside (f .long) shut nonzero x
+        open-gain g s i inside long shut nonzero x
         ∙ ap (λ (b : Bool). gain g (set s i 1) x + bit (b && unlabelled g i)) (near-sym g i x inside h)
         ∙ ap (λ (b : Bool). gain g (set s i 1) x + bit (has x (square g i) && b))
         (first-label g i ∙ ap (λ (b : Bool). b && eqb (firstLabel g i) 0) (T→true (safe g i) is-safe))
 
     cost-falls : (x : ℕ) → cost g s x ≡ cost g (set s i 1) x + bit (eqb x i)
-    cost-falls x = open-cost g s i inside (f .long) shut nonzero x
+    cost-falls x = open-cost g s i inside long shut nonzero x
 
     open-other : (x : ℕ) → x < size g → (x ≡ i → ⊥) → (b : Bool) → (has x (square g i) && bare) ≡ b
         → cond b (shiftCell 0 1 (heldCell g s x)) (heldCell g s x) ≡ heldCell g (set s i 1) x
@@ -97,7 +97,7 @@ module _ (g : Grid) (s : Position) (old : List ℤ) (i : ℕ) (room : 5 * size g
     open-own b e = go b e
       where
         now-open : getD (set s i 1) i 0 ≡ 1
-        now-open = getD-set-same s i 1 0 (omega (arith, f .long))
+        now-open = getD-set-same s i 1 0 (omega (arith, long))
 
         one : bit (eqb i i) ≡ 1
         one = ap bit (eqb-yes i i refl)
@@ -169,7 +169,7 @@ module _ (g : Grid) (s : Position) (old : List ℤ) (i : ℕ) (room : 5 * size g
     open-count =
         let a = count-drop (λ x. safe g x && closed s x) (λ x. safe g x && closed (set s i 1) x) i (cells g) (once-cells g)
         (λ x n. ap (λ (k : ℕ). safe g x && eqb k 0) (sym (getD-set-other s i x 1 0 n)))
-        (ap (λ (k : ℕ). safe g i && eqb k 0) (getD-set-same s i 1 0 (omega (arith, f .long))) ∙ sym (and-false (safe g i))) in
+        (ap (λ (k : ℕ). safe g i && eqb k 0) (getD-set-same s i 1 0 (omega (arith, long))) ∙ sym (and-false (safe g i))) in
         let b = bit-yes (has i (cells g) && (safe g i && closed s i))
         (and-both (has i (cells g)) (safe g i && closed s i) (→cells g i inside) (and-both (safe g i) (closed s i) is-safe shut)) in
         omega arith
@@ -184,8 +184,8 @@ module _ (g : Grid) (s : Position) (old : List ℤ) (i : ℕ) (room : 5 * size g
         by : (q : ℕ) → bit (has i (square g x)) ≡ q → q ≤ 1 → shiftCell q 0 (heldCell g s x) ≡ heldCell g (set s i 2) x
         by q r l =
             ap (shiftCell q 0) (sym (stays (set s i 2) x (getD-set-other s i x 2 0 n)))
-            ∙ moved g s (set s i 2) x 0 q h (omega arith) l (λ u. flag-gain g s i inside (f .long) shut is-mine x)
-            (λ u. omega (arith, flag-cost g s i inside (f .long) shut is-mine x u))
+            ∙ moved g s (set s i 2) x 0 q h (omega arith) l (λ u. flag-gain g s i inside long shut is-mine x)
+            (λ u. omega (arith, flag-cost g s i inside long shut is-mine x u))
 
         go : (b : Bool) → bit (has i (square g x)) ≡ bit b → cond b (shiftCell 1 0 (heldCell g s x)) (heldCell g s x) ≡ heldCell g (set s i 2) x
         go true r = by 1 r (omega arith)
@@ -193,7 +193,7 @@ module _ (g : Grid) (s : Position) (old : List ℤ) (i : ℕ) (room : 5 * size g
 
     flag-own : shiftCell 1 0 (marked 2 (heldCell g s i)) ≡ heldCell g (set s i 2) i
     flag-own =
-        ap (λ (k : ℕ). shiftCell 1 0 (restated k (heldCell g s i))) (sym (getD-set-same s i 2 0 (omega (arith, f .long))))
+        ap (λ (k : ℕ). shiftCell 1 0 (restated k (heldCell g s i))) (sym (getD-set-same s i 2 0 (omega (arith, long))))
         ∙ moved g s (set s i 2) i 0 1 inside (omega arith) (omega arith) (λ u. absurd (T-not (mine g i) u is-mine)) (λ u. absurd (T-not (mine g i) u is-mine))
 
     pub flag-area : fold (shifted 1 0) (putAt (held g s old) (5 * i + 3) 2) (squareOf (g .rows) (g .columns) i) ≡ held g (set s i 2) old
@@ -224,7 +224,7 @@ module _ (g : Grid) (s : Position) (old : List ℤ) (i : ℕ) (room : 5 * size g
 
   -- ---- an opening is swept
 
-  module _ (none : T (zeroCell g i)) (shut : T (closed s i)) where
+  module _ (f : Tidy g s) (none : T (zeroCell g i)) (shut : T (closed s i)) where
     z : Zero g i
     z = record { inside = inside; none = none }
 
@@ -247,7 +247,7 @@ module _ (g : Grid) (s : Position) (old : List ℤ) (i : ℕ) (room : 5 * size g
             → shiftCell q p (restated k (heldCell g s x)) ≡ heldCell g (reveal g s i) x
         by p q r u l m k e =
             ap (λ (v : ℕ). shiftCell q p (restated v (heldCell g s x))) (sym e)
-            ∙ moved g s (reveal g s i) x p q h l m (λ t. omega (arith, sweep-gain g s i z shut x (f .long) (tidy-even g s f) h)) (λ t. omega (arith, sweep-cost g s i z shut x h))
+            ∙ moved g s (reveal g s i) x p q h l m (λ t. omega (arith, sweep-gain g s i z shut x long (tidy-even g s f) h)) (λ t. omega (arith, sweep-cost g s i z shut x h))
 
         down : raised g s x - 1 ≡ raised g s x + 0 - 1
         down = omega arith

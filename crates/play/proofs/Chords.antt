@@ -7,30 +7,35 @@ use lib.IntN.{ℤ}
 use Rattle.game.specs.Grid.{Grid, square}
 use Rattle.game.specs.Lists.{fold}
 use Rattle.game.specs.Moves.{play, reveal}
-use Rattle.game.specs.Position.{Position, closedSafe}
+use Rattle.game.specs.Position.{Position, Tidy, closedSafe}
 use Rattle.game.proofs.Members.{fold-append}
 use Rattle.area.specs.Stages.{Stands}
-use Rattle.play.specs.Promises.{Chording, Opens, Revealing, RevealingAll}
+use Rattle.play.specs.Promises.{Chording, Opens, Revealing, RevealingAll, together}
+use Rattle.play.specs.declared.Opened.{Opened}
 use Rattle.play.specs.Walks.{squareOf}
 
-pub opens-none : (rows columns : ℕ) (w : List ℤ) → Opens rows columns w [] 0 w
-opens-none rows columns w = record { revealing = λ g s old t. record { stands = t; opened-cells = omega arith } }
+pub opens-none : (rows columns : ℕ) (w : List ℤ) → Opens rows columns w [] (record { cells = 0 }) w
+opens-none rows columns w = record { revealing = λ g s old t f. record { stands = t; tidy = f; opened-cells = omega arith } }
 
-pub opens-one : (rows columns : ℕ) (w : List ℤ) (i r : ℕ) (v : List ℤ)
-    → ((g : Grid) (s : Position) (old : List ℤ) → Stands rows columns g s old w → Revealing rows columns g s old i r v) → Opens rows columns w (i ∷ []) r v
+pub opens-one : (rows columns : ℕ) (w : List ℤ) (i : ℕ) (r : Opened) (v : List ℤ)
+    → ((g : Grid) (s : Position) (old : List ℤ) → Stands rows columns g s old w → Tidy g s → Revealing rows columns g s old i r v) → Opens rows columns w (i ∷ []) r v
 opens-one rows columns w i r v h =
-    record { revealing = λ g s old t. let q = h g s old t in record { stands = q .stands; opened-cells = q .opened-cells } }
+    record { revealing = λ g s old t f. let q = h g s old t f in record { stands = q .stands; tidy = q .tidy; opened-cells = q .opened-cells } }
 
-pub opens-both : (rows columns : ℕ) (w : List ℤ) (xs ys : List ℕ) (r q : ℕ) (v u : List ℤ)
-    → Opens rows columns w xs r v → Opens rows columns v ys q u → Opens rows columns w (xs ++ ys) (r + q) u
-opens-both rows columns w xs ys r q v u h k = record { revealing = both }
+pub opens-both : (rows columns : ℕ) (w : List ℤ) (xs ys : List ℕ) (r q p : Opened) (v u : List ℤ) → p ≡ together r q
+    → Opens rows columns w xs r v → Opens rows columns v ys q u → Opens rows columns w (xs ++ ys) p u
+opens-both rows columns w xs ys r q p v u d h k = record { revealing = all }
   where
-    both : (g : Grid) (s : Position) (old : List ℤ) → Stands rows columns g s old w → RevealingAll rows columns g s old (xs ++ ys) (r + q) u
-    both g s old t =
-        let a = h .revealing g s old t in
-        let b = k .revealing g (fold (reveal g) s xs) old (a .stands) in
+    all : (g : Grid) (s : Position) (old : List ℤ) → Stands rows columns g s old w → Tidy g s → RevealingAll rows columns g s old (xs ++ ys) p u
+    all g s old t f =
+        let a = h .revealing g s old t f in
+        let b = k .revealing g (fold (reveal g) s xs) old (a .stands) (a .tidy) in
         let e = fold-append (reveal g) s xs ys in
-        record { stands = rw e (b .stands); opened-cells = omega (arith, ap (closedSafe g) e, a .opened-cells, b .opened-cells) }
+        record {
+          stands = rw e (b .stands);
+          tidy = rw e (b .tidy);
+          opened-cells = omega (arith, ap (λ (o : Opened). o .cells) d, ap (closedSafe g) e, a .opened-cells, b .opened-cells);
+        }
 
 -- the square of the grid's rows and columns
 pub square-of : (rows columns : ℕ) (g : Grid) (i : ℕ) → g .rows ≡ rows → g .columns ≡ columns → squareOf rows columns i ≡ square g i
@@ -38,10 +43,10 @@ unfolding square
 square-of rows columns g i e f = rw (← e, ← f)
 
 -- a chord
-pub opens-chord : (rows columns : ℕ) (w : List ℤ) (i r : ℕ) (v : List ℤ) → Opens rows columns w (squareOf rows columns i) r v
-    → (g : Grid) (s : Position) (old : List ℤ) → Stands rows columns g s old w → Chording rows columns g s old i r v
+pub opens-chord : (rows columns : ℕ) (w : List ℤ) (i : ℕ) (r : Opened) (v : List ℤ) → Opens rows columns w (squareOf rows columns i) r v
+    → (g : Grid) (s : Position) (old : List ℤ) → Stands rows columns g s old w → Tidy g s → Chording rows columns g s old i r v
 unfolding play
-opens-chord rows columns w i r v h g s old t =
-    let a = h .revealing g s old t in
+opens-chord rows columns w i r v h g s old t f =
+    let a = h .revealing g s old t f in
     let e = square-of rows columns g i (t .rows-are) (t .columns-are) in
-    record { stands = rw (← e) (a .stands); opened-cells = rw (← e) (a .opened-cells) }
+    record { stands = rw (← e) (a .stands); tidy = rw (← e) (a .tidy); opened-cells = rw (← e) (a .opened-cells) }

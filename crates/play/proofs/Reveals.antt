@@ -2,23 +2,23 @@
 use Prim.Native.Nat.{ℕ, _*_, _+_, _<_}
 use native.Mathlib.Omega.{arith}
 use mathlib.Core.Path.{_∙_, _≡_, ap, ap₂, refl, subst, sym}
-use mathlib.Core.Bool.{Bool, _&&_, cond}
-use mathlib.Core.List.{List, [], _∷_}
-use lib.Dec.{T, T-not, eqb, eqb→eq, lt→ltb, ltb, not-T}
+use mathlib.Core.Bool.{Bool, cond, false, true}
+use mathlib.Core.List.{List}
+use lib.Dec.{T, T-not, eqb, eqb→eq, not-T}
 use lib.IntN.{ℤ}
-use lib.ListN.{getD, set}
+use lib.ListN.{getD, length-set, set}
 use Rattle.game.specs.Grid.{Grid, mine, number, safe, size, zeroCell}
 use Rattle.game.specs.Lists.{fold}
-use Rattle.game.specs.Moves.{flag, legal, play, reveal}
+use Rattle.game.specs.Moves.{flag, play, reveal}
 use Rattle.game.specs.Openings.{firstLabel}
 use Rattle.game.specs.Position.{Position, Tidy, closed, closedSafe}
-use Rattle.game.proofs.Legal.{reached-after, reached-reveal}
-use Rattle.game.proofs.Tidy.{reached-tidy}
-use Rattle.game.proofs.Reveal.{Revealed, opens, revealed, stays, sweeps}
-use Rattle.game.proofs.Truth.{T→false, and-both, eqb-yes, iff}
+use Rattle.game.proofs.Tidy.{reveal-tidy}
+use Rattle.game.proofs.Reveal.{Revealed, opens, reveal-length, revealed, stays, sweeps, zero-safe}
+use Rattle.game.proofs.Truth.{eqb-yes, iff, no→false}
 use Rattle.area.specs.Numbers.{putAt}
 use Rattle.area.specs.Stages.{Stands, held, kind}
 use Rattle.play.specs.Promises.{Revealing}
+use Rattle.play.specs.declared.Opened.{Opened}
 use Rattle.play.specs.Walks.{SweptOver, firstAt, kindAt, openedOne, shifted, squareOf, stateAt}
 use Rattle.play.proofs.Cells.{read-first, read-kind, read-state}
 use Rattle.play.proofs.Changes.{flag-area, open-area, open-count, sweep-area}
@@ -54,9 +54,6 @@ module _ (rows columns : ℕ) (g : Grid) (s : Position) (old w : List ℤ) (i : 
   pub inside : i < size g
   inside = omega (arith, size-is)
 
-  pub played : Tidy g s
-  played = reached-tidy g s (st .reached)
-
   -- ---- what is read
 
   pub kind-read : (k : ℕ) → k ≡ kindAt w i → k ≡ kind g i
@@ -75,11 +72,13 @@ module _ (rows columns : ℕ) (g : Grid) (s : Position) (old w : List ℤ) (i : 
   pub is-safe : (k : ℕ) → k ≡ kindAt w i → (k ≡ 0 → ⊥) → T (safe g i)
   is-safe k e n = not-T (mine g i) (λ t. n (kind-read k e ∙ eqb→eq (kind g i) 0 (subst T (sym (kind-mine g i)) t)))
 
-  pub is-zero : (k : ℕ) → k ≡ kindAt w i → T (safe g i) → eqb k 1 ≡ zeroCell g i
+  pub is-zero : (k : ℕ) → k ≡ kindAt w i → eqb k 1 ≡ zeroCell g i
   unfolding kind
-  is-zero k e t =
-      ap (λ (m : ℕ). eqb m 1) (kind-read k e) ∙ ap (λ (b : Bool). eqb (cond b 0 (1 + number g i)) 1) (T→false (mine g i) t)
-      ∙ one-more (number g i)
+  is-zero k e = ap (λ (m : ℕ). eqb m 1) (kind-read k e) ∙ go (mine g i) refl
+    where
+      go : (b : Bool) → mine g i ≡ b → eqb (cond b 0 (1 + number g i)) 1 ≡ zeroCell g i
+      go true q = sym (no→false (zeroCell g i) (λ z. T-not (mine g i) (zero-safe g i (record { inside = inside; none = z })) (rw q tt)))
+      go false q = one-more (number g i)
 
   pub is-closed : (k : ℕ) → k ≡ stateAt w i → k ≡ 0 → T (closed s i)
   is-closed k e z = subst T (sym (eqb-yes (getD s i 0) 0 (sym (state-read k e) ∙ z))) tt
@@ -89,66 +88,63 @@ module _ (rows columns : ℕ) (g : Grid) (s : Position) (old w : List ℤ) (i : 
 
   -- ---- the branches
 
-  -- the area stands for the position after it
-  after : (r : ℕ) (v : List ℤ) → v ≡ held g (reveal g s i) old → r + closedSafe g (reveal g s i) ≡ closedSafe g s → Revealing rows columns g s old i r v
-  after r v e c =
-      record {
-        stands = record {
-          rows-are = st .rows-are;
-          columns-are = st .columns-are;
-          shape = st .shape;
-          room = st .room;
-          reached = reached-reveal g s i inside (st .reached);
-          holds-it = e;
-        };
-        opened-cells = c;
-      }
+  module _ (f : Tidy g s) where
+    -- the area stands for the position after it
+    after : (r : Opened) (v : List ℤ) → v ≡ held g (reveal g s i) old → r .cells + closedSafe g (reveal g s i) ≡ closedSafe g s → Revealing rows columns g s old i r v
+    after r v e c =
+        record {
+          stands = record {
+            rows-are = st .rows-are;
+            columns-are = st .columns-are;
+            shape = st .shape;
+            room = st .room;
+            long = reveal-length g s i (st .long);
+            holds-it = e;
+          };
+          tidy = reveal-tidy g s i inside f;
+          opened-cells = c;
+        }
 
-  pub nothing-done : (T (safe g i) → T (closed s i) → ⊥) → Revealing rows columns g s old i 0 w
-  nothing-done n =
-      let e = reveal-none g s i n in
-      after 0 w (st .holds-it ∙ ap (λ (p : Position). held g p old) (sym e)) (omega (arith, ap (closedSafe g) e))
+    nothing-done : (T (safe g i) → T (closed s i) → ⊥) → Revealing rows columns g s old i (record { cells = 0 }) w
+    nothing-done n =
+        let e = reveal-none g s i n in
+        after (record { cells = 0 }) w (st .holds-it ∙ ap (λ (p : Position). held g p old) (sym e)) (omega (arith, ap (closedSafe g) e))
 
-  pub one-opened : (v : List ℤ) → T (safe g i) → T (closed s i) → (T (zeroCell g i) → ⊥) → v ≡ openedOne rows columns w i → Revealing rows columns g s old i 1 v
-  one-opened v t u n e =
-      let q = reveal-one g s i t u n in
-      after 1 v
-      (e ∙ rw (← st .rows-are, ← st .columns-are, st .holds-it) (open-area g s old i (st .room) inside played t u n) ∙ ap (λ (p : Position). held g p old) (sym q))
-      (omega (arith, ap (closedSafe g) q, open-count g s old i (st .room) inside played t u n))
+    one-opened : (v : List ℤ) → T (safe g i) → T (closed s i) → (T (zeroCell g i) → ⊥) → v ≡ openedOne rows columns w i → Revealing rows columns g s old i (record { cells = 1 }) v
+    one-opened v t u n e =
+        let q = reveal-one g s i t u n in
+        after (record { cells = 1 }) v
+        (e ∙ rw (← st .rows-are, ← st .columns-are, st .holds-it) (open-area g s old i (st .room) inside (st .long) t u n) ∙ ap (λ (p : Position). held g p old) (sym q))
+        (omega (arith, ap (closedSafe g) q, open-count g s old i (st .room) inside (st .long) t u n))
 
-  pub opening-swept : (l r : ℕ) (v : List ℤ) → T (closed s i) → T (zeroCell g i) → l ≡ firstAt w i
-      → (T (zeroCell g i) → l ≡ firstLabel g i → SweptOver l 0 (rows * columns) w r v)
-      → Revealing rows columns g s old i r v
-  opening-swept l r v u z e q =
-      let own = label-read l e in
-      let a = sweep-area g s old i (st .room) inside played z u v r (rw (← own, ← st .holds-it, size-is) (q z own)) in
-      after r v (a .0) (a .1)
-
-  -- ---- by what is read: the kind k, the state m
-
-  pub by-mine : (k : ℕ) → k ≡ kindAt w i → k ≡ 0 → Revealing rows columns g s old i 0 w
-  by-mine k e z = nothing-done (λ t u. T-not (mine g i) t (is-mine k e z))
-
-  pub by-state : (m : ℕ) → m ≡ stateAt w i → (m ≡ 0 → ⊥) → Revealing rows columns g s old i 0 w
-  by-state m e n = nothing-done (λ t u. not-closed m e n u)
-
-  module _ (k m : ℕ) (ek : k ≡ kindAt w i) (nk : k ≡ 0 → ⊥) (em : m ≡ stateAt w i) (zm : m ≡ 0) where
-    pub by-zero : (l r : ℕ) (v : List ℤ) → k ≡ 1 → l ≡ firstAt w i
+    opening-swept : (l r : ℕ) (v : List ℤ) → T (closed s i) → T (zeroCell g i) → l ≡ firstAt w i
         → (T (zeroCell g i) → l ≡ firstLabel g i → SweptOver l 0 (rows * columns) w r v)
-        → Revealing rows columns g s old i r v
-    by-zero l r v o e q =
-        opening-swept l r v (is-closed m em zm) (subst T (sym (eqb-yes k 1 o) ∙ is-zero k ek (is-safe k ek nk)) tt) e q
+        → Revealing rows columns g s old i (record { cells = r }) v
+    opening-swept l r v u z e q =
+        let own = label-read l e in
+        let a = sweep-area g s old i (st .room) inside (st .long) f z u v r (rw (← own, ← st .holds-it, size-is) (q z own)) in
+        after (record { cells = r }) v (a .0) (a .1)
 
-    pub by-one : (v : List ℤ) → (k ≡ 1 → ⊥) → v ≡ openedOne rows columns w i → Revealing rows columns g s old i 1 v
-    by-one v n e =
-        one-opened v (is-safe k ek nk) (is-closed m em zm) (λ t. n (eqb→eq k 1 (subst T (sym (is-zero k ek (is-safe k ek nk))) t))) e
+    -- ---- by what is read: the kind k, the state m
+
+    pub by-mine : (k : ℕ) → k ≡ kindAt w i → k ≡ 0 → Revealing rows columns g s old i (record { cells = 0 }) w
+    by-mine k e z = nothing-done (λ t u. T-not (mine g i) t (is-mine k e z))
+
+    pub by-state : (m : ℕ) → m ≡ stateAt w i → (m ≡ 0 → ⊥) → Revealing rows columns g s old i (record { cells = 0 }) w
+    by-state m e n = nothing-done (λ t u. not-closed m e n u)
+
+    module _ (k m : ℕ) (ek : k ≡ kindAt w i) (nk : k ≡ 0 → ⊥) (em : m ≡ stateAt w i) (zm : m ≡ 0) where
+      pub by-zero : (l r : ℕ) (v : List ℤ) → k ≡ 1 → l ≡ firstAt w i
+          → (T (zeroCell g i) → l ≡ firstLabel g i → SweptOver l 0 (rows * columns) w r v)
+          → Revealing rows columns g s old i (record { cells = r }) v
+      by-zero l r v o e q =
+          opening-swept l r v (is-closed m em zm) (subst T (sym (eqb-yes k 1 o) ∙ is-zero k ek) tt) e q
+
+      pub by-one : (v : List ℤ) → (k ≡ 1 → ⊥) → v ≡ openedOne rows columns w i → Revealing rows columns g s old i (record { cells = 1 }) v
+      by-one v n e =
+          one-opened v (is-safe k ek nk) (is-closed m em zm) (λ t. n (eqb→eq k 1 (subst T (sym (is-zero k ek)) t))) e
 
   -- ---- a mine is flagged
-
-  pub flag-legal : T (mine g i) → T (closed s i) → T (legal g s (flag i))
-  unfolding legal
-  flag-legal t u =
-      and-both (ltb i (size g) && mine g i) (closed s i) (and-both (ltb i (size g)) (mine g i) (lt→ltb i (size g) inside) t) u
 
   pub flag-stands : (u v : List ℤ) → u ≡ putAt w (5 * i + 3) 2 → v ≡ fold (shifted 1 0) u (squareOf rows columns i) → T (mine g i) → T (closed s i)
       → Stands rows columns g (play g s (flag i)) old v
@@ -159,6 +155,6 @@ module _ (rows columns : ℕ) (g : Grid) (s : Position) (old w : List ℤ) (i : 
         columns-are = st .columns-are;
         shape = st .shape;
         room = st .room;
-        reached = reached-after g s (flag i ∷ []) (st .reached) (flag-legal t k, tt);
-        holds-it = e ∙ rw (d, ← st .rows-are, ← st .columns-are, st .holds-it) (flag-area g s old i (st .room) inside played t k);
+        long = length-set s i 2 ∙ st .long;
+        holds-it = e ∙ rw (d, ← st .rows-are, ← st .columns-are, st .holds-it) (flag-area g s old i (st .room) inside (st .long) t k);
       }

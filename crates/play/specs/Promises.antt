@@ -5,25 +5,33 @@ use mathlib.Core.List.{List}
 use lib.IntN.{ℤ}
 use Rattle.game.specs.Lists.{fold}
 use Rattle.game.specs.Grid.{Grid}
-use Rattle.game.specs.Position.{Position, closedSafe}
+use Rattle.game.specs.Position.{Position, Tidy, closedSafe}
 use Rattle.game.specs.Moves.{reveal, play, chord}
 use Rattle.area.specs.Stages.{Stands}
+use Rattle.play.specs.declared.Opened.{Opened}
 
--- r safe cells were opened, and w stands for the position after a reveal
-pub record Revealing (rows columns : ℕ) (g : Grid) (s : Position) (old : List ℤ) (index r : ℕ) (w : List ℤ) : Type 0 where
+-- what two moves opened
+abbrev pub together : Opened → Opened → Opened
+together a b = record { cells = a .cells + b .cells }
+
+-- r was opened, and w stands for the position after a reveal, which is tidy again
+pub record Revealing (rows columns : ℕ) (g : Grid) (s : Position) (old : List ℤ) (index : ℕ) (r : Opened) (w : List ℤ) : Type 0 where
   pub stands : Stands rows columns g (reveal g s index) old w
-  pub opened-cells : r + closedSafe g (reveal g s index) ≡ closedSafe g s
+  pub tidy : Tidy g (reveal g s index)
+  pub opened-cells : r .cells + closedSafe g (reveal g s index) ≡ closedSafe g s
 
--- r safe cells were opened, and w stands for the position after reveals one after the other
-pub record RevealingAll (rows columns : ℕ) (g : Grid) (s : Position) (old : List ℤ) (cells : List ℕ) (r : ℕ) (w : List ℤ) : Type 0 where
+-- r was opened, and w stands for the position after reveals one after the other, which is tidy again
+pub record RevealingAll (rows columns : ℕ) (g : Grid) (s : Position) (old : List ℤ) (cells : List ℕ) (r : Opened) (w : List ℤ) : Type 0 where
   pub stands : Stands rows columns g (fold (reveal g) s cells) old w
-  pub opened-cells : r + closedSafe g (fold (reveal g) s cells) ≡ closedSafe g s
+  pub tidy : Tidy g (fold (reveal g) s cells)
+  pub opened-cells : r .cells + closedSafe g (fold (reveal g) s cells) ≡ closedSafe g s
 
--- the cells were revealed one after the other, whatever position w stood for
-pub record Opens (rows columns : ℕ) (w : List ℤ) (cells : List ℕ) (r : ℕ) (v : List ℤ) : Type 0 where
-  pub revealing : (g : Grid) (s : Position) (old : List ℤ) → Stands rows columns g s old w → RevealingAll rows columns g s old cells r v
+-- the cells were revealed one after the other, whatever tidy position w stood for
+pub record Opens (rows columns : ℕ) (w : List ℤ) (cells : List ℕ) (r : Opened) (v : List ℤ) : Type 0 where
+  pub revealing : (g : Grid) (s : Position) (old : List ℤ) → Stands rows columns g s old w → Tidy g s → RevealingAll rows columns g s old cells r v
 
--- r safe cells were opened, and w stands for the position after C
-pub record Chording (rows columns : ℕ) (g : Grid) (s : Position) (old : List ℤ) (index r : ℕ) (w : List ℤ) : Type 0 where
+-- r was opened, and w stands for the position after C, which is tidy again
+pub record Chording (rows columns : ℕ) (g : Grid) (s : Position) (old : List ℤ) (index : ℕ) (r : Opened) (w : List ℤ) : Type 0 where
   pub stands : Stands rows columns g (play g s (chord index)) old w
-  pub opened-cells : r + closedSafe g (play g s (chord index)) ≡ closedSafe g s
+  pub tidy : Tidy g (play g s (chord index))
+  pub opened-cells : r .cells + closedSafe g (play g s (chord index)) ≡ closedSafe g s

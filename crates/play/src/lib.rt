@@ -1,6 +1,6 @@
 // L, F and C on a work area that stands for a position.
 ghost use mathlib.Core.Path.{_≡_};
-ghost use Prim.Native.Nat.{_+_, _*_, _-_, _<_, _≤_};
+ghost use Prim.Native.Nat.{_+_, _*_, _-_, _^_, _<_, _≤_};
 ghost use mathlib.Core.List.{List};
 ghost use lib.Dec.{T};
 ghost use lib.IntN.{ℤ};
@@ -8,11 +8,16 @@ ghost use lib.ListN.{length};
 ghost use Rattle.game.specs.Lists.{fold};
 ghost use Rattle.game.specs.Grid.{Grid, mine, zeroCell};
 ghost use Rattle.game.specs.Openings.{firstLabel};
-ghost use Rattle.game.specs.Position.{Position, closed as isClosed};
+ghost use Rattle.game.specs.Position.{Position, Tidy, closed as isClosed};
 ghost use Rattle.game.specs.Moves.{play, flag as flagMove};
 ghost use Rattle.area.specs.Stages.{Shape, Stands};
 ghost use Rattle.play.specs.Walks.{Around, shifted, rowCells, squareOf, openedOne, labelledAt, CellSwept, SweptOver, RunSwept, LeftSwept, RightSwept};
-ghost use Rattle.play.specs.Promises.{Revealing, Opens, Chording};
+ghost use Rattle.play.specs.Promises.{Revealing, Opens, Chording, together};
+
+// What moves opened: so many cells.
+pub struct Opened {
+    pub cells: usize,
+}
 
 // The sides of a square: its rows from `first` to before `last`, its columns from `from` to before `to`.
 pub struct Sides {
@@ -210,34 +215,45 @@ fn sweep_opening(work: &mut [i32], rows: usize, columns: usize, index: usize, la
     left + right
 }
 
+// What two moves opened.
+fn both(first: Opened, second: Opened) -> Opened
+    requires { ⌜ first .cells + second .cells ≤ 2 ^ 63 ⌝ }
+    ensures { λ r. ⌜ r ≡ together first second ⌝ }
+{
+    Opened {
+        cells: first.cells + second.cells,
+    }
+}
+
 // A reveal, with how many cells it can open at most.
-fn uncover(work: &mut [i32], rows: usize, columns: usize, index: usize) -> usize
+fn uncover(work: &mut [i32], rows: usize, columns: usize, index: usize) -> Opened
     requires { ⌜ Shape rows columns ⌝ }
     requires { ⌜ (5 * (rows * columns) ≤ length (now work)) × (index < rows * columns) ⌝ }
-    ensures { λ r. ⌜ (r ≤ 65025) × ((g : Grid) (s : Position) (old : List ℤ) → Stands rows columns g s old (now (work .entry))
+    ensures { λ r. ⌜ (r .cells ≤ 65025) × ((g : Grid) (s : Position) (old : List ℤ) → Stands rows columns g s old (now (work .entry)) → Tidy g s
         → Revealing rows columns g s old index r (now (work .exit))) ⌝ }
 {
     let kind = area::get(work, 5 * index + 4);
     if kind == 0 {
-        return 0;
+        return Opened { cells: 0 };
     }
     let state = area::get(work, 5 * index + 3);
     if state != 0 {
-        return 0;
+        return Opened { cells: 0 };
     }
     if kind == 1 {
         let label = area::get(work, 5 * index);
-        return sweep_opening(work, rows, columns, index, label);
+        let cells = sweep_opening(work, rows, columns, index, label);
+        return Opened { cells };
     }
     open_one(work, rows, columns, index);
-    1
+    Opened { cells: 1 }
 }
 
-// L, or nothing unless the cell is closed and safe. Answers how many cells were opened.
-pub fn reveal(work: &mut [i32], rows: usize, columns: usize, index: usize) -> usize
+// L, or nothing unless the cell is closed and safe. Answers what was opened.
+pub fn reveal(work: &mut [i32], rows: usize, columns: usize, index: usize) -> Opened
     requires { ⌜ Shape rows columns ⌝ }
     requires { ⌜ (5 * (rows * columns) ≤ length (now work)) × (index < rows * columns) ⌝ }
-    ensures { λ r. ⌜ ((g : Grid) (s : Position) (old : List ℤ) → Stands rows columns g s old (now (work .entry))
+    ensures { λ r. ⌜ ((g : Grid) (s : Position) (old : List ℤ) → Stands rows columns g s old (now (work .entry)) → Tidy g s
         → Revealing rows columns g s old index r (now (work .exit))) ⌝ }
 {
     uncover(work, rows, columns, index)
@@ -262,23 +278,24 @@ fn reveal_row(
     row: usize,
     from: usize,
     to: usize,
-) -> usize
+) -> Opened
     requires { ⌜ Shape rows columns ⌝ }
     requires { ⌜ (5 * (rows * columns) ≤ length (now work)) × (row < rows) × (from ≤ to) × (to ≤ columns) ⌝ }
-    ensures { λ r. ⌜ (r ≤ 65025 * (to - from)) × Opens rows columns (now (work .entry)) (rowCells rows row from to) r (now (work .exit)) ⌝ }
+    ensures { λ r. ⌜ (r .cells ≤ 65025 * (to - from)) × Opens rows columns (now (work .entry)) (rowCells rows row from to) r (now (work .exit)) ⌝ }
 {
-    let mut opened: usize = 0;
+    let mut opened = Opened { cells: 0 };
     for column in from..to {
-        opened += uncover(work, rows, columns, column * rows + row);
+        let more = uncover(work, rows, columns, column * rows + row);
+        opened = both(opened, more);
     }
     opened
 }
 
-// C: a reveal of each cell of the square, by row, then column. Answers how many cells were opened.
-pub fn chord(work: &mut [i32], rows: usize, columns: usize, index: usize) -> usize
+// C: a reveal of each cell of the square, by row, then column. Answers what was opened.
+pub fn chord(work: &mut [i32], rows: usize, columns: usize, index: usize) -> Opened
     requires { ⌜ Shape rows columns ⌝ }
     requires { ⌜ (5 * (rows * columns) ≤ length (now work)) × (index < rows * columns) ⌝ }
-    ensures { λ r. ⌜ ((g : Grid) (s : Position) (old : List ℤ) → Stands rows columns g s old (now (work .entry))
+    ensures { λ r. ⌜ ((g : Grid) (s : Position) (old : List ℤ) → Stands rows columns g s old (now (work .entry)) → Tidy g s
         → Chording rows columns g s old index r (now (work .exit))) ⌝ }
 {
     let sides = around(rows, columns, index);
@@ -286,9 +303,10 @@ pub fn chord(work: &mut [i32], rows: usize, columns: usize, index: usize) -> usi
     let last = sides.last;
     let from = sides.from;
     let to = sides.to;
-    let mut opened: usize = 0;
+    let mut opened = Opened { cells: 0 };
     for row in first..last {
-        opened += reveal_row(work, rows, columns, row, from, to);
+        let more = reveal_row(work, rows, columns, row, from, to);
+        opened = both(opened, more);
     }
     opened
 }

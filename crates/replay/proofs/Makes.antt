@@ -13,6 +13,7 @@ use Rattle.game.specs.Lists.{all-of, bit, count}
 use Rattle.game.specs.Moves.{Move, cellOf, chord, chordable, flag, left, legal, legalRead, play, readMove}
 use Rattle.game.specs.Position.{Position, closed, closedSafe, flagged, opened, unflagged}
 use Rattle.game.proofs.Counts.{count-ext}
+use Rattle.game.proofs.Legal.{legal-flag, legal-left}
 use Rattle.game.proofs.Tidy.{legal-inside}
 use Rattle.game.proofs.Squares.{square→}
 use Rattle.game.proofs.Truth.{T→true, and-both, and-left, and-right, eqb-no, eqb-yes, no→false}
@@ -20,12 +21,13 @@ use Rattle.area.specs.Stages.{Stands}
 use Rattle.play.specs.Promises.{Chording, Revealing}
 use Rattle.replay.specs.Replays.{Making}
 use Rattle.play.specs.Walks.{bareAt, kindAt, squareOf, stateAt}
+use Rattle.play.specs.declared.Opened.{Opened}
 use Rattle.replay.specs.declared.Made.{Made}
-use Rattle.replay.specs.declared.Made.the-variants.{Illegal, Opened}
+use Rattle.replay.specs.declared.Made.the-variants.{Illegal, Played}
 use Rattle.play.proofs.Changes.{flag-count}
 use Rattle.play.proofs.Chords.{square-of}
 use Rattle.play.proofs.Held.{kind-mine}
-use Rattle.play.proofs.Reveals.{flag-legal, inside, is-closed, is-mine, is-safe, is-zero, kind-read, not-closed, played, size-is, state-read}
+use Rattle.play.proofs.Reveals.{inside, is-closed, is-mine, is-safe, is-zero, kind-read, not-closed, size-is, state-read}
 
 -- ---- all pass a test where none passes its opposite
 
@@ -44,8 +46,8 @@ module _ (rows columns : ℕ) (g : Grid) (s : Position) (old w : List ℤ) (i : 
   illegal : (m : Move) → (T (legal g s m) → ⊥) → Making rows columns g s old (legal g s m) (some m) Illegal w w
   illegal m n = rw (no→false (legal g s m) n) (record { answer = refl; unchanged = refl })
 
-  legal-played : (m : Move) (n : ℕ) (v : List ℤ) → T (legal g s m) → Stands rows columns g (play g s m) old v → n + closedSafe g (play g s m) ≡ closedSafe g s
-      → Making rows columns g s old (legal g s m) (some m) (Opened n) w v
+  legal-played : (m : Move) (n : Opened) (v : List ℤ) → T (legal g s m) → Stands rows columns g (play g s m) old v → n .cells + closedSafe g (play g s m) ≡ closedSafe g s
+      → Making rows columns g s old (legal g s m) (some m) (Played n) w v
   legal-played m n v t u c =
       rw (T→true (legal g s m) t) (record { opened = n; answer = refl; stands = u; opened-cells = c })
 
@@ -65,12 +67,11 @@ module _ (rows columns : ℕ) (g : Grid) (s : Position) (old w : List ℤ) (i : 
   left-state m e n =
       illegal (left i) (λ t. not-closed rows columns g s old w i h st m e n (and-right (ltb i (size g) && safe g i) (closed s i) t))
 
-  pub left-played : (k m r : ℕ) (v : List ℤ) → k ≡ kindAt w i → (k ≡ 0 → ⊥) → m ≡ stateAt w i → m ≡ 0 → Revealing rows columns g s old i r v
-      → Making rows columns g s old (legal g s (left i)) (some (left i)) (Opened r) w v
-  unfolding legal play
+  pub left-played : (k m : ℕ) (r : Opened) (v : List ℤ) → k ≡ kindAt w i → (k ≡ 0 → ⊥) → m ≡ stateAt w i → m ≡ 0 → Revealing rows columns g s old i r v
+      → Making rows columns g s old (legal g s (left i)) (some (left i)) (Played r) w v
+  unfolding play
   left-played k m r v ek nk em zm q =
-      legal-played (left i) r v (and-both (ltb i (size g) && safe g i) (closed s i) (and-both (ltb i (size g)) (safe g i) (lt→ltb i (size g) at-i)
-      (is-safe rows columns g s old w i h st k ek nk)) (is-closed rows columns g s old w i h st m em zm)) (q .stands) (q .opened-cells)
+      legal-played (left i) r v (legal-left g s i at-i (is-safe rows columns g s old w i h st k ek nk) (is-closed rows columns g s old w i h st m em zm)) (q .stands) (q .opened-cells)
 
   -- ---- F
 
@@ -87,13 +88,13 @@ module _ (rows columns : ℕ) (g : Grid) (s : Position) (old w : List ℤ) (i : 
 
   pub flag-played : (k m : ℕ) (v : List ℤ) → k ≡ kindAt w i → k ≡ 0 → m ≡ stateAt w i → m ≡ 0
       → (T (mine g i) → T (closed s i) → Stands rows columns g (play g s (flag i)) old v)
-      → Making rows columns g s old (legal g s (flag i)) (some (flag i)) (Opened 0) w v
+      → Making rows columns g s old (legal g s (flag i)) (some (flag i)) (Played (record { cells = 0 })) w v
   unfolding play
   flag-played k m v ek zk em zm q =
       let t = is-mine rows columns g s old w i h st k ek zk in
       let u = is-closed rows columns g s old w i h st m em zm in
-      legal-played (flag i) 0 v (flag-legal rows columns g s old w i h st t u) (q t u)
-      (omega (arith, flag-count g s old i (st .room) at-i (played rows columns g s old w i h st) t u))
+      legal-played (flag i) (record { cells = 0 }) v (legal-flag g s i at-i t u) (q t u)
+      (omega (arith, flag-count g s old i (st .room) at-i (st .long) t u))
 
   -- ---- C
 
@@ -124,33 +125,24 @@ module _ (rows columns : ℕ) (g : Grid) (s : Position) (old w : List ℤ) (i : 
     state-one : getD s i 0 ≡ 1
     state-one = sym (state-read rows columns g s old w i h st m em) ∙ om
 
-    -- an opened cell is safe
-    opened-safe : T (safe g i)
-    opened-safe = go (mine g i) refl
-      where
-        go : (b : Bool) → mine g i ≡ b → T (not b)
-        go true e =
-            subst T (sym (sym (ap (λ (k : ℕ). eqb k 2) state-one) ∙ played rows columns g s old w i h st .mines i at-i (rw e tt) ∙ ap (λ (k : ℕ). not (eqb k 0)) state-one)) tt
-        go false e = tt
-
     pub zero-opened : (k : ℕ) → k ≡ kindAt w i → k ≡ 1 → false ≡ chordable g s i
     unfolding chordable
     zero-opened k e o =
         sym (no→false (chordable g s i) (λ t. T-not (zeroCell g i)
         (and-right (opened s i) (not (zeroCell g i)) (and-left (opened s i && not (zeroCell g i)) (all-of (λ j. not (mine g j) || flagged s j) (square g i)) t))
-        (subst T (sym (eqb-yes k 1 o) ∙ is-zero rows columns g s old w i h st k e opened-safe) tt)))
+        (subst T (sym (eqb-yes k 1 o) ∙ is-zero rows columns g s old w i h st k e) tt)))
 
     pub mines-decide : (k n : ℕ) → k ≡ kindAt w i → (k ≡ 1 → ⊥) → n ≡ count (bareAt w) (squareOf rows columns i) → eqb n 0 ≡ chordable g s i
     unfolding chordable
     mines-decide k n ek nk en =
-        rw (mines-counted n en, state-one, ← is-zero rows columns g s old w i h st k ek opened-safe, eqb-no k 1 nk)
+        rw (mines-counted n en, state-one, ← is-zero rows columns g s old w i h st k ek, eqb-no k 1 nk)
 
   pub chord-refused : (b : Bool) → b ≡ chordable g s i → b ≡ false → Making rows columns g s old (legal g s (chord i)) (some (chord i)) Illegal w w
   unfolding legal
   chord-refused b e f = illegal (chord i) (λ t. subst T (sym e ∙ f) (and-right (ltb i (size g)) (chordable g s i) t))
 
-  pub chord-played : (b : Bool) (r : ℕ) (v : List ℤ) → b ≡ chordable g s i → b ≡ true → Chording rows columns g s old i r v
-      → Making rows columns g s old (legal g s (chord i)) (some (chord i)) (Opened r) w v
+  pub chord-played : (b : Bool) (r : Opened) (v : List ℤ) → b ≡ chordable g s i → b ≡ true → Chording rows columns g s old i r v
+      → Making rows columns g s old (legal g s (chord i)) (some (chord i)) (Played r) w v
   unfolding legal
   chord-played b r v e f q =
       legal-played (chord i) r v (and-both (ltb i (size g)) (chordable g s i) (lt→ltb i (size g) at-i) (subst T (sym (sym e ∙ f)) tt)) (q .stands) (q .opened-cells)

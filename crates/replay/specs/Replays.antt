@@ -9,17 +9,18 @@ use Rattle.game.specs.Grid.{Grid}
 use Rattle.game.specs.Position.{Position, closedSafe}
 use Rattle.game.specs.Moves.{Move, Replayed, playRead, stopped, whole}
 use Rattle.area.specs.Stages.{Stands}
+use Rattle.play.specs.declared.Opened.{Opened}
 use Rattle.replay.specs.declared.Made.{Made}
-use Rattle.replay.specs.declared.Made.the-variants.{Illegal, Opened}
+use Rattle.replay.specs.declared.Made.the-variants.{Illegal, Played}
 use Rattle.replay.specs.declared.Replay.{Replay}
 use Rattle.replay.specs.declared.Replay.the-variants.{Stopped, Whole}
 
--- a legal move was played: r says how many safe cells it opened, and v stands for the position after it
+-- a legal move was played: r says what it opened, and v stands for the position after it
 pub record Moved (rows columns : ℕ) (g : Grid) (s : Position) (old : List ℤ) (m : Option Move) (r : Made) (v : List ℤ) : Type 0 where
-  pub opened : ℕ
-  pub answer : r ≡ Opened opened
+  pub opened : Opened
+  pub answer : r ≡ Played opened
   pub stands : Stands rows columns g (playRead g s m) old v
-  pub opened-cells : opened + closedSafe g (playRead g s m) ≡ closedSafe g s
+  pub opened-cells : opened .cells + closedSafe g (playRead g s m) ≡ closedSafe g s
 
 -- a move that isn't legal was refused, and nothing changed
 pub record Refused (r : Made) (w v : List ℤ) : Type 0 where

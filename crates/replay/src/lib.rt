@@ -1,4 +1,5 @@
 // One replayed move, and the replay of a list, on a work area that stands for a position.
+use play::Opened;
 ghost use mathlib.Core.Path.{_≡_};
 ghost use Prim.Native.Nat.{_+_, _*_, _-_, _<_, _≤_};
 ghost use mathlib.Core.List.{List};
@@ -7,15 +8,15 @@ ghost use lib.IntN.{ℤ};
 ghost use lib.ListN.{length, take};
 ghost use Rattle.game.specs.Lists.{bit, count as countOf};
 ghost use Rattle.game.specs.Grid.{Grid};
-ghost use Rattle.game.specs.Position.{Position, closedSafe};
+ghost use Rattle.game.specs.Position.{Position, Tidy, closedSafe};
 ghost use Rattle.game.specs.Moves.{legal, legalRead, readMove, replayFrom, chordable as mayChord, left as leftMove, flag as flagMove, chord as chordMove};
 ghost use Rattle.area.specs.Stages.{Shape, Stands};
 ghost use Rattle.play.specs.Walks.{rowCells, squareOf, bareAt};
 ghost use Rattle.replay.specs.Replays.{Making, Replaying};
 
-// What a replayed move comes to: how many cells it opened, or that it isn't legal.
+// What a replayed move comes to: what it opened, or that it isn't legal.
 pub enum Made {
-    Opened(usize),
+    Played(Opened),
     Illegal,
 }
 
@@ -101,7 +102,7 @@ fn chordable(work: &[i32], rows: usize, columns: usize, index: usize) -> bool
 fn make_left(work: &mut [i32], rows: usize, columns: usize, index: usize) -> Made
     requires { ⌜ Shape rows columns ⌝ }
     requires { ⌜ (5 * (rows * columns) ≤ length (now work)) × (index < rows * columns) ⌝ }
-    ensures { λ r. ⌜ ((g : Grid) (s : Position) (old : List ℤ) → Stands rows columns g s old (now (work .entry))
+    ensures { λ r. ⌜ ((g : Grid) (s : Position) (old : List ℤ) → Stands rows columns g s old (now (work .entry)) → Tidy g s
         → Making rows columns g s old (legal g s (leftMove index)) (some (leftMove index)) r (now (work .entry)) (now (work .exit))) ⌝ }
 {
     let kind = area::get(work, 5 * index + 4);
@@ -112,7 +113,7 @@ fn make_left(work: &mut [i32], rows: usize, columns: usize, index: usize) -> Mad
     if state != 0 {
         return Made::Illegal;
     }
-    Made::Opened(play::reveal(work, rows, columns, index))
+    Made::Played(play::reveal(work, rows, columns, index))
 }
 
 // F, if it is legal.
@@ -131,27 +132,27 @@ fn make_flag(work: &mut [i32], rows: usize, columns: usize, index: usize) -> Mad
         return Made::Illegal;
     }
     play::flag(work, rows, columns, index);
-    Made::Opened(0)
+    Made::Played(Opened { cells: 0 })
 }
 
 // C, if it is legal.
 fn make_chord(work: &mut [i32], rows: usize, columns: usize, index: usize) -> Made
     requires { ⌜ Shape rows columns ⌝ }
     requires { ⌜ (5 * (rows * columns) ≤ length (now work)) × (index < rows * columns) ⌝ }
-    ensures { λ r. ⌜ ((g : Grid) (s : Position) (old : List ℤ) → Stands rows columns g s old (now (work .entry))
+    ensures { λ r. ⌜ ((g : Grid) (s : Position) (old : List ℤ) → Stands rows columns g s old (now (work .entry)) → Tidy g s
         → Making rows columns g s old (legal g s (chordMove index)) (some (chordMove index)) r (now (work .entry)) (now (work .exit))) ⌝ }
 {
     if !chordable(work, rows, columns, index) {
         return Made::Illegal;
     }
-    Made::Opened(play::chord(work, rows, columns, index))
+    Made::Played(play::chord(work, rows, columns, index))
 }
 
 // One replayed move: played if it is legal; else nothing changes.
 pub fn make(work: &mut [i32], rows: usize, columns: usize, word: u32) -> Made
     requires { ⌜ Shape rows columns ⌝ }
     requires { ⌜ 5 * (rows * columns) ≤ length (now work) ⌝ }
-    ensures { λ r. ⌜ ((g : Grid) (s : Position) (old : List ℤ) → Stands rows columns g s old (now (work .entry))
+    ensures { λ r. ⌜ ((g : Grid) (s : Position) (old : List ℤ) → Stands rows columns g s old (now (work .entry)) → Tidy g s
         → Making rows columns g s old (legalRead g s (readMove word)) (readMove word) r (now (work .entry)) (now (work .exit))) ⌝ }
 {
     let index = (word % 65536) as usize;
@@ -178,16 +179,16 @@ pub fn run(
 ) -> Replay
     requires { ⌜ Shape rows columns ⌝ }
     requires { ⌜ (5 * (rows * columns) ≤ length (now work)) × (count ≤ length (now list)) ⌝ }
-    ensures { λ r. ⌜ ((g : Grid) (s : Position) (old : List ℤ) → Stands rows columns g s old (now (work .entry)) → safe ≡ closedSafe g s
+    ensures { λ r. ⌜ ((g : Grid) (s : Position) (old : List ℤ) → Stands rows columns g s old (now (work .entry)) → Tidy g s → safe ≡ closedSafe g s
         → Replaying rows columns g old (replayFrom g 0 s (take count (now (list .entry)))) r (now (work .exit))) ⌝ }
 {
     let mut closed = safe;
     for place in 0..count {
         let made = make(work, rows, columns, list[place]);
-        let Made::Opened(opened) = made else {
+        let Made::Played(opened) = made else {
             return Replay::Stopped(place);
         };
-        closed = area::less(closed, opened);
+        closed = area::less(closed, opened.cells);
     }
     Replay::Whole(closed)
 }

@@ -1,4 +1,4 @@
--- A whole round: its first steps, then those by premium; it has at most as many moves as cells, so its list is written in order. Assumes nothing.
+-- From a position on: the first steps, then those by premium. A whole round has at most as many moves as cells, so its list is written in order. Assumes nothing.
 use Prim.Native.Nat.{ℕ, _*_, _<_, _≤_}
 use native.Mathlib.Omega.{arith}
 use native.Mathlib.Nat.{zero-add}
@@ -16,19 +16,19 @@ use Rattle.game.specs.Demands.{Sound}
 use Rattle.game.specs.Grid.{Grid, cells, safe}
 use Rattle.game.specs.Lists.{count, has, range}
 use Rattle.game.specs.Moves.{Move, after, word}
-use Rattle.game.specs.Openings.{threeBV}
-use Rattle.game.specs.Position.{Position, closed, closedSafe, closedUnits, untouched}
-use Rattle.game.specs.Rounds.{firstClicks, greedySteps, movesOf, openingClicks, openingsFirstSteps, stepsFrom}
+use Rattle.game.specs.Position.{Position, Tidy, closed, closedSafe, closedUnits, untouched}
+use Rattle.game.specs.Rounds.{firstSteps, movesOf, openingClicks, roundSteps, stepsFrom, stepsOn}
 use Rattle.play.specs.Walks.{kindAt, stateAt}
 use Rattle.moves.specs.Promises.{Made}
-use Rattle.rounds.specs.Promises.{Fresh, Going, Round, firstSteps, roundSteps}
+use Rattle.rounds.specs.Promises.{Fresh, Going, Round}
 use Rattle.game.proofs.Counts.{count-ext}
+use Rattle.game.proofs.Onwards.{first-falls, round-on}
 use Rattle.game.proofs.Rounds.{greedy-sound, openings-first-sound}
 use Rattle.game.proofs.Runs.{moves-append}
 use Rattle.game.proofs.Squares.{cells→}
+use Rattle.game.proofs.Tidy.{untouched-tidy}
 use Rattle.play.proofs.Held.{kind-mine}
 use Rattle.play.proofs.Reveals.{kind-read, state-read}
-use Rattle.game.proofs.Falls.{units-most}
 use Rattle.moves.proofs.Joins.{made-both, made-none}
 
 -- ---- one work area stands for positions with as many closed safe cells
@@ -55,33 +55,39 @@ module _ (rows columns : ℕ) (g k : Grid) (s p : Position) (old other w : List 
 
 -- ---- the first steps
 
-module _ (rows columns : ℕ) (g : Grid) (old : List ℤ) (list : List ℕ) (t : State) where
+module _ (rows columns : ℕ) (g : Grid) (s : Position) (old : List ℤ) (list : List ℕ) (t : State) where
   pub begun-first : (first : Bool) (w′ : List ℤ) (list′ : List ℕ) (t′ : State) → first ≡ true
-      → Made rows columns g (untouched g) old (movesOf (openingClicks g (untouched g) (cells g))) list t w′ list′ t′
-      → Made rows columns g (untouched g) old (movesOf (firstSteps first g)) list t w′ list′ t′
-  unfolding firstClicks
+      → Made rows columns g s old (movesOf (openingClicks g s (cells g))) list t w′ list′ t′
+      → Made rows columns g s old (movesOf (firstSteps first g s)) list t w′ list′ t′
   begun-first first w′ list′ t′ e m = rw e m
 
-  pub begun-bare : (first : Bool) (w : List ℤ) → first ≡ false → Stands rows columns g (untouched g) old w → t .closed ≡ closedSafe g (untouched g)
-      → Made rows columns g (untouched g) old (movesOf (firstSteps first g)) list t w list t
-  begun-bare first w e st c = rw e (made-none rows columns g (untouched g) old w list t st c)
+  pub begun-bare : (first : Bool) (w : List ℤ) → first ≡ false → Stands rows columns g s old w → Tidy g s → t .closed ≡ closedSafe g s
+      → Made rows columns g s old (movesOf (firstSteps first g s)) list t w list t
+  begun-bare first w e st f c = rw e (made-none rows columns g s old w list t st f c)
 
--- the work area after some moves from the untouched grid
-pub first-going : (rows columns : ℕ) (w : List ℤ) (safe : ℕ) (list : List ℕ) (w′ : List ℤ) (list′ : List ℕ) (t t′ : State) (begins : Grid → List Move) → Fresh rows columns w safe
-    → ((g : Grid) (old : List ℤ) → Stands rows columns g (untouched g) old w → safe ≡ closedSafe g (untouched g) → Made rows columns g (untouched g) old (begins g) list t w′ list′ t′)
+-- the work area after some moves
+pub still-going : (rows columns : ℕ) (w : List ℤ) (list : List ℕ) (w′ : List ℤ) (list′ : List ℕ) (t t′ : State) (begins : Grid → Position → List Move) → Going rows columns w t
+    → ((g : Grid) (s : Position) (old : List ℤ) → Stands rows columns g s old w → Tidy g s → t .closed ≡ closedSafe g s → Made rows columns g s old (begins g s) list t w′ list′ t′)
     → Going rows columns w′ t′
-first-going rows columns w safe list w′ list′ t t′ begins f q =
-    let g = f .grid in
-    let m = q g (f .old) (f .stands) (f .counts) in
-    record { grid = g; position = after g (untouched g) (begins g); old = f .old; stands = m .stands; counts = m .left-closed }
+still-going rows columns w list w′ list′ t t′ begins u q =
+    let m = q (u .grid) (u .position) (u .old) (u .stands) (u .tidy) (u .counts) in
+    record { grid = u .grid; position = after (u .grid) (u .position) (begins (u .grid) (u .position)); old = u .old; stands = m .stands; tidy = m .tidy; counts = m .left-closed }
+
+-- ---- from a position on
+
+pub went-on : (rows columns : ℕ) (g : Grid) (s : Position) (old : List ℤ) (first : Bool) (list : List ℕ) (t : State) (v : List ℤ) (l : List ℕ) (u : State) (w′ : List ℤ) (list′ : List ℕ) (t′ : State)
+    → Tidy g s → Made rows columns g s old (movesOf (firstSteps first g s)) list t v l u
+    → ((p : Position) (n : ℕ) → Stands rows columns g p old v → Tidy g p → u .closed ≡ closedSafe g p → closedUnits g p ≤ n → Made rows columns g p old (movesOf (stepsFrom n first g p)) l u w′ list′ t′)
+    → Made rows columns g s old (movesOf (stepsOn first g s)) list t w′ list′ t′
+unfolding stepsOn
+went-on rows columns g s old first list t v l u w′ list′ t′ f a ends =
+    let hit = after g s (movesOf (firstSteps first g s)) in
+    let rest = stepsFrom (closedUnits g s) first g hit in
+    rw (moves-append (firstSteps first g s) rest)
+    (made-both rows columns g s old (movesOf (firstSteps first g s)) (movesOf rest) list t v l u w′ list′ t′ a
+    (ends hit (closedUnits g s) (a .stands) (a .tidy) (a .left-closed) (first-falls first g s f)))
 
 -- ---- the round
-
-round-moves : (first : Bool) (g : Grid)
-    → movesOf (roundSteps first g) ≡ movesOf (firstSteps first g) ++ movesOf (stepsFrom (threeBV g) first g (after g (untouched g) (movesOf (firstSteps first g))))
-unfolding greedySteps openingsFirstSteps
-round-moves false g = refl
-round-moves true g = moves-append (firstClicks g) (stepsFrom (threeBV g) true g (after g (untouched g) (movesOf (firstClicks g))))
 
 round-sound : (first : Bool) (g : Grid) → Sound g (roundSteps first g)
 round-sound false g = greedy-sound g
@@ -93,21 +99,21 @@ unfolding listOf
 listed-moves ms list h =
     sets-eq (map word ms) list 0 (omega (arith, length-map ms word)) ∙ ap (λ (k : ℕ). map word ms ++ drop k list) (zero-add (length (map word ms)))
 
-pub rounded : (rows columns : ℕ) (g : Grid) (old w : List ℤ) (first : Bool) (safe : ℕ) (list : List ℕ) (v : List ℤ) (l : List ℕ) (u : State) (w′ : List ℤ) (list′ : List ℕ) (t′ : State)
+-- the untouched position is one to go on from
+pub fresh-going : (rows columns : ℕ) (w : List ℤ) (safe : ℕ) → Fresh rows columns w safe → Going rows columns w (record { moves = 0; closed = safe })
+fresh-going rows columns w safe f =
+    record { grid = f .grid; position = untouched (f .grid); old = f .old; stands = f .stands; tidy = untouched-tidy (f .grid); counts = f .counts }
+
+pub rounded : (rows columns : ℕ) (g : Grid) (old w : List ℤ) (first : Bool) (safe : ℕ) (list : List ℕ) (w′ : List ℤ) (list′ : List ℕ) (t′ : State)
     → Fresh rows columns w safe → Stands rows columns g (untouched g) old w → rows * columns ≤ length list
-    → ((g : Grid) (old : List ℤ) → Stands rows columns g (untouched g) old w → safe ≡ closedSafe g (untouched g)
-    → Made rows columns g (untouched g) old (movesOf (firstSteps first g)) list (record { moves = 0; closed = safe; next = 0 }) v l u)
-    → ((s : Position) (n : ℕ) → Stands rows columns g s old v → u .closed ≡ closedSafe g s → closedUnits g s ≤ n → Made rows columns g s old (movesOf (stepsFrom n first g s)) l u w′ list′ t′)
+    → (Tidy g (untouched g) → safe ≡ closedSafe g (untouched g)
+    → Made rows columns g (untouched g) old (movesOf (stepsOn first g (untouched g))) list (record { moves = 0; closed = safe }) w′ list′ t′)
     → Round rows columns g old (movesOf (roundSteps first g)) list (t′ .moves) w′ list′
-rounded rows columns g old w first safe list v l u w′ list′ t′ f st room begins ends =
-    let fresh : State = record { moves = 0; closed = safe; next = 0 } in
+rounded rows columns g old w first safe list w′ list′ t′ f st room goes =
     let ms = movesOf (roundSteps first g) in
-    let hit = after g (untouched g) (movesOf (firstSteps first g)) in
-    let a = begins g old st (f .counts ∙ closed-alike rows columns (f .grid) g (untouched (f .grid)) (untouched g) (f .old) old w (f .stands) st) in
-    let b = ends hit (threeBV g) (a .stands) (a .left-closed) (units-most g hit) in
-    let m : Made rows columns g (untouched g) old ms list fresh w′ list′ t′ =
-    rw (round-moves first g)
-    (made-both rows columns g (untouched g) old (movesOf (firstSteps first g)) (movesOf (stepsFrom (threeBV g) first g hit)) list fresh v l u w′ list′ t′ a b) in
+    let m : Made rows columns g (untouched g) old ms list (record { moves = 0; closed = safe }) w′ list′ t′ =
+    rw (round-on first g)
+    (goes (untouched-tidy g) (f .counts ∙ closed-alike rows columns (f .grid) g (untouched (f .grid)) (untouched g) (f .old) old w (f .stands) st)) in
     let d = round-sound first g in
     record {
       clicks = omega (arith, m .clicks);

@@ -16,14 +16,13 @@ use Rattle.game.specs.Grid.{Grid, cells, columnOf, rowOf, safe, size, square, z
 use Rattle.game.specs.Lists.{fold}
 use Rattle.game.specs.Moves.{Move, after, chord, flag, left, play, reveal}
 use Rattle.game.specs.Openings.{holds, joinedTo, unlabelled}
-use Rattle.game.specs.Position.{Position, closed, closedSafe}
+use Rattle.game.specs.Position.{Position, Tidy, closed, closedSafe}
 use Rattle.game.specs.Rounds.{Choice, choice, chords, clicks, closedUnitCell, stepOf, topCells, unitCells, width}
 use Rattle.choices.proofs.Held.{unit-there}
 use Rattle.choices.proofs.Passing.{first-there}
 use Rattle.marks.proofs.Held.{held-numbers}
 use Rattle.game.proofs.Choices.{never-stuck}
 use Rattle.game.proofs.Members.{getD-has, keep-has}
-use Rattle.game.proofs.Tidy.{reached-tidy}
 use Rattle.game.proofs.Reveal.{Revealed, getD-sweep, opens, revealed, stays, sweeps}
 use Rattle.game.proofs.Squares.{cells→, column-lt, index-of}
 use Rattle.game.proofs.Truth.{and-both, and-left, and-right}
@@ -98,12 +97,12 @@ first-low rows columns g s old w st h =
     )
 
 -- the column lies on the grid after the step too, and no closed unit comes back before it
-pub low-goes-on : (openedOnly : Bool) (rows columns : ℕ) (g : Grid) (s : Position) (old w w′ : List ℤ) (from to : ℕ) → Stands rows columns g s old w
+pub low-goes-on : (openedOnly : Bool) (rows columns : ℕ) (g : Grid) (s : Position) (old w w′ : List ℤ) (from to : ℕ) → Stands rows columns g s old w → Tidy g s
     → Stands rows columns g (after g s (stepOf g s (choice openedOnly g s) 0 .moves)) old w′ → 1 ≤ closedSafe g s → to ≡ columnAfter g (choice openedOnly g s) from
     → (from ≤ columns) × NoUnitBelow w (from * rows) → (to ≤ columns) × NoUnitBelow w′ (to * rows)
 unfolding choice
-low-goes-on openedOnly rows columns g s old w w′ from to st st′ h e n =
-    let k : (to ≤ columns) × NoUnitBelow w (to * rows) = rw e (go (topCells openedOnly g s) (never-stuck openedOnly g s (reached-tidy g s (st .reached)) h)) in
+low-goes-on openedOnly rows columns g s old w w′ from to st f st′ h e n =
+    let k : (to ≤ columns) × NoUnitBelow w (to * rows) = rw e (go (topCells openedOnly g s) (never-stuck openedOnly g s f h)) in
     (k .0, low-stays rows columns g s old w w′ (stepOf g s (choice openedOnly g s) 0 .moves) (to * rows) st st′ (omega (arith, mul-le-mul-right rows (k .0))) (k .1))
   where
     go : (ts : List ℕ) → 1 ≤ width (elim ts as (λ _. Choice) [ [] ↦ clicks (unitCells g s) | x ∷ xs ↦ chords (x ∷ xs) ])

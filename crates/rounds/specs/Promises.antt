@@ -1,15 +1,15 @@
 -- A step's moves made, and what is kept of the columns right again; a whole round. Assumes nothing.
 use Prim.Native.Nat.{ℕ}
 use mathlib.Core.Path.{_≡_}
-use mathlib.Core.Bool.{Bool, true, false}
-use mathlib.Core.List.{List, []}
+use mathlib.Core.Bool.{Bool}
+use mathlib.Core.List.{List}
 use lib.IntN.{ℤ}
 use lib.ListN.{getD, length}
 use Rattle.game.specs.Grid.{Grid, columnOf}
-use Rattle.game.specs.Position.{Position, untouched, closedSafe}
+use Rattle.game.specs.Position.{Position, Tidy, untouched, closedSafe}
 use Rattle.game.specs.Moves.{Move, after}
 use Rattle.game.specs.Area.{listOf}
-use Rattle.game.specs.Rounds.{Choice, Step, choice, chords, clicks, firstClicks, greedySteps, openingsFirstSteps, stepOf}
+use Rattle.game.specs.Rounds.{Choice, choice, chords, clicks, stepOf}
 use Rattle.area.specs.Stages.{Stands}
 use Rattle.choices.specs.Tops.{Kept, UnitsKept}
 use Rattle.moves.specs.Promises.{Made}
@@ -33,12 +33,13 @@ pub record StepKept (openedOnly : Bool) (rows columns : ℕ) (g : Grid) (s : Pos
   pub kept : Kept openedOnly w′ rows columns tops′
   pub column : r .from ≡ columnAfter g (choice openedOnly g s) from
 
--- a state that counts the safe cells still closed in a position that the area stands for
+-- a state that counts the safe cells still closed in a tidy position that the area stands for
 pub record Going (rows columns : ℕ) (w : List ℤ) (t : State) : Type 0 where
   pub grid : Grid
   pub position : Position
   pub old : List ℤ
   pub stands : Stands rows columns grid position old w
+  pub tidy : Tidy grid position
   pub counts : t .closed ≡ closedSafe grid position
 
 -- the area stands for an untouched grid of so many safe cells
@@ -47,16 +48,6 @@ pub record Fresh (rows columns : ℕ) (w : List ℤ) (safe : ℕ) : Type 0 where
   pub old : List ℤ
   pub stands : Stands rows columns grid (untouched grid) old w
   pub counts : safe ≡ closedSafe grid (untouched grid)
-
--- the steps of a greedy round, or of an openings-first round
-abbrev pub roundSteps : Bool → Grid → List Step
-roundSteps false g = greedySteps g
-roundSteps true g = openingsFirstSteps g
-
--- the steps that come before those by premium: the opening clicks of an openings-first round
-abbrev pub firstSteps : Bool → Grid → List Step
-firstSteps false g = []
-firstSteps true g = firstClicks g
 
 -- a round of the moves ms: its clicks, the area at its end, and the list with its moves
 pub record Round (rows columns : ℕ) (g : Grid) (old : List ℤ) (ms : List Move) (list : List ℕ) (r : ℕ) (w′ : List ℤ) (list′ : List ℕ) : Type 0 where

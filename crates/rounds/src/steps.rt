@@ -11,7 +11,7 @@ ghost use lib.IntN.{ℤ};
 ghost use lib.ListN.{length, getD};
 ghost use lib.Dec.{T};
 ghost use Rattle.game.specs.Grid.{Grid, columnOf, safe, zeroCell};
-ghost use Rattle.game.specs.Position.{Position, closed as isClosed, closedSafe};
+ghost use Rattle.game.specs.Position.{Position, Tidy, closed as isClosed, closedSafe};
 ghost use Rattle.game.specs.Moves.{left};
 ghost use Rattle.game.specs.Rounds.{movesAt, topCells, unitCells};
 ghost use Rattle.area.specs.Stages.{Shape, Stands, Standing};
@@ -31,7 +31,7 @@ pub fn click_at(
 ) -> State
     requires { ⌜ Shape rows columns ⌝ }
     requires { ⌜ (5 * (rows * columns) ≤ length (now work)) × (index < rows * columns) × (state .moves ≤ 2 ^ 45) ⌝ }
-    ensures { λ r. ⌜ ((openedOnly : Bool) (g : Grid) (s : Position) (old : List ℤ) → Stands rows columns g s old (now (work .entry))
+    ensures { λ r. ⌜ ((openedOnly : Bool) (g : Grid) (s : Position) (old : List ℤ) → Stands rows columns g s old (now (work .entry)) → Tidy g s
         → T (safe g index) → T (isClosed s index) → topCells openedOnly g s ≡ [] → state .closed ≡ closedSafe g s
         → MadeKept openedOnly rows columns g s old (left index ∷ []) (now (list .entry)) (now (work .entry)) (now (tops .entry)) state (now (work .exit)) (now (list .exit)) (now (tops .exit)) r) ⌝ }
 {
@@ -51,7 +51,7 @@ pub fn act_at(
 ) -> State
     requires { ⌜ Shape rows columns ⌝ }
     requires { ⌜ (5 * (rows * columns) ≤ length (now work)) × (index < rows * columns) × (state .moves ≤ 2 ^ 45) ⌝ }
-    ensures { λ r. ⌜ ((openedOnly : Bool) (g : Grid) (s : Position) (old : List ℤ) → Stands rows columns g s old (now (work .entry))
+    ensures { λ r. ⌜ ((openedOnly : Bool) (g : Grid) (s : Position) (old : List ℤ) → Stands rows columns g s old (now (work .entry)) → Tidy g s
         → T (safe g index) → (T (zeroCell g index) → ⊥) → state .closed ≡ closedSafe g s
         → MadeKept openedOnly rows columns g s old (movesAt g s index) (now (list .entry)) (now (work .entry)) (now (tops .entry)) state (now (work .exit)) (now (list .exit)) (now (tops .exit)) r) ⌝ }
 {
@@ -72,7 +72,7 @@ pub fn click_lowest(
     requires { ⌜ Shape rows columns ⌝ }
     requires { ⌜ (5 * (rows * columns) ≤ length (now work)) × (state .moves ≤ 2 ^ 45) × (from ≤ columns) × NoUnitBelow (now work) (from * rows) ⌝ }
     requires { ⌜ Standing rows columns (now work) ⌝ }
-    ensures { λ r. ⌜ ((openedOnly : Bool) (g : Grid) (s : Position) (old : List ℤ) → Stands rows columns g s old (now (work .entry))
+    ensures { λ r. ⌜ ((openedOnly : Bool) (g : Grid) (s : Position) (old : List ℤ) → Stands rows columns g s old (now (work .entry)) → Tidy g s
         → 1 ≤ length (unitCells g s) → topCells openedOnly g s ≡ [] → state .closed ≡ closedSafe g s
         → MadeKept openedOnly rows columns g s old (left (getD (unitCells g s) 0 0) ∷ []) (now (list .entry)) (now (work .entry)) (now (tops .entry)) state (now (work .exit)) (now (list .exit)) (now (tops .exit)) (r .state)
         × (r .from ≡ columnOf g (getD (unitCells g s) 0 0))) ⌝ }
@@ -106,7 +106,7 @@ pub fn step(
     requires { ⌜ (5 * (rows * columns) ≤ length (now work)) × (state .moves ≤ 2 ^ 45) × (from ≤ columns) × NoUnitBelow (now work) (from * rows) ⌝ }
     requires { ⌜ Kept «opened_only» (now work) rows columns (now tops) ⌝ }
     requires { ⌜ Standing rows columns (now work) ⌝ }
-    ensures { λ r. ⌜ ((g : Grid) (s : Position) (old : List ℤ) → Stands rows columns g s old (now (work .entry))
+    ensures { λ r. ⌜ ((g : Grid) (s : Position) (old : List ℤ) → Stands rows columns g s old (now (work .entry)) → Tidy g s
         → 1 ≤ closedSafe g s → state .closed ≡ closedSafe g s
         → StepKept «opened_only» rows columns g s old (now (list .entry)) state from (now (work .exit)) (now (list .exit)) (now (tops .exit)) r) ⌝ }
 {

@@ -1,4 +1,4 @@
-// Steps until all safe cells are open, and a whole round: greedy or openings-first.
+// Steps until all safe cells are open, from any position on, and a whole round: greedy or openings-first.
 use crate::steps;
 use moves::State;
 use moves::opening_clicks;
@@ -8,12 +8,12 @@ ghost use Prim.Native.Nat.{ℕ, _+_, _*_, _^_, _≤_};
 ghost use lib.IntN.{ℤ};
 ghost use lib.ListN.{length};
 ghost use Rattle.game.specs.Grid.{Grid};
-ghost use Rattle.game.specs.Position.{Position, closedSafe, closedUnits, untouched};
-ghost use Rattle.game.specs.Rounds.{movesOf, stepsFrom};
+ghost use Rattle.game.specs.Position.{Position, Tidy, closedSafe, closedUnits, untouched};
+ghost use Rattle.game.specs.Rounds.{movesOf, stepsFrom, roundSteps, firstSteps, stepsOn};
 ghost use Rattle.area.specs.Stages.{Shape, Stands};
 ghost use Rattle.choices.specs.Tops.{Kept};
 ghost use Rattle.moves.specs.Promises.{Made};
-ghost use Rattle.rounds.specs.Promises.{Going, Fresh, Round, roundSteps, firstSteps};
+ghost use Rattle.rounds.specs.Promises.{Going, Fresh, Round};
 
 // Steps by the lowest index until all safe cells are open.
 pub fn play_on(
@@ -29,7 +29,7 @@ pub fn play_on(
     requires { ⌜ (5 * (rows * columns) ≤ length (now work)) × (state .moves ≤ 2 ^ 33) ⌝ }
     requires { ⌜ Going rows columns (now work) state ⌝ }
     requires { ⌜ Kept «opened_only» (now work) rows columns (now tops) ⌝ }
-    ensures { λ r. ⌜ ((g : Grid) (s : Position) (old : List ℤ) (n : ℕ) → Stands rows columns g s old (now (work .entry))
+    ensures { λ r. ⌜ ((g : Grid) (s : Position) (old : List ℤ) (n : ℕ) → Stands rows columns g s old (now (work .entry)) → Tidy g s
         → state .closed ≡ closedSafe g s → closedUnits g s ≤ n
         → Made rows columns g s old (movesOf (stepsFrom n «opened_only» g s)) (now (list .entry)) state (now (work .exit)) (now (list .exit)) r) ⌝ }
 {
@@ -55,13 +55,33 @@ pub fn begin(
     requires { ⌜ Shape rows columns ⌝ }
     requires { ⌜ (5 * (rows * columns) ≤ length (now work)) × (state .moves ≤ 2 ^ 32) ⌝ }
     ensures { λ r. ⌜ r .moves ≤ state .moves + rows * columns ⌝ }
-    ensures { λ r. ⌜ ((g : Grid) (old : List ℤ) → Stands rows columns g (untouched g) old (now (work .entry)) → state .closed ≡ closedSafe g (untouched g)
-        → Made rows columns g (untouched g) old (movesOf (firstSteps «openings_first» g)) (now (list .entry)) state (now (work .exit)) (now (list .exit)) r) ⌝ }
+    ensures { λ r. ⌜ ((g : Grid) (s : Position) (old : List ℤ) → Stands rows columns g s old (now (work .entry)) → Tidy g s → state .closed ≡ closedSafe g s
+        → Made rows columns g s old (movesOf (firstSteps «openings_first» g s)) (now (list .entry)) state (now (work .exit)) (now (list .exit)) r) ⌝ }
 {
     if openings_first {
         return opening_clicks::hit_openings(work, rows, columns, list, state);
     }
     state
+}
+
+// A round's steps from a tidy position on, to the end.
+pub fn go_on(
+    work: &mut [i32],
+    rows: usize,
+    columns: usize,
+    list: &mut [u32],
+    state: State,
+    openings_first: bool,
+) -> State
+    requires { ⌜ Shape rows columns ⌝ }
+    requires { ⌜ (5 * (rows * columns) ≤ length (now work)) × (state .moves ≤ 2 ^ 32) ⌝ }
+    requires { ⌜ Going rows columns (now work) state ⌝ }
+    ensures { λ r. ⌜ ((g : Grid) (s : Position) (old : List ℤ) → Stands rows columns g s old (now (work .entry)) → Tidy g s → state .closed ≡ closedSafe g s
+        → Made rows columns g s old (movesOf (stepsOn «openings_first» g s)) (now (list .entry)) state (now (work .exit)) (now (list .exit)) r) ⌝ }
+{
+    let begun = begin(work, rows, columns, list, state, openings_first);
+    let mut tops = [0u8; 255];
+    play_on(work, rows, columns, list, &mut tops, begun, openings_first)
 }
 
 // A round from the position before any move, of so many safe cells. Answers its clicks.
@@ -82,10 +102,7 @@ pub fn round(
     let fresh = State {
         moves: 0,
         closed: safe,
-        next: 0,
     };
-    let begun = begin(work, rows, columns, list, fresh, openings_first);
-    let mut tops = [0u8; 255];
-    let done = play_on(work, rows, columns, list, &mut tops, begun, openings_first);
+    let done = go_on(work, rows, columns, list, fresh, openings_first);
     done.moves
 }

@@ -5,11 +5,10 @@ ghost use mathlib.Core.Path.{_≡_};
 ghost use mathlib.Core.List.{[], _∷_, _++_};
 ghost use Prim.Native.Nat.{_*_, _≤_};
 ghost use lib.ListN.{length};
-ghost use Rattle.game.specs.Rounds.{movesOf};
+ghost use Rattle.game.specs.Rounds.{movesOf, roundSteps};
 ghost use Rattle.game.specs.Calls.{firstGiven, gives, greedyCall, gridChecks, listCheck, openingsFirstCall, playedRound, unlessListed};
 ghost use Rattle.area.specs.Numbers.{gridOf};
 ghost use Rattle.area.specs.Stages.{Shape};
-ghost use Rattle.rounds.specs.Promises.{roundSteps};
 ghost use Rattle.zini.specs.Answers.{KeptList, pricedAnswer};
 
 // A round whose input has been checked. Answers its clicks.

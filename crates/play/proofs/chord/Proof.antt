@@ -1,10 +1,11 @@
 -- `play::chord`: the rows passed were revealed one after the other; all rows are the square. Assumes nothing.
 use Prim.Native.Nat.{_≤_, _*_, _-_}
 use native.Mathlib.Omega.{arith}
-use mathlib.Core.Path.{_≡_, refl}
+use mathlib.Core.Path.{_≡_, ap, refl}
 use lib.ListN.{length}
 use borrow.Author.Needs.{needs}
 use Rattle.play.specs.Promises.{Opens}
+use Rattle.play.specs.declared.Opened.{Opened}
 use Rattle.play.specs.Walks.{blockCells, rowCells}
 use Rattle.play.proofs.Chords.{opens-both, opens-chord, opens-none}
 use Rattle.play.proofs.Rows.{block-more, block-none}
@@ -12,7 +13,7 @@ use Rattle.play.proofs.chord.Statement.{statement}
 use Rattle.play.proofs.chord.Tie as tie
 
 abbrev Inv-loop : tie.InvT-loop
-Inv-loop work₀ rows columns index first last from to opened₀ row₀ work opened row = (first ≤ row) × (row ≤ last) × (length work ≡ length work₀) × (opened ≤ 16581375 * (row - first))
+Inv-loop work₀ rows columns index first last from to opened₀ row₀ work opened row = (first ≤ row) × (row ≤ last) × (length work ≡ length work₀) × (opened .cells ≤ 16581375 * (row - first))
     × Opens rows columns work₀ (blockCells rows first row from to) opened work
 
 abbrev μ-loop : tie.MeasureT-loop
@@ -34,8 +35,8 @@ loop-holds c = let a = c .before .args in
 reveal-row-requires : tie.Need-reveal-row-requires Inv-loop μ-loop
 reveal-row-requires c κs = (c .before .before .before .before .pre .0, omega arith)
 
-add-opened : tie.Need-add-opened Inv-loop μ-loop
-add-opened c = omega arith
+both-requires : tie.Need-both-requires Inv-loop μ-loop
+both-requires c κs = omega arith
 
 add-row : tie.Need-add-row Inv-loop μ-loop
 add-row c = omega arith
@@ -44,17 +45,18 @@ loop-less : tie.Need-loop-less Inv-loop μ-loop
 loop-less c = omega arith
 
 loop-again : tie.Need-loop-again Inv-loop μ-loop
-loop-again c = let l = c .before .before .before .before in
+loop-again c = let l = c .before .before .before .before .before in
     let q = l .before .around .result in
     let a = l .before .before .args in
-    let u = c .before .reveal-row in (
+    let u = c .before .before .reveal-row in
+    let t = c .both in (
       omega arith,
       omega arith,
       search needs,
-      omega arith,
+      omega (arith, ap (λ (o : Opened). o .cells) (t .ensures)),
       rw (block-more (a .rows) (q .first) (l .loop .row) (q .from) (q .to) (l .loop .inv .0))
           (opens-both (a .rows) (a .columns) (a .work .now) (blockCells (a .rows) (q .first) (l .loop .row) (q .from) (q .to)) (rowCells (a .rows) (l .loop .row) (q .from) (q .to))
-          (l .loop .opened) (u .result) (l .loop .work) (u .last .0) (l .loop .inv .4) (u .ensures .1)),
+          (l .loop .opened) (u .result) (t .result) (l .loop .work) (u .last .0) (t .ensures) (l .loop .inv .4) (u .ensures .1)),
     )
 
 same-length : tie.Need-same-length Inv-loop μ-loop
@@ -76,7 +78,7 @@ chord-spec =
     around-requires
     loop-holds
     reveal-row-requires
-    add-opened
+    both-requires
     add-row
     loop-less
     loop-again

@@ -1,11 +1,12 @@
 -- `play::reveal_row`: the cells passed were revealed one after the other. Assumes nothing.
 use Prim.Native.Nat.{ℕ, _≤_, _<_, _+_, _*_, _-_}
 use native.Mathlib.Omega.{arith}
-use mathlib.Core.Path.{_≡_, refl}
+use mathlib.Core.Path.{_≡_, ap, refl}
 use mathlib.Core.List.{[], _∷_}
 use lib.ListN.{length}
 use borrow.Author.Needs.{needs}
 use Rattle.play.specs.Promises.{Opens}
+use Rattle.play.specs.declared.Opened.{Opened}
 use Rattle.play.specs.Walks.{rowCells}
 use Rattle.play.proofs.Chords.{opens-both, opens-none, opens-one}
 use Rattle.play.proofs.Rows.{inside, row-more, row-none}
@@ -13,7 +14,7 @@ use Rattle.play.proofs.reveal_row.Statement.{statement}
 use Rattle.play.proofs.reveal_row.Tie as tie
 
 abbrev Inv-loop : tie.InvT-loop
-Inv-loop work₀ rows columns row from to opened₀ column₀ work opened column = (from ≤ column) × (column ≤ to) × (length work ≡ length work₀) × (opened ≤ 65025 * (column - from))
+Inv-loop work₀ rows columns row from to opened₀ column₀ work opened column = (from ≤ column) × (column ≤ to) × (length work ≡ length work₀) × (opened .cells ≤ 65025 * (column - from))
     × Opens rows columns work₀ (rowCells rows row from column) opened work
 
 abbrev μ-loop : tie.MeasureT-loop
@@ -31,22 +32,22 @@ cell c k h =
     inside (a .rows) (a .columns) (a .row) k (omega arith) (omega arith)
 
 -- the first of them, and that of this turn
-both : (c : tie.In-loop Inv-loop μ-loop)
+on-grid : (c : tie.In-loop Inv-loop μ-loop)
     → (c .before .before .args .from * c .before .before .args .rows + c .before .before .args .row < c .before .before .args .rows * c .before .before .args .columns)
     × (c .before .loop .column * c .before .before .args .rows + c .before .before .args .row < c .before .before .args .rows * c .before .before .args .columns)
-both c = (cell c (c .before .before .args .from) (c .before .loop .inv .0), cell c (c .before .loop .column) (omega arith))
+on-grid c = (cell c (c .before .before .args .from) (c .before .loop .inv .0), cell c (c .before .loop .column) (omega arith))
 
 mul-uncover : tie.Need-mul-uncover Inv-loop μ-loop
-mul-uncover c = omega (arith, both (c .before))
+mul-uncover c = omega (arith, on-grid (c .before))
 
 add-uncover : tie.Need-add-uncover Inv-loop μ-loop
-add-uncover c = omega (arith, both (c .before))
+add-uncover c = omega (arith, on-grid (c .before))
 
 uncover-requires : tie.Need-uncover-requires Inv-loop μ-loop
-uncover-requires c κs = (c .before .before .before .pre .0, (omega arith, omega (arith, both (c .before))))
+uncover-requires c κs = (c .before .before .before .pre .0, (omega arith, omega (arith, on-grid (c .before))))
 
-add-opened : tie.Need-add-opened Inv-loop μ-loop
-add-opened c = omega arith
+both-requires : tie.Need-both-requires Inv-loop μ-loop
+both-requires c κs = omega arith
 
 add-column : tie.Need-add-column Inv-loop μ-loop
 add-column c = omega arith
@@ -55,16 +56,17 @@ loop-less : tie.Need-loop-less Inv-loop μ-loop
 loop-less c = omega arith
 
 loop-again : tie.Need-loop-again Inv-loop μ-loop
-loop-again c = let l = c .before .before .before .before in
+loop-again c = let l = c .before .before .before .before .before in
     let a = l .before .args in
-    let u = c .before .uncover in (
+    let u = c .before .before .uncover in
+    let t = c .both in (
       omega arith,
       omega arith,
       search needs,
-      omega arith,
+      omega (arith, ap (λ (o : Opened). o .cells) (t .ensures)),
       rw (row-more (a .rows) (a .row) (a .from) (l .loop .column) (l .loop .inv .0))
           (opens-both (a .rows) (a .columns) (a .work .now) (rowCells (a .rows) (a .row) (a .from) (l .loop .column)) ((l .loop .column * a .rows + a .row) ∷ [])
-          (l .loop .opened) (u .result) (l .loop .work) (u .last .0) (l .loop .inv .4)
+          (l .loop .opened) (u .result) (t .result) (l .loop .work) (u .last .0) (t .ensures) (l .loop .inv .4)
           (opens-one (a .rows) (a .columns) (l .loop .work) (l .loop .column * a .rows + a .row) (u .result) (u .last .0) (u .ensures .1))),
     )
 
@@ -86,7 +88,7 @@ reveal-row-spec =
     mul-uncover
     add-uncover
     uncover-requires
-    add-opened
+    both-requires
     add-column
     loop-less
     loop-again

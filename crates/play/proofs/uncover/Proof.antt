@@ -21,7 +21,7 @@ returns : tie.Need-returns
 returns c = let k = c .before in
     let b = k .before .before in
     let a = b .args in
-    (omega arith, λ g s old t. by-mine (a .rows) (a .columns) g s old (a .work .now) (a .index) (b .pre .1 .1) t (k .get .result) (k .get .ensures .0) (c .if1 .taken))
+    (omega arith, λ g s old t f. by-mine (a .rows) (a .columns) g s old (a .work .now) (a .index) (b .pre .1 .1) t f (k .get .result) (k .get .ensures .0) (c .if1 .taken))
 
 mul-get-2 : tie.Need-mul-get-2
 mul-get-2 c = search needs
@@ -39,7 +39,7 @@ returns-2 : tie.Need-returns-2
 returns-2 c = let m = c .before in
     let b = m .before .before .before .before .before in
     let a = b .args in
-    (omega arith, λ g s old t. by-state (a .rows) (a .columns) g s old (a .work .now) (a .index) (b .pre .1 .1) t (m .get2 .result) (m .get2 .ensures .0) (c .if2 .taken))
+    (omega arith, λ g s old t f. by-state (a .rows) (a .columns) g s old (a .work .now) (a .index) (b .pre .1 .1) t f (m .get2 .result) (m .get2 .ensures .0) (c .if2 .taken))
 
 mul-get-3 : tie.Need-mul-get-3
 mul-get-3 c = search needs
@@ -62,7 +62,7 @@ returns-3 c = let q = c .before in
     let b = k .before .before in
     let a = b .args in (
       q .sweep-opening .ensures .0,
-      λ g s old t. by-zero (a .rows) (a .columns) g s old (a .work .now) (a .index) (b .pre .1 .1) t
+      λ g s old t f. by-zero (a .rows) (a .columns) g s old (a .work .now) (a .index) (b .pre .1 .1) t f
           (k .get .result) (m .get2 .result) (k .get .ensures .0) (m .before .before .if1 .left) (m .get2 .ensures .0) (z .before .if2 .left)
           (l .get3 .result) (q .sweep-opening .result) (q .sweep-opening .last .0) (z .if3 .taken) (l .get3 .ensures .0) (q .sweep-opening .ensures .1 g s old t),
     )
@@ -81,7 +81,7 @@ returns-4 c = let q = c .before in
     let b = k .before .before in
     let a = b .args in (
       omega arith,
-      λ g s old t. by-one (a .rows) (a .columns) g s old (a .work .now) (a .index) (b .pre .1 .1) t
+      λ g s old t f. by-one (a .rows) (a .columns) g s old (a .work .now) (a .index) (b .pre .1 .1) t f
           (k .get .result) (m .get2 .result) (k .get .ensures .0) (m .before .before .if1 .left) (m .get2 .ensures .0) (z .before .if2 .left)
           (q .open-one .last .0) (z .if3 .left) (q .open-one .ensures),
     )

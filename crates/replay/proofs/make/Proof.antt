@@ -17,7 +17,7 @@ mul-if1 c = search needs
 returns : tie.Need-returns
 returns c = let b = c .before in
     let a = b .args in
-    λ g s old t. past (a .rows) (a .columns) g s old (a .work .now) (a .word) t (c .if1 .taken)
+    λ g s old t f. past (a .rows) (a .columns) g s old (a .work .now) (a .word) t (c .if1 .taken)
 
 make-left-requires : tie.Need-make-left-requires
 make-left-requires c κs = search needs
@@ -36,8 +36,8 @@ returns-2 c = let q = c .before in
     let m = q .before .before in
     let b = m .before .before in
     let a = b .args in
-    λ g s old t. as-read (a .rows) (a .columns) g s old (a .work .now) (a .word) t (left (a .word % 65536)) (q .make-left .result) (q .make-left .last .0)
-    (read-left (a .word) (m .match .keys1)) (q .make-left .ensures g s old t)
+    λ g s old t f. as-read (a .rows) (a .columns) g s old (a .work .now) (a .word) t (left (a .word % 65536)) (q .make-left .result) (q .make-left .last .0)
+    (read-left (a .word) (m .match .keys1)) (q .make-left .ensures g s old t f)
 
 same-length-2 : tie.Need-same-length-2
 same-length-2 c = search needs
@@ -47,7 +47,7 @@ returns-3 c = let q = c .before in
     let m = q .before .before in
     let b = m .before .before in
     let a = b .args in
-    λ g s old t. as-read (a .rows) (a .columns) g s old (a .work .now) (a .word) t (flag (a .word % 65536)) (q .make-flag .result) (q .make-flag .last .0)
+    λ g s old t f. as-read (a .rows) (a .columns) g s old (a .work .now) (a .word) t (flag (a .word % 65536)) (q .make-flag .result) (q .make-flag .last .0)
     (read-flag (a .word) (m .match .keys2)) (q .make-flag .ensures g s old t)
 
 same-length-3 : tie.Need-same-length-3
@@ -58,20 +58,20 @@ returns-4 c = let q = c .before in
     let m = q .before .before in
     let b = m .before .before in
     let a = b .args in
-    λ g s old t. as-read (a .rows) (a .columns) g s old (a .work .now) (a .word) t (chord (a .word % 65536)) (q .make-chord .result) (q .make-chord .last .0)
-    (read-chord (a .word) (m .match .keys3)) (q .make-chord .ensures g s old t)
+    λ g s old t f. as-read (a .rows) (a .columns) g s old (a .work .now) (a .word) t (chord (a .word % 65536)) (q .make-chord .result) (q .make-chord .last .0)
+    (read-chord (a .word) (m .match .keys3)) (q .make-chord .ensures g s old t f)
 
 returns-5 : tie.Need-returns-5
 returns-5 c = let b = c .before .before in
     let a = b .args in
     let nought : a .word / 65536 ≡ 0 = c .match .keys4 in
-    λ g s old t. other-kind (a .rows) (a .columns) g s old (a .work .now) (a .word) t (λ e. omega arith) (λ e. omega arith) (λ e. omega arith)
+    λ g s old t f. other-kind (a .rows) (a .columns) g s old (a .work .now) (a .word) t (λ e. omega arith) (λ e. omega arith) (λ e. omega arith)
 
 returns-6 : tie.Need-returns-6
 returns-6 c = let b = c .before .before in
     let a = b .args in
     let r = c .match .rest in
-    λ g s old t. other-kind (a .rows) (a .columns) g s old (a .work .now) (a .word) t (r .0 .0 .0 .1) (r .0 .0 .1) (r .0 .1)
+    λ g s old t f. other-kind (a .rows) (a .columns) g s old (a .work .now) (a .word) t (r .0 .0 .0 .1) (r .0 .0 .1) (r .0 .1)
 
 pub make-spec : {M : Type 1} → statement M
 make-spec =

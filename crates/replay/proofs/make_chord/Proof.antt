@@ -15,7 +15,7 @@ returns : tie.Need-returns
 returns c = let q = c .before in
     let b = q .before .before in
     let a = b .args in
-    λ g s old t. chord-refused (a .rows) (a .columns) g s old (a .work .now) (a .index) (b .pre .1 .1) t (q .chordable .result) (q .chordable .ensures g s old t)
+    λ g s old t f. chord-refused (a .rows) (a .columns) g s old (a .work .now) (a .index) (b .pre .1 .1) t (q .chordable .result) (q .chordable .ensures g s old t)
     (not-true (q .chordable .result) (c .if1 .taken))
 
 chord-requires : tie.Need-chord-requires
@@ -30,8 +30,8 @@ returns-2 c = let r = c .before in
     let q = z .before in
     let b = q .before .before in
     let a = b .args in
-    λ g s old t. chord-played (a .rows) (a .columns) g s old (a .work .now) (a .index) (b .pre .1 .1) t (q .chordable .result) (r .chord .result) (r .chord .last .0)
-    (q .chordable .ensures g s old t) (not-false (q .chordable .result) (z .if1 .left)) (r .chord .ensures g s old t)
+    λ g s old t f. chord-played (a .rows) (a .columns) g s old (a .work .now) (a .index) (b .pre .1 .1) t (q .chordable .result) (r .chord .result) (r .chord .last .0)
+    (q .chordable .ensures g s old t) (not-false (q .chordable .result) (z .if1 .left)) (r .chord .ensures g s old t f)
 
 pub make-chord-spec : {M : Type 1} → statement M
 make-chord-spec =

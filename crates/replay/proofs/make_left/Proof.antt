@@ -20,7 +20,7 @@ returns : tie.Need-returns
 returns c = let k = c .before in
     let b = k .before .before in
     let a = b .args in
-    λ g s old t. left-mine (a .rows) (a .columns) g s old (a .work .now) (a .index) (b .pre .1 .1) t (k .get .result) (k .get .ensures .0) (c .if1 .taken)
+    λ g s old t f. left-mine (a .rows) (a .columns) g s old (a .work .now) (a .index) (b .pre .1 .1) t (k .get .result) (k .get .ensures .0) (c .if1 .taken)
 
 mul-get-2 : tie.Need-mul-get-2
 mul-get-2 c = search needs
@@ -38,7 +38,7 @@ returns-2 : tie.Need-returns-2
 returns-2 c = let m = c .before in
     let b = m .before .before .before .before .before in
     let a = b .args in
-    λ g s old t. left-state (a .rows) (a .columns) g s old (a .work .now) (a .index) (b .pre .1 .1) t (m .get2 .result) (m .get2 .ensures .0) (c .if2 .taken)
+    λ g s old t f. left-state (a .rows) (a .columns) g s old (a .work .now) (a .index) (b .pre .1 .1) t (m .get2 .result) (m .get2 .ensures .0) (c .if2 .taken)
 
 reveal-requires : tie.Need-reveal-requires
 reveal-requires c κs = search needs
@@ -53,9 +53,9 @@ returns-3 c = let q = c .before in
     let k = m .before .before .before in
     let b = k .before .before in
     let a = b .args in
-    λ g s old t. left-played (a .rows) (a .columns) g s old (a .work .now) (a .index) (b .pre .1 .1) t
+    λ g s old t f. left-played (a .rows) (a .columns) g s old (a .work .now) (a .index) (b .pre .1 .1) t
     (k .get .result) (m .get2 .result) (q .reveal .result) (q .reveal .last .0) (k .get .ensures .0) (m .before .before .if1 .left) (m .get2 .ensures .0) (z .if2 .left)
-    (q .reveal .ensures g s old t)
+    (q .reveal .ensures g s old t f)
 
 pub make-left-spec : {M : Type 1} → statement M
 make-left-spec =

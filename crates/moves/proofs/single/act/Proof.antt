@@ -22,15 +22,15 @@ same-length-2 c = search needs
 returns : tie.Need-returns
 returns c =
     let h = c .before .before .before in
-    let f = h .before .before .before .before .before .before in
-    let k = f .before .before .before .before .before .before in
+    let m = h .before .before .before .before .before .before in
+    let k = m .before .before .before .before .before .before in
     let a = k .before .before .before .before .args in
     let x = k .click-closed in
-    let y = f .flag-around in
+    let y = m .flag-around in
     let z = h .chord-on in
-    λ g s old st t n e. acted (a .rows) (a .columns) g s old (a .index) (a .list .now) (a .state) (x .last .0) (x .last .1 .1 .1 .0) (x .result)
+    λ g s old st f t n e. acted (a .rows) (a .columns) g s old (a .index) (a .list .now) (a .state) (x .last .0) (x .last .1 .1 .1 .0) (x .result)
     (y .last .0) (y .last .1 .1 .1 .0) (y .result) (z .last .0) (z .last .1 .1 .1 .0) (z .result) t n
-    (x .ensures .1 g s old st t e) (λ p. y .ensures .1 g p old) (λ p. z .ensures g p old)
+    (x .ensures .1 g s old st f t e) (λ p. y .ensures .1 g p old) (λ p. z .ensures g p old)
 
 pub act-spec : {M : Type 1} → statement M
 act-spec =

@@ -25,8 +25,9 @@ returns c =
     let v = c .before .before .before .before .before in
     let a = v .before .before .before .args in
     let x = v .chord in
-    λ g s old st e. made-one (a .rows) (a .columns) g s old (chord (a .index)) (x .result) (a .list .now) (a .state) (x .last .0) (y .last .0) (y .result)
-    (y .ensures) (x .ensures g s old st .stands) (x .ensures g s old st .opened-cells) e
+    λ g s old st f e. let q = x .ensures g s old st f in
+    made-one (a .rows) (a .columns) g s old (chord (a .index)) (x .result) (a .list .now) (a .state) (x .last .0) (y .last .0) (y .result)
+    (y .ensures) (q .stands) (q .tidy) (q .opened-cells) e
 
 pub chord-on-spec : {M : Type 1} → statement M
 chord-on-spec =

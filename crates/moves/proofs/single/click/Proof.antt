@@ -27,8 +27,9 @@ returns c =
     let a = v .before .before .before .args in
     let x = v .reveal in (
       omega (arith, y .ensures .one-more),
-      λ g s old st t u e. made-one (a .rows) (a .columns) g s old (left (a .index)) (x .result) (a .list .now) (a .state) (x .last .0) (y .last .0) (y .result)
-          (y .ensures) (x .ensures g s old st .stands) (x .ensures g s old st .opened-cells) e,
+      λ g s old st f t u e. let q = x .ensures g s old st f in
+          made-one (a .rows) (a .columns) g s old (left (a .index)) (x .result) (a .list .now) (a .state) (x .last .0) (y .last .0) (y .result)
+          (y .ensures) (q .stands) (q .tidy) (q .opened-cells) e,
     )
 
 pub click-spec : {M : Type 1} → statement M

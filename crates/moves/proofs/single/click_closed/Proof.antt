@@ -23,7 +23,7 @@ returns c =
     let b = k .before .before .before in
     let a = b .args in (
       omega arith,
-      λ g s old st t e. left-none (a .rows) (a .columns) g s old (a .work .now) (a .index) (b .pre .1 .1) st (k .get .result) (a .list .now) (a .state) (k .get .ensures .0) (c .if1 .taken) e,
+      λ g s old st f t e. left-none (a .rows) (a .columns) g s old (a .work .now) (a .index) (b .pre .1 .1) st (k .get .result) (a .list .now) (a .state) (k .get .ensures .0) (c .if1 .taken) f e,
     )
 
 click-requires : tie.Need-click-requires
@@ -43,8 +43,8 @@ returns-2 c =
     let b = k .before .before .before in
     let a = b .args in (
       omega arith,
-      λ g s old st t e. left-one (a .rows) (a .columns) g s old (a .work .now) (a .index) (b .pre .1 .1) st (k .get .result) (a .list .now) (a .state)
-          (m .click .last .0) (m .click .last .1 .1 .1 .0) (m .click .result) (k .get .ensures .0) (z .if1 .left) (λ u. m .click .ensures .1 g s old st t u e),
+      λ g s old st f t e. left-one (a .rows) (a .columns) g s old (a .work .now) (a .index) (b .pre .1 .1) st (k .get .result) (a .list .now) (a .state)
+          (m .click .last .0) (m .click .last .1 .1 .1 .0) (m .click .result) (k .get .ensures .0) (z .if1 .left) (λ u. m .click .ensures .1 g s old st f t u e),
     )
 
 pub click-closed-spec : {M : Type 1} → statement M

@@ -25,8 +25,8 @@ returns c =
     let f = x .before .before .before .before .before in
     let b = f .before .before .before .before .before in
     let a = b .args in
-    λ o g s old st t u n e. click-kept (a .rows) (a .columns) g s old (a .work .now) (x .click .last .0) (a .index) (b .pre .1 .1) st (a .tops .now) (f .forget-click .last .1 .1 .1 .0)
-    (a .list .now) (a .state) (x .click .last .1 .1 .1 .0) (x .click .result) o (f .forget-click .ensures g s old st) t u n (x .click .ensures .1 g s old st t u e)
+    λ o g s old st p t u n e. click-kept (a .rows) (a .columns) g s old (a .work .now) (x .click .last .0) (a .index) (b .pre .1 .1) st (a .tops .now) (f .forget-click .last .1 .1 .1 .0)
+    (a .list .now) (a .state) (x .click .last .1 .1 .1 .0) (x .click .result) o (f .forget-click .ensures g s old st) t u n (x .click .ensures .1 g s old st p t u e)
 
 pub click-at-spec : {M : Type 1} → statement M
 click-at-spec = tie.close (tie.spec forget-click-requires click-requires same-length same-length-2 same-length-3 returns)

@@ -45,11 +45,11 @@ returns c =
     let m = k .before .before in
     let a = m .before .before .before .before .args in
     let y = x .click-at in
-    λ o g s old st n q e. let f = m .lowest .ensures g s old st in
+    λ o g s old st p n q e. let f = m .lowest .ensures g s old st in
     unit-taken (a .rows) (a .columns) (a .work .now) (m .lowest .result .found) g s
     (λ (ms : List Move) (column : ℕ). MadeKept o (a .rows) (a .columns) g s old ms (a .list .now) (a .work .now) (a .tops .now) (a .state) (y .last .0) (y .last .1 .1 .1 .0) (y .last .1 .1 .1 .1 .0) (y .result)
     × (m .lowest .result .column ≡ column))
-    (k .found .given .0 .0) (k .found .given .1) (f .0) (λ t u. (y .ensures o g s old st t u q e, f .1 ∙ ap (foundColumn g) (k .found .given .1)))
+    (k .found .given .0 .0) (k .found .given .1) (f .0) (λ t u. (y .ensures o g s old st p t u q e, f .1 ∙ ap (foundColumn g) (k .found .given .1)))
 
 same-length-4 : tie.Need-same-length-4
 same-length-4 c = search needs
@@ -58,7 +58,7 @@ returns-2 : tie.Need-returns-2
 returns-2 c =
     let m = c .before .before in
     let a = m .before .before .before .before .args in
-    λ o g s old st n q e. unit-missing (a .rows) (a .columns) (a .work .now) (m .lowest .result .found) g s
+    λ o g s old st p n q e. unit-missing (a .rows) (a .columns) (a .work .now) (m .lowest .result .found) g s
     (λ (ms : List Move) (column : ℕ). MadeKept o (a .rows) (a .columns) g s old ms (a .list .now) (a .work .now) (a .tops .now) (a .state) (a .work .now) (a .list .now) (a .tops .now) (a .state)
     × (a .from ≡ column))
     (c .enum-told .given .1) (m .lowest .ensures g s old st .0) n

@@ -21,13 +21,13 @@ returns c =
     let a = z .before .before .args in
     let x = k .hit-openings in (
       x .ensures .0,
-      λ g old st e. begun-first (a .rows) (a .columns) g old (a .list .now) (a .state) (a .openings-first) (x .last .0) (x .last .1 .1 .1 .0) (x .result) (z .if1 .taken) (x .ensures .1 g _ old st e),
+      λ g s old st f e. begun-first (a .rows) (a .columns) g s old (a .list .now) (a .state) (a .openings-first) (x .last .0) (x .last .1 .1 .1 .0) (x .result) (z .if1 .taken) (x .ensures .1 g s old st f e),
     )
 
 returns-2 : tie.Need-returns-2
 returns-2 c =
     let a = c .before .before .args in
-    (omega arith, λ g old st e. begun-bare (a .rows) (a .columns) g old (a .list .now) (a .state) (a .openings-first) (a .work .now) (c .if1 .left) st e)
+    (omega arith, λ g s old st f e. begun-bare (a .rows) (a .columns) g s old (a .list .now) (a .state) (a .openings-first) (a .work .now) (c .if1 .left) st f e)
 
 pub begin-spec : {M : Type 1} → statement M
 begin-spec = tie.close (tie.spec hit-openings-requires same-length same-length-2 returns returns-2)

@@ -48,7 +48,7 @@ loop-less c =
     let n = c .before .before .before .before .before .before .before .before .before .before in
     let l = n .before .before in
     let a = l .before .before .before .args in
-    closed-falls _ (a .rows) (a .columns) (l .loop .work) (l .loop .list) (l .loop .current) (x .last .0) (x .last .1 .1 .1 .0) (x .result .state) (λ g s old st h e. x .ensures g s old st h e .made) (n .if1 .taken) (l .loop .inv .3)
+    closed-falls _ (a .rows) (a .columns) (l .loop .work) (l .loop .list) (l .loop .current) (x .last .0) (x .last .1 .1 .1 .0) (x .result .state) (λ g s old st f h e. x .ensures g s old st f h e .made) (n .if1 .taken) (l .loop .inv .3)
 
 loop-again : tie.Need-loop-again Inv-loop μ-loop
 loop-again c =
@@ -58,15 +58,15 @@ loop-again c =
     let a = l .before .before .before .args in
     let u = l .loop .inv .3 .going in
     let h : 1 ≤ closedSafe (u .grid) (u .position) = omega (arith, u .counts, n .if1 .taken) in
-    let q = x .ensures (u .grid) (u .position) (u .old) (u .stands) h (u .counts) in
+    let q = x .ensures (u .grid) (u .position) (u .old) (u .stands) (u .tidy) h (u .counts) in
     let low = low-goes-on (a .opened-only) (a .rows) (a .columns) (u .grid) (u .position) (u .old) (l .loop .work) (x .last .0) (l .loop .from) (x .result .from)
-    (u .stands) (q .made .stands) h (q .column) (l .loop .inv .6, l .loop .inv .7) in (
+    (u .stands) (u .tidy) (q .made .stands) h (q .column) (l .loop .inv .6, l .loop .inv .7) in (
       search needs,
       search needs,
       search needs,
-      underway-goes-on _ (a .rows) (a .columns) (l .loop .work) (l .loop .list) (l .loop .current) (x .last .0) (x .last .1 .1 .1 .0) (x .result .state) (λ g s old st h e. x .ensures g s old st h e .made) (n .if1 .taken) (l .loop .inv .3),
+      underway-goes-on _ (a .rows) (a .columns) (l .loop .work) (l .loop .list) (l .loop .current) (x .last .0) (x .last .1 .1 .1 .0) (x .result .state) (λ g s old st f h e. x .ensures g s old st f h e .made) (n .if1 .taken) (l .loop .inv .3),
       midway-goes-on (a .opened-only) (a .rows) (a .columns) (a .work .now) (a .list .now) (a .state) (l .loop .work) (l .loop .list) (l .loop .current) (l .loop .inv .4)
-          (x .last .0) (x .last .1 .1 .1 .0) (x .result .state) (λ g s old st h e. x .ensures g s old st h e .made) (n .if1 .taken),
+          (x .last .0) (x .last .1 .1 .1 .0) (x .result .state) (λ g s old st f h e. x .ensures g s old st f h e .made) (n .if1 .taken),
       q .kept,
       omega (arith, low .0),
       record { none = λ j h t. low .1 .none j (omega arith) t },

@@ -4,10 +4,9 @@ use mathlib.Core.List.{_++_}
 use mathlib.Core.Option.{Option, none}
 use Prim.Native.Nat.{_*_}
 use lib.ListN.{length}
-use Rattle.game.specs.Rounds.{movesOf}
+use Rattle.game.specs.Rounds.{movesOf, roundSteps}
 use Rattle.game.specs.Calls.{ListOutcome, Refusal, firstGiven, gridChecks, playedRound, trace}
 use Rattle.area.specs.Numbers.{gridOf}
-use Rattle.rounds.specs.Promises.{roundSteps}
 use Rattle.checks.specs.Refusals.{refusalOf}
 use Rattle.checks.proofs.More.{reaches, all-passed}
 use Rattle.zini.proofs.Promises.{list-else, list-refused}

@@ -4,11 +4,10 @@ use mathlib.Core.List.{[], _∷_}
 use Prim.Native.Nat.{ℕ}
 use Rattle.game.specs.Position.{untouched}
 use Rattle.game.specs.Moves.{after}
-use Rattle.game.specs.Rounds.{movesOf}
+use Rattle.game.specs.Rounds.{movesOf, roundSteps}
 use Rattle.game.specs.Calls.{gives}
 use Rattle.area.specs.Numbers.{gridOf}
 use Rattle.area.specs.Stages.{Stands}
-use Rattle.rounds.specs.Promises.{roundSteps}
 use Rattle.zini.proofs.Played.{fresh}
 use borrow.Author.Needs.{needs}
 use Rattle.zini.proofs.prices.price_checked.Statement.{statement}
