@@ -1,4 +1,4 @@
--- `ties::forget_units`: the columns passed that are marked for their premiums are marked. Assumes nothing.
+-- `ties::mark_units`: the columns passed that are marked for their premiums are marked. Assumes nothing.
 use Prim.Native.Nat.{ℕ, _+_, _-_, _<_, _≤_}
 use native.Mathlib.Omega.{arith}
 use native.Mathlib.Decide.{ℕ-discrete}
@@ -13,8 +13,8 @@ use lib.ListN.{getD, length, length-set, set}
 use lib.Seq.{getD-set-other, getD-set-same}
 use Rattle.marks.specs.Marks.{MarkedOr}
 use Rattle.marks.proofs.Marks.{marked-also, marked-both}
-use Rattle.ties.proofs.forget_units.Statement.{statement}
-use Rattle.ties.proofs.forget_units.Tie as tie
+use Rattle.ties.proofs.mark_units.Statement.{statement}
+use Rattle.ties.proofs.mark_units.Tie as tie
 
 -- a column before one is not marked for its premium
 abbrev Shown : List ℕ → ℕ → ℕ → Type 0
@@ -93,8 +93,8 @@ returns c =
     let a = c .before .before .before .before .args in
     (l .inv .1, λ k h. marked-also (a .units .now) (l .units) k (λ f. f (omega arith)) (l .inv .2 k))
 
-pub forget-units-spec : {M : Type 1} → statement M
-forget-units-spec =
+pub mark-units-spec : {M : Type 1} → statement M
+mark-units-spec =
     tie.close
     (tie.spec
     Inv-loop
