@@ -9,6 +9,7 @@ use lib.IntN.{ℤ}
 use lib.ListN.{getD, length, length-append, length-map, set}
 use lib.Seq.{getD-set-other, length-sets, sets}
 use Rattle.moves.specs.declared.State.{State}
+use Rattle.random.specs.declared.Onward.{Onward}
 use Rattle.random.specs.declared.Stepped.{Stepped}
 use Rattle.random.specs.declared.Stepped.the-variants as Steps
 use Rattle.random.specs.declared.Rolled.the-variants as Rolls
@@ -25,7 +26,7 @@ use Rattle.moves.specs.Promises.{Made}
 use Rattle.rounds.specs.Promises.{Fresh}
 use Rattle.area.proofs.Cells.{cells-few}
 use Rattle.game.proofs.Choices.{never-stuck}
-use Rattle.game.proofs.Tidy.{reached-tidy}
+use Rattle.game.proofs.Tidy.{untouched-tidy}
 use Rattle.game.proofs.Rounds.{IfSome, Rolled, rolled}
 use Rattle.game.proofs.Runs.{Fits, choice-fits, fit-takes, moves-append}
 use Rattle.game.proofs.Units.{after-append, units-at-most-cells, units-untouched}
@@ -85,27 +86,27 @@ no-turn (suc n) g bytes s at e =
 -- ---- under way
 
 -- the steps done, and how many at most are still to come
-pub record Course (rows columns : ℕ) (g : Grid) (old : List ℤ) (bytes : List ℕ) (safe at : ℕ) (list : List ℕ) (w′ : List ℤ) (list′ : List ℕ) (t′ : State) : Type 0 where
+pub record Course (rows columns : ℕ) (g : Grid) (old : List ℤ) (bytes : List ℕ) (safe at : ℕ) (list : List ℕ) (w′ : List ℤ) (list′ : List ℕ) (t′ : State) (next′ : ℕ) : Type 0 where
   pub done : List Step
   pub left-over : ℕ
-  pub made : Made rows columns g (untouched g) old (movesOf done) list (record { moves = 0; closed = safe; next = t′ .next }) w′ list′ t′
+  pub made : Made rows columns g (untouched g) old (movesOf done) list (record { moves = 0; closed = safe }) w′ list′ t′
   pub few : length (movesOf done) + closedUnits g (after g (untouched g) (movesOf done)) ≤ threeBV g
   pub enough : closedUnits g (after g (untouched g) (movesOf done)) ≤ left-over
-  pub rest : randomRound g bytes at ≡ ahead done (randomFrom left-over g bytes (after g (untouched g) (movesOf done)) (t′ .next))
+  pub rest : randomRound g bytes at ≡ ahead done (randomFrom left-over g bytes (after g (untouched g) (movesOf done)) next′)
 
 -- whatever grid the area stood for
-pub record Midway (rows columns : ℕ) (w : List ℤ) (bytes : List ℕ) (safe at : ℕ) (list : List ℕ) (w′ : List ℤ) (list′ : List ℕ) (t′ : State) : Type 0 where
-  pub course : (g : Grid) (old : List ℤ) → Stands rows columns g (untouched g) old w → Course rows columns g old bytes safe at list w′ list′ t′
+pub record Midway (rows columns : ℕ) (w : List ℤ) (bytes : List ℕ) (safe at : ℕ) (list : List ℕ) (w′ : List ℤ) (list′ : List ℕ) (t′ : State) (next′ : ℕ) : Type 0 where
+  pub course : (g : Grid) (old : List ℤ) → Stands rows columns g (untouched g) old w → Course rows columns g old bytes safe at list w′ list′ t′ next′
 
 pub midway-begins : (rows columns : ℕ) (w : List ℤ) (bytes : List ℕ) (safe at : ℕ) (list : List ℕ) → Fresh rows columns w safe
-    → Midway rows columns w bytes safe at list w list (record { moves = 0; closed = safe; next = at })
+    → Midway rows columns w bytes safe at list w list (record { moves = 0; closed = safe }) at
 unfolding randomRound
 midway-begins rows columns w bytes safe at list f =
     record {
       course = λ g old st. record {
         done = [];
         left-over = threeBV g;
-        made = made-none rows columns g (untouched g) old w list (record { moves = 0; closed = safe; next = at }) st
+        made = made-none rows columns g (untouched g) old w list (record { moves = 0; closed = safe }) st (untouched-tidy g)
             (f .counts ∙ closed-alike rows columns (f .grid) g (untouched (f .grid)) (untouched g) (f .old) old w (f .stands) st);
         few = omega (arith, units-untouched g);
         enough = omega (arith, units-untouched g);
@@ -113,24 +114,8 @@ midway-begins rows columns w bytes safe at list f =
       };
     }
 
--- a step that went has made its moves
-went-made : (rows columns : ℕ) (g : Grid) (s : Position) (old : List ℤ) (ms : List Move) (next : ℕ) (list : List ℕ) (t : State) (w′ : List ℤ) (list′ : List ℕ) (r : Stepped) (t′ : State)
-    → Went rows columns g s old ms next list t w′ list′ r → r ≡ Steps.Went t′
-    → Made rows columns g s old ms list (record { moves = t .moves; closed = t .closed; next = t′ .next }) w′ list′ t′ × (t′ .next ≡ next)
-went-made rows columns g s old ms next list t w′ list′ r t′ q e =
-    let k : q .state ≡ t′ = cc (q .answer) in (
-      record {
-        stands = q .stands;
-        noted = q .noted;
-        clicks = sym (ap (λ (u : State). u .moves) k) ∙ q .clicks;
-        left-closed = sym (ap (λ (u : State). u .closed) k) ∙ q .left-closed;
-        next-draw = refl;
-      },
-      sym (ap (λ (u : State). u .next) k) ∙ q .next-draw,
-    )
-
-module _ (rows columns : ℕ) (g : Grid) (old : List ℤ) (bytes : List ℕ) (safe at : ℕ) (list : List ℕ) (v : List ℤ) (l : List ℕ) (u : State)
-    (o : Course rows columns g old bytes safe at list v l u) where
+module _ (rows columns : ℕ) (g : Grid) (old : List ℤ) (bytes : List ℕ) (safe at : ℕ) (list : List ℕ) (v : List ℤ) (l : List ℕ) (u : State) (next : ℕ)
+    (o : Course rows columns g old bytes safe at list v l u next) where
   abbrev here : Position
   here = after g (untouched g) (movesOf (o .done))
 
@@ -140,48 +125,48 @@ module _ (rows columns : ℕ) (g : Grid) (old : List ℤ) (bytes : List ℕ) (sa
       omega (arith, o .made .clicks, o .few, units-at-most-cells g, cells-few rows columns h, ap₂ _*_ (o .made .stands .rows-are) (o .made .stands .columns-are))
 
   -- all safe cells are open
-  pub course-ends : u .closed ≡ 0 → Rolling rows columns g old (randomRound g bytes at) list v l (Rolls.Ended (u .moves) (u .next))
+  pub course-ends : u .closed ≡ 0 → Rolling rows columns g old (randomRound g bytes at) list v l (Rolls.Ended (u .moves) next)
   course-ends z =
-      let e = no-turn (o .left-over) g bytes here (u .next) (sym (o .made .left-closed) ∙ z) in
+      let e = no-turn (o .left-over) g bytes here next (sym (o .made .left-closed) ∙ z) in
       let m : u .moves ≡ length (movesOf (o .done)) = omega (arith, o .made .clicks) in
-      subst (λ (x : Option Round). Rolling rows columns g old x list v l (Rolls.Ended (u .moves) (u .next)))
-      (sym (o .rest ∙ ap (ahead (o .done)) e ∙ ap (λ (ts : List Step). some (record { steps = ts; next = u .next })) (append-nil (o .done))))
-      (record { answer = ap (λ (k : ℕ). Rolls.Ended k (u .next)) m; stands = o .made .stands; noted = o .made .noted })
+      subst (λ (x : Option Round). Rolling rows columns g old x list v l (Rolls.Ended (u .moves) next))
+      (sym (o .rest ∙ ap (ahead (o .done)) e ∙ ap (λ (ts : List Step). some (record { steps = ts; next = next })) (append-nil (o .done))))
+      (record { answer = ap (λ (k : ℕ). Rolls.Ended k next) m; stands = o .made .stands; noted = o .made .noted })
 
   module _ (w′ : List ℤ) (list′ : List ℕ) (r : Stepped) (h : 0 < u .closed)
-      (q : (s : Position) → Stands rows columns g s old v → 1 ≤ closedSafe g s → u .closed ≡ closedSafe g s
-      → Stepping rows columns g s old (draw bytes (u .next) (width (choice false g s))) l u v w′ list′ r) where
-    played : Tidy g here
-    played = reached-tidy g here (o .made .stands .reached)
+      (q : (s : Position) → Stands rows columns g s old v → Tidy g s → 1 ≤ closedSafe g s → u .closed ≡ closedSafe g s
+      → Stepping rows columns g s old (draw bytes next (width (choice false g s))) l u v w′ list′ r) where
+    abbrev tidy : Tidy g here
+    tidy = o .made .tidy
 
     some-closed : 1 ≤ closedSafe g here
     some-closed = omega (arith, o .made .left-closed)
 
-    came : Stepping rows columns g here old (draw bytes (u .next) (width (choice false g here))) l u v w′ list′ r
-    came = q here (o .made .stands) some-closed (o .made .left-closed)
+    came : Stepping rows columns g here old (draw bytes next (width (choice false g here))) l u v w′ list′ r
+    came = q here (o .made .stands) tidy some-closed (o .made .left-closed)
 
     -- a step at a drawn place fits
-    fitting : (d : Game.Drawn) → draw bytes (u .next) (width (choice false g here)) ≡ some d → Fits g here (stepOf g here (choice false g here) (d .place))
+    fitting : (d : Game.Drawn) → draw bytes next (width (choice false g here)) ≡ some d → Fits g here (stepOf g here (choice false g here) (d .place))
     fitting d e =
-        choice-fits false g here (d .place) (subst (IfSome (Rolled bytes (u .next) (width (choice false g here)))) e
-        (rolled bytes (u .next) (width (choice false g here)) (never-stuck false g here played some-closed)) .inside)
+        choice-fits false g here (d .place) (subst (IfSome (Rolled bytes next (width (choice false g here)))) e
+        (rolled bytes next (width (choice false g here)) (never-stuck false g here tidy some-closed)) .inside)
 
     -- the draws ran dry
     pub course-breaks : r ≡ Steps.Dry → Rolling rows columns g old (randomRound g bytes at) list w′ list′ Rolls.Dry
-    course-breaks y = go (draw bytes (u .next) (width (choice false g here))) refl came
+    course-breaks y = go (draw bytes next (width (choice false g here))) refl came
       where
-        go : (x : Option Game.Drawn) → draw bytes (u .next) (width (choice false g here)) ≡ x → Stepping rows columns g here old x l u v w′ list′ r
+        go : (x : Option Game.Drawn) → draw bytes next (width (choice false g here)) ≡ x → Stepping rows columns g here old x l u v w′ list′ r
             → Rolling rows columns g old (randomRound g bytes at) list w′ list′ Rolls.Dry
         go none e k = by (o .left-over) (o .enough) (o .rest)
           where
-            by : (n : ℕ) → closedUnits g here ≤ n → randomRound g bytes at ≡ ahead (o .done) (randomFrom n g bytes here (u .next))
+            by : (n : ℕ) → closedUnits g here ≤ n → randomRound g bytes at ≡ ahead (o .done) (randomFrom n g bytes here next)
                 → Rolling rows columns g old (randomRound g bytes at) list w′ list′ Rolls.Dry
             by zero a b =
-                absurd (omega (arith, fit-takes g here (stepOf g here (choice false g here) 0) played (choice-fits false g here 0 (never-stuck false g here played some-closed))))
+                absurd (omega (arith, fit-takes g here (stepOf g here (choice false g here) 0) tidy (choice-fits false g here 0 (never-stuck false g here tidy some-closed))))
             by (suc n) a b =
                 let f = k .same-list ∙ o .made .noted in
                 subst (λ (x : Option Round). Rolling rows columns g old x list w′ list′ Rolls.Dry)
-                (sym (b ∙ ap (ahead (o .done)) (turn n g bytes here (u .next) some-closed ∙ ap (onward n g bytes here) e)))
+                (sym (b ∙ ap (ahead (o .done)) (turn n g bytes here next some-closed ∙ ap (onward n g bytes here) e)))
                 (record {
                   answer = refl;
                   position = here;
@@ -193,13 +178,13 @@ module _ (rows columns : ℕ) (g : Grid) (old : List ℤ) (bytes : List ℕ) (sa
         go (some d) e k = let z : _≡_ {A = ℕ} 0 1 = cc (k .answer, y) in absurd (omega arith)
 
     -- the step went
-    module _ (t′ : State) (y : r ≡ Steps.Went t′) where
-      drew : (d : Game.Drawn) × (draw bytes (u .next) (width (choice false g here)) ≡ some d)
+    module _ (t′ : Onward) (y : r ≡ Steps.Went t′) where
+      drew : (d : Game.Drawn) × (draw bytes next (width (choice false g here)) ≡ some d)
           × Went rows columns g here old (stepOf g here (choice false g here) (d .place) .moves) (d .next) l u w′ list′ r
-      drew = go (draw bytes (u .next) (width (choice false g here))) refl came
+      drew = go (draw bytes next (width (choice false g here))) refl came
         where
-          go : (x : Option Game.Drawn) → draw bytes (u .next) (width (choice false g here)) ≡ x → Stepping rows columns g here old x l u v w′ list′ r
-              → (d : Game.Drawn) × (draw bytes (u .next) (width (choice false g here)) ≡ some d)
+          go : (x : Option Game.Drawn) → draw bytes next (width (choice false g here)) ≡ x → Stepping rows columns g here old x l u v w′ list′ r
+              → (d : Game.Drawn) × (draw bytes next (width (choice false g here)) ≡ some d)
               × Went rows columns g here old (stepOf g here (choice false g here) (d .place) .moves) (d .next) l u w′ list′ r
           go none e k = let z : _≡_ {A = ℕ} 0 1 = cc (k .answer, y) in absurd (omega arith)
           go (some d) e k = (d, e, k)
@@ -210,13 +195,16 @@ module _ (rows columns : ℕ) (g : Grid) (old : List ℤ) (bytes : List ℕ) (sa
       fits : Fits g here step
       fits = fitting (drew .0) (drew .1)
 
-      went : Made rows columns g here old (step .moves) l (record { moves = u .moves; closed = u .closed; next = t′ .next }) w′ list′ t′ × (t′ .next ≡ drew .0 .next)
-      went = went-made rows columns g here old (step .moves) (drew .0 .next) l u w′ list′ r t′ (drew .2) y
+      -- what it handed on is the state after it, and where its draw left off
+      went : Made rows columns g here old (step .moves) l u w′ list′ (t′ .state) × (t′ .next ≡ drew .0 .next)
+      went =
+          let k : record { state = drew .2 .state; next = drew .0 .next } ≡ t′ = cc (drew .2 .answer, y) in
+          (subst (λ (z : Onward). Made rows columns g here old (step .moves) l u w′ list′ (z .state)) k (drew .2 .made), sym (ap (λ (z : Onward). z .next) k))
 
-      pub course-falls : t′ .closed < u .closed
-      course-falls = omega (arith, went .0 .left-closed, step-falls g here step played fits, o .made .left-closed)
+      pub course-falls : t′ .state .closed < u .closed
+      course-falls = omega (arith, went .0 .left-closed, step-falls g here step tidy fits, o .made .left-closed)
 
-      pub course-goes-on : Course rows columns g old bytes safe at list w′ list′ t′
+      pub course-goes-on : Course rows columns g old bytes safe at list w′ list′ (t′ .state) (t′ .next)
       course-goes-on = by (o .left-over) (o .enough) (o .rest)
         where
           all : List Step
@@ -225,14 +213,12 @@ module _ (rows columns : ℕ) (g : Grid) (old : List ℤ) (bytes : List ℕ) (sa
           there : after g (untouched g) (movesOf all) ≡ afterStep g here step
           there = ap (after g (untouched g)) (moves-one (o .done) step) ∙ after-append g (movesOf (o .done)) (step .moves) (untouched g)
 
-          both : Made rows columns g (untouched g) old (movesOf (o .done) ++ step .moves) list (record { moves = 0; closed = safe; next = t′ .next }) w′ list′ t′
+          both : Made rows columns g (untouched g) old (movesOf (o .done) ++ step .moves) list (record { moves = 0; closed = safe }) w′ list′ (t′ .state)
           both =
-              made-both rows columns g (untouched g) old (movesOf (o .done)) (step .moves) list (record { moves = 0; closed = safe; next = t′ .next }) v l
-              (record { moves = u .moves; closed = u .closed; next = t′ .next }) w′ list′ t′
-              (record { stands = o .made .stands; noted = o .made .noted; clicks = o .made .clicks; left-closed = o .made .left-closed; next-draw = refl }) (went .0)
+              made-both rows columns g (untouched g) old (movesOf (o .done)) (step .moves) list (record { moves = 0; closed = safe }) v l u w′ list′ (t′ .state) (o .made) (went .0)
 
-          by : (n : ℕ) → closedUnits g here ≤ n → randomRound g bytes at ≡ ahead (o .done) (randomFrom n g bytes here (u .next)) → Course rows columns g old bytes safe at list w′ list′ t′
-          by zero a b = absurd (omega (arith, fit-takes g here step played fits))
+          by : (n : ℕ) → closedUnits g here ≤ n → randomRound g bytes at ≡ ahead (o .done) (randomFrom n g bytes here next) → Course rows columns g old bytes safe at list w′ list′ (t′ .state) (t′ .next)
+          by zero a b = absurd (omega (arith, fit-takes g here step tidy fits))
           by (suc n) a b =
               record {
                 done = all;
@@ -241,13 +227,13 @@ module _ (rows columns : ℕ) (g : Grid) (old : List ℤ) (bytes : List ℕ) (sa
                 few = omega (
                   arith,
                   o .few,
-                  step-pays g here step played fits,
+                  step-pays g here step tidy fits,
                   ap (closedUnits g) there,
                   ap (λ (ms : List Move). length ms) (moves-one (o .done) step),
                   length-append (movesOf (o .done)) (step .moves),
                 );
-                enough = omega (arith, ap (closedUnits g) there, fit-takes g here step played fits);
-                rest = b ∙ ap (ahead (o .done)) (turn n g bytes here (u .next) some-closed ∙ ap (onward n g bytes here) (drew .1))
+                enough = omega (arith, ap (closedUnits g) there, fit-takes g here step tidy fits);
+                rest = b ∙ ap (ahead (o .done)) (turn n g bytes here next some-closed ∙ ap (onward n g bytes here) (drew .1))
                     ∙ ahead-before (o .done) step (randomFrom n g bytes (afterStep g here step) (drew .0 .next))
                     ∙ ap₂ (λ p k. ahead all (randomFrom n g bytes p k)) (sym there) (sym (went .1));
               }

@@ -19,7 +19,7 @@ use Rattle.game.specs.Position.{Position, untouched}
 use Rattle.game.specs.Rounds.{Round, Searched, movesOf, randomRound, randomSearch, searchFrom}
 use Rattle.random.specs.Promises.{Counted, Rolling, Searching, once}
 use Rattle.rounds.specs.Promises.{Fresh}
-use Rattle.game.proofs.Legal.{reached-untouched}
+use Rattle.game.proofs.Tidy.{untouched-tidy}
 use Rattle.game.proofs.Rounds.{Used, random-uses}
 
 -- ---- one round
@@ -32,7 +32,7 @@ once-searched rows columns g old (some e) list w′ list′ r q = record { answe
 -- the position before any move again
 pub reset-stands : (rows columns : ℕ) (g : Grid) (s : Position) (old w w′ : List ℤ) → Stands rows columns g s old w → w′ ≡ held g (untouched g) old → Stands rows columns g (untouched g) old w′
 reset-stands rows columns g s old w w′ st e =
-    record { rows-are = st .rows-are; columns-are = st .columns-are; shape = st .shape; room = st .room; reached = reached-untouched g; holds-it = e }
+    record { rows-are = st .rows-are; columns-are = st .columns-are; shape = st .shape; room = st .room; long = untouched-tidy g .long; holds-it = e }
 
 pub reset-fresh : (rows columns : ℕ) (w w′ : List ℤ) (safe : ℕ) → Counted rows columns w safe
     → ((g : Grid) (s : Position) (old : List ℤ) → Stands rows columns g s old w → w′ ≡ held g (untouched g) old) → Fresh rows columns w′ safe

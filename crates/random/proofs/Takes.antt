@@ -101,9 +101,9 @@ takes g s top i k = go (topCells false g s) refl (top→ false g s)
 pub any-marks : (w : List ℤ) (rows columns : ℕ) (marks units : List ℕ) → UnitsKept w rows columns units units → UnitsKept w rows columns marks units
 any-marks w rows columns marks units k = record { room = k .room; right = λ c h _ n. k .right c h n n }
 
-module _ (rows columns : ℕ) (g : Grid) (s : Position) (old w : List ℤ) (top n cells : ℕ) (bytes : List ℕ) (list : List ℕ) (t : State) (d : Drawn)
+module _ (rows columns : ℕ) (g : Grid) (s : Position) (old w : List ℤ) (top n cells : ℕ) (bytes : List ℕ) (next : ℕ) (list : List ℕ) (t : State) (d : Drawn)
     (tells : (ltb top 10 ≡ forClick (choice false g s)) × (keep (candidateAt top w) (range 0 cells) ≡ candidatesOf (choice false g s)))
-    (counted : n ≡ count (candidateAt top w) (range 0 cells)) (drew : drawnOf d ≡ draw bytes (t .next) n) where
+    (counted : n ≡ count (candidateAt top w) (range 0 cells)) (drew : drawnOf d ≡ draw bytes next n) where
   -- as many cells were counted as the choice is among
   wide : n ≡ width (choice false g s)
   wide = counted ∙ sym (length-keep (candidateAt top w) (range 0 cells)) ∙ ap (λ (xs : List ℕ). length xs) (tells .1) ∙ of (choice false g s)
@@ -112,10 +112,10 @@ module _ (rows columns : ℕ) (g : Grid) (s : Position) (old w : List ℤ) (top 
       of (chords is) = refl
       of (clicks is) = refl
 
-  drawn-so : drawnOf d ≡ draw bytes (t .next) (width (choice false g s))
-  drawn-so = drew ∙ ap (draw bytes (t .next)) wide
+  drawn-so : drawnOf d ≡ draw bytes next (width (choice false g s))
+  drawn-so = drew ∙ ap (draw bytes next) wide
 
-  pub step-dry : d ≡ Short → Stepping rows columns g s old (draw bytes (t .next) (width (choice false g s))) list t w w list Dry
+  pub step-dry : d ≡ Short → Stepping rows columns g s old (draw bytes next (width (choice false g s))) list t w w list Dry
   step-dry e =
       subst (λ (o : Option Game.Drawn). Stepping rows columns g s old o list t w w list Dry) (sym (ap drawnOf e) ∙ drawn-so)
       (record { answer = refl; same-work = refl; same-list = refl })
@@ -123,24 +123,16 @@ module _ (rows columns : ℕ) (g : Grid) (s : Position) (old w : List ℤ) (top 
   pub step-went : (p k i : ℕ) (tops units : List ℕ) (w′ : List ℤ) (list′ tops′ : List ℕ) (r : State) → Tidy g s → 1 ≤ closedSafe g s → d ≡ Place p k → i ≡ getD (keep (candidateAt top w) (range 0 cells)) p 0
       → Kept false w rows columns tops → UnitsKept w rows columns units units
       → (T (safe g i) → (top < 10 → T (closed s i) × (topCells false g s ≡ [])) → (10 ≤ top → T (zeroCell g i) → ⊥)
-      → MadeKept false rows columns g s old (takenMoves g s top i) list w tops (record { moves = t .moves; closed = t .closed; next = k }) w′ list′ tops′ r)
-      → Stepping rows columns g s old (draw bytes (t .next) (width (choice false g s))) list t w w′ list′ (Went r) × Kept false w′ rows columns tops′ × UnitsKept w′ rows columns tops′ units
+      → MadeKept false rows columns g s old (takenMoves g s top i) list w tops t w′ list′ tops′ r)
+      → Stepping rows columns g s old (draw bytes next (width (choice false g s))) list t w w′ list′ (Went (record { state = r; next = k })) × Kept false w′ rows columns tops′ × UnitsKept w′ rows columns tops′ units
   step-went p k i tops units w′ list′ tops′ r f h e q kept units-kept made =
       let o = sym (ap drawnOf e) ∙ drawn-so in
-      let l = subst (IfSome (Rolled bytes (t .next) (width (choice false g s)))) (sym o) (rolled bytes (t .next) (width (choice false g s)) (never-stuck false g s f h)) in
+      let l = subst (IfSome (Rolled bytes next (width (choice false g s)))) (sym o) (rolled bytes next (width (choice false g s)) (never-stuck false g s f h)) in
       let a = takes g s top i p (l .inside) (tells .0) (q ∙ ap (λ (xs : List ℕ). getD xs p 0) (tells .1)) in
       let b = made (a .is-safe) (a .shut) (a .no-zero) in
-      let m = subst (λ (ms : List Move). Made rows columns g s old ms list (record { moves = t .moves; closed = t .closed; next = k }) w′ list′ r) (a .same) (b .made) in (
-        subst (λ (o : Option Game.Drawn). Stepping rows columns g s old o list t w w′ list′ (Went r)) o
-            (record {
-              state = r;
-              answer = refl;
-              stands = m .stands;
-              noted = m .noted;
-              clicks = m .clicks;
-              left-closed = m .left-closed;
-              next-draw = m .next-draw;
-            }),
+      let m = subst (λ (ms : List Move). Made rows columns g s old ms list t w′ list′ r) (a .same) (b .made) in (
+        subst (λ (o : Option Game.Drawn). Stepping rows columns g s old o list t w w′ list′ (Went (record { state = r; next = k }))) o
+            (record { state = r; answer = refl; made = m }),
         b .kept kept,
         b .units-kept units units-kept,
       )

@@ -1,5 +1,5 @@
 -- Random steps, rounds and searches on a work area that stands for a position. Assumes nothing.
-use Prim.Native.Nat.{ℕ, _+_, _≤_}
+use Prim.Native.Nat.{ℕ, _≤_}
 use mathlib.Core.Path.{_≡_}
 use mathlib.Core.Bool.{cond, false}
 use mathlib.Core.List.{List, [], _∷_, map}
@@ -14,6 +14,7 @@ use Rattle.game.specs.Moves.{Move, after, left, word}
 use Rattle.game.specs.Draws as Game
 use Rattle.game.specs.Rounds.{Round, Searched, choice, movesAt, movesOf, stepOf}
 use Rattle.area.specs.Stages.{Stands}
+use Rattle.moves.specs.Promises.{Made}
 use Rattle.moves.specs.declared.State.{State}
 use Rattle.random.specs.declared.Stepped.{Stepped}
 use Rattle.random.specs.declared.Stepped.the-variants as Steps
@@ -24,15 +25,11 @@ use Rattle.random.specs.declared.Rolled.the-variants as Rolls
 abbrev pub takenMoves : Grid → Position → ℕ → ℕ → List Move
 takenMoves g s top i = cond (ltb top 10) (left i ∷ []) (movesAt g s i)
 
--- a step was drawn and made: the area stands for the position after it, its moves are noted, the state is carried on
+-- a step was drawn and made; the state after it, and where the next draw reads on, are handed on
 pub record Went (rows columns : ℕ) (g : Grid) (s : Position) (old : List ℤ) (ms : List Move) (next : ℕ) (list : List ℕ) (t : State) (w′ : List ℤ) (list′ : List ℕ) (r : Stepped) : Type 0 where
   pub state : State
-  pub answer : r ≡ Steps.Went state
-  pub stands : Stands rows columns g (after g s ms) old w′
-  pub noted : list′ ≡ sets list (t .moves) (map word ms)
-  pub clicks : state .moves ≡ t .moves + length ms
-  pub left-closed : state .closed ≡ closedSafe g (after g s ms)
-  pub next-draw : state .next ≡ next
+  pub answer : r ≡ Steps.Went (record { state = state; next = next })
+  pub made : Made rows columns g s old ms list t w′ list′ state
 
 -- the draws ran dry, and nothing changed
 pub record Dried (r : Stepped) (w w′ : List ℤ) (list list′ : List ℕ) : Type 0 where

@@ -10,7 +10,7 @@ ghost use lib.Dec.{T, eqb};
 ghost use lib.IntN.{ℤ};
 ghost use lib.ListN.{length};
 ghost use Rattle.game.specs.Grid.{Grid, safe, zeroCell};
-ghost use Rattle.game.specs.Position.{Position, closed as isClosed, closedSafe, untouched};
+ghost use Rattle.game.specs.Position.{Position, Tidy, closed as isClosed, closedSafe, untouched};
 ghost use Rattle.game.specs.Moves.{Move, after};
 ghost use Rattle.game.specs.Draws.{draw};
 ghost use Rattle.game.specs.Rounds.{choice, topCells, width, randomRound, randomSearch, searchFrom};
@@ -19,9 +19,15 @@ ghost use Rattle.choices.specs.Tops.{Kept, UnitsKept};
 ghost use Rattle.rounds.specs.Promises.{MadeKept, Fresh};
 ghost use Rattle.random.specs.Promises.{Counted, takenMoves, once, Stepping, Rolling, Searching};
 
+// What a step hands on: the state after it, and the place at which the next draw reads on.
+pub struct Onward {
+    pub state: State,
+    pub next: usize,
+}
+
 // A step was made, or the draws ran dry.
 pub enum Stepped {
-    Went(State),
+    Went(Onward),
     Dry,
 }
 
@@ -44,7 +50,7 @@ fn take(
 ) -> State
     requires { ⌜ Shape rows columns ⌝ }
     requires { ⌜ (5 * (rows * columns) ≤ length (now work)) × (index < rows * columns) × (state .moves ≤ 2 ^ 45) ⌝ }
-    ensures { λ r. ⌜ ((g : Grid) (s : Position) (old : List ℤ) → Stands rows columns g s old (now (work .entry))
+    ensures { λ r. ⌜ ((g : Grid) (s : Position) (old : List ℤ) → Stands rows columns g s old (now (work .entry)) → Tidy g s
         → T (safe g index) → (top < 10 → T (isClosed s index) × (topCells false g s ≡ [])) → (10 ≤ top → T (zeroCell g index) → ⊥) → state .closed ≡ closedSafe g s
         → MadeKept false rows columns g s old (takenMoves g s top index) (now (list .entry)) (now (work .entry)) (now (tops .entry)) state (now (work .exit)) (now (list .exit)) (now (tops .exit)) r) ⌝ }
 {
@@ -54,7 +60,7 @@ fn take(
     steps::act_at(work, rows, columns, list, tops, state, index)
 }
 
-// A step at a cell drawn among those of highest premium, or, if none reaches 0, among the closed units.
+// A step at a cell drawn among those of highest premium, or, if none reaches 0, among the closed units. The draw reads from the place next on.
 pub fn step(
     work: &mut [i32],
     rows: usize,
@@ -64,29 +70,29 @@ pub fn step(
     tops: &mut [u8],
     units: &mut [u8],
     state: State,
+    next: usize,
 ) -> Stepped
     requires { ⌜ Shape rows columns ⌝ }
     requires { ⌜ (5 * (rows * columns) ≤ length (now work)) × (state .moves ≤ 2 ^ 45) ⌝ }
     requires { ⌜ Kept false (now work) rows columns (now tops) × UnitsKept (now work) rows columns (now tops) (now units) ⌝ }
-    ensures { λ r. ⌜ ((g : Grid) (s : Position) (old : List ℤ) → Stands rows columns g s old (now (work .entry))
+    ensures { λ r. ⌜ ((g : Grid) (s : Position) (old : List ℤ) → Stands rows columns g s old (now (work .entry)) → Tidy g s
         → 1 ≤ closedSafe g s → state .closed ≡ closedSafe g s
-        → Stepping rows columns g s old (draw (now (draws .entry)) (state .next) (width (choice false g s))) (now (list .entry)) state (now (work .entry)) (now (work .exit)) (now (list .exit)) r
+        → Stepping rows columns g s old (draw (now (draws .entry)) next (width (choice false g s))) (now (list .entry)) state (now (work .entry)) (now (work .exit)) (now (list .exit)) r
         × Kept false (now (work .exit)) rows columns (now (tops .exit))
         × UnitsKept (now (work .exit)) rows columns (now (tops .exit)) (now (units .exit))) ⌝ }
 {
     let top = ties::top(work, rows, columns, tops, units);
     let candidates = ties::count(work, rows, columns, tops, units, top);
-    let drawn = reads::draw_from(draws, state.next, candidates);
-    let Drawn::Place(place, next) = drawn else {
+    let drawn = reads::draw_from(draws, next, candidates);
+    let Drawn::Place(place, after) = drawn else {
         return Stepped::Dry;
     };
     let index = ties::pick(work, rows, columns, tops, units, top, place);
-    let onward = State {
-        moves: state.moves,
-        closed: state.closed,
-        next,
-    };
-    Stepped::Went(take(work, rows, columns, list, tops, onward, top, index))
+    let taken = take(work, rows, columns, list, tops, state, top, index);
+    Stepped::Went(Onward {
+        state: taken,
+        next: after,
+    })
 }
 
 // Steps from the position before any move until all safe cells are open.
@@ -111,16 +117,17 @@ fn roll_on(
     let mut state = State {
         moves: 0,
         closed: safe,
-        next,
     };
+    let mut at = next;
     while 0 < state.closed {
-        let stepped = step(work, rows, columns, list, draws, tops, units, state);
-        let Stepped::Went(after) = stepped else {
+        let stepped = step(work, rows, columns, list, draws, tops, units, state, at);
+        let Stepped::Went(onward) = stepped else {
             return Rolled::Dry;
         };
-        state = after;
+        state = onward.state;
+        at = onward.next;
     }
-    Rolled::Ended(state.moves, state.next)
+    Rolled::Ended(state.moves, at)
 }
 
 // A round from the position before any move, of so many safe cells, that reads its draws from a place on.

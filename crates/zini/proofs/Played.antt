@@ -9,7 +9,7 @@ use Rattle.game.specs.Position.{Position, untouched}
 use Rattle.game.specs.Moves.{Replayed, whole, stopped}
 use Rattle.game.specs.Area.{areaOf}
 use Rattle.game.specs.Calls.{replayed}
-use Rattle.game.proofs.Legal.{reached-untouched}
+use Rattle.game.proofs.Tidy.{untouched-tidy}
 use Rattle.area.specs.Stages.{Shape, Stands, held}
 use Rattle.replay.specs.Replays.{Replaying}
 use Rattle.replay.specs.declared.Replay.{Replay}
@@ -19,7 +19,7 @@ use Rattle.zini.specs.Answers.{Kept, answered, replayedAnswer}
 pub fresh : (rows columns : ℕ) (g : Grid) (old w : List ℤ) → g .rows ≡ rows → g .columns ≡ columns → Shape rows columns → 5 * size g ≤ length old
     → w ≡ held g (untouched g) old → Stands rows columns g (untouched g) old w
 fresh rows columns g old w er ec h room e =
-    record { rows-are = er; columns-are = ec; shape = h; room = room; reached = reached-untouched g; holds-it = e }
+    record { rows-are = er; columns-are = ec; shape = h; room = room; long = untouched-tidy g .long; holds-it = e }
 
 pub replay-kept : (rows columns : ℕ) (g : Grid) (old w w′ : List ℤ) (n : ℕ) (o : Replayed) (r : Replay) → Replaying rows columns g old o r w
     → ((s : Position) → w ≡ held g s old → w′ ≡ areaOf g s old) → Kept (replayed g n o old) (replayedAnswer (answered n r)) w′

@@ -1,7 +1,6 @@
 -- `random::step`: the cells counted are those of the choice, and the one at the drawn place is taken. Assumes nothing.
 use Prim.Native.Nat.{_*_}
 use mathlib.Core.Path.{_∙_}
-use Rattle.game.proofs.Tidy.{reached-tidy}
 use Rattle.random.proofs.Takes.{any-marks, picked-inside, step-dry, step-went}
 use borrow.Author.Needs.{needs}
 use Rattle.random.proofs.step.Statement.{statement}
@@ -37,8 +36,8 @@ returns c =
     let n = d .before .before .before in
     let t = n .before .before .before .before .before .before .before .before in
     let a = t .before .before .before .before .before .before .before .before .args in
-    λ g s old st h e. (
-      step-dry (a .rows) (a .columns) g s old (a .work .now) (t .top .result) (n .count .result) (a .rows * a .columns) (a .draws .now) (a .list .now) (a .state) (d .draw-from .result)
+    λ g s old st f h e. (
+      step-dry (a .rows) (a .columns) g s old (a .work .now) (t .top .result) (n .count .result) (a .rows * a .columns) (a .draws .now) (a .next) (a .list .now) (a .state) (d .draw-from .result)
           (t .top .ensures .1 .1 g s old st) (n .count .ensures .0 .0) (d .draw-from .ensures) (c .enum-told .given .1),
       t .top .ensures .0 .1,
       any-marks (a .work .now) (a .rows) (a .columns) _ _ (n .count .ensures .1 .1),
@@ -77,9 +76,9 @@ returns-2 c =
     let t = n .before .before .before .before .before .before .before .before in
     let a = t .before .before .before .before .before .before .before .before .args in
     let y = m .take in
-    λ g s old st h e. step-went (a .rows) (a .columns) g s old (a .work .now) (t .top .result) (n .count .result) (a .rows * a .columns) (a .draws .now) (a .list .now) (a .state) (d .draw-from .result)
+    λ g s old st f h e. step-went (a .rows) (a .columns) g s old (a .work .now) (t .top .result) (n .count .result) (a .rows * a .columns) (a .draws .now) (a .next) (a .list .now) (a .state) (d .draw-from .result)
     (t .top .ensures .1 .1 g s old st) (n .count .ensures .0 .0) (d .draw-from .ensures) _ _ (p .pick .result) (t .top .last .1 .1 .1 .0) _ (y .last .0) (y .last .1 .1 .1 .0) (y .last .1 .1 .1 .1 .0) (y .result)
-    (reached-tidy g s (st .reached)) h (o .drawn .given .1) (p .pick .ensures .0) (t .top .ensures .0 .1) (p .pick .ensures .1 .1) (λ k u z. y .ensures g s old st k u z e)
+    f h (o .drawn .given .1) (p .pick .ensures .0) (t .top .ensures .0 .1) (p .pick .ensures .1 .1) (λ k u z. y .ensures g s old st f k u z e)
 
 pub step-spec : {M : Type 1} → statement M
 step-spec =

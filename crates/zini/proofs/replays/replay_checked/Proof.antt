@@ -6,6 +6,7 @@ use lib.ListN.{take}
 use Rattle.game.specs.Position.{untouched}
 use Rattle.game.specs.Moves.{replayFrom}
 use Rattle.game.specs.Calls.{replayed}
+use Rattle.game.proofs.Tidy.{untouched-tidy}
 use Rattle.area.specs.Numbers.{gridOf}
 use Rattle.area.proofs.Cells.{cells-few}
 use Rattle.zini.specs.Answers.{Kept, replayedAnswer}
@@ -37,7 +38,7 @@ returns c =
     let a = c .before .before .before .before .before .before .before .before .before .before .before .args in
     let g = gridOf (a .rows) (a .columns) (a .grid .now) in
     let t = fresh (a .rows) (a .columns) g (a .work .now) _ refl refl (c .before .before .before .before .before .before .before .before .before .before .before .pre .0) (omega arith) (c .before .before .before .before .before .before .before .before .set-up .ensures .work) in
-    let k = c .before .before .before .before .before .run .ensures g (untouched g) (a .work .now) t (c .before .before .before .before .before .before .before .before .set-up .ensures .safe) in
+    let k = c .before .before .before .before .before .run .ensures g (untouched g) (a .work .now) t (untouched-tidy g) (c .before .before .before .before .before .before .before .before .set-up .ensures .safe) in
     subst (λ (x : Replayed). Kept (replayed g (a .count) (replayFrom g 0 (untouched g) (take (a .count) (a .list .now))) (a .work .now)) (replayedAnswer x) (c .before .before .settle .last .0))
     (sym (c .replay-answer .ensures))
     (replay-kept (a .rows) (a .columns) g (a .work .now) (c .before .before .before .before .before .run .last .0) (c .before .before .settle .last .0) (a .count) (replayFrom g 0 (untouched g) (take (a .count) (a .list .now))) (c .before .before .before .before .before .run .result) k
