@@ -43,6 +43,14 @@ at-here C i c x e = ap (λ (b : Bool). cond b c (C x)) (eqb-yes x i e)
 pub at-other : (C : ℕ → Cell) (i : ℕ) (c : Cell) (x : ℕ) → (x ≡ i → ⊥) → at C i c x ≡ C x
 at-other C i c x n = ap (λ (b : Bool). cond b c (C x)) (eqb-no x i n)
 
+-- two changes of one cell: the later stands
+pub at-again : (C : ℕ → Cell) (i : ℕ) (c d : Cell) (x : ℕ) → at (at C i c) i d x ≡ at C i d x
+at-again C i c d x = go (eqb x i)
+  where
+    go : (b : Bool) → cond b d (cond b c (C x)) ≡ cond b d (C x)
+    go true = refl
+    go false = refl
+
 -- the area with another number of one cell
 set-five : (five other : ℕ → List ℤ) → ((i : ℕ) → length (five i) ≡ 5) → ((i : ℕ) → length (other i) ≡ 5) → (n : ℕ) (old : List ℤ) → 5 * n ≤ length old
     → (i j : ℕ) (v : ℤ) → i < n → j < 5 → other i ≡ set (five i) j v → ((x : ℕ) → (x ≡ i → ⊥) → other x ≡ five x)
@@ -99,11 +107,7 @@ module _ (n : ℕ) (old : List ℤ) (room : 5 * n ≤ length old) where
       → putAt (cellArea (at C i c) n old) (5 * i + j) v ≡ cellArea (at C i d) n old
   put-again C i j v c d h k e =
       put-area (at C i c) i j v d h k (e ∙ ap (λ (x : Cell). set (numbers x) j (pos (v % 2147483648))) (sym (at-here C i c i refl)))
-      ∙ same-area (at (at C i c) i d) (at C i d) (λ x _.
-      elim (ℕ-discrete x i) [
-        | yes q ↦ at-here (at C i c) i d x q ∙ sym (at-here C i d x q)
-        | no q ↦ at-other (at C i c) i d x q ∙ at-other C i c x q ∙ sym (at-other C i d x q)
-      ])
+      ∙ same-area (at (at C i c) i d) (at C i d) (λ x _. at-again C i c d x)
 
   -- a number read
   pub read-area : (C : ℕ → Cell) (i j : ℕ) → i < n → j < 5 → numberAt (cellArea C n old) (5 * i + j) ≡ natural (getD (numbers (C i)) j (pos 0))
@@ -158,7 +162,7 @@ abbrev pub made : (Cell → Cell) → List ℕ → (ℕ → Cell) → ℕ → Ce
 made h xs C x = cond (has x xs) (h (C x)) (C x)
 
 -- one more cell, listed first
-made-more : (h : Cell → Cell) (y : ℕ) (xs : List ℕ) (C : ℕ → Cell) → Once (y ∷ xs) → (x : ℕ) → made h xs (at C y (h (C y))) x ≡ made h (y ∷ xs) C x
+pub made-more : (h : Cell → Cell) (y : ℕ) (xs : List ℕ) (C : ℕ → Cell) → Once (y ∷ xs) → (x : ℕ) → made h xs (at C y (h (C y))) x ≡ made h (y ∷ xs) C x
 made-more h y xs C o x =
     elim (ℕ-discrete x y) [ yes e ↦ rw (eqb-yes x y e, e, no→false (has y xs) (o .0)) | no q ↦ rw (eqb-no x y q) ]
 
