@@ -58,7 +58,7 @@ unfolding square blockCells rowCells
 sides-around rows columns i h =
     let r = row-inside rows columns i h in
     let c = column-inside rows columns i h in
-    record { cells = refl; some-rows = omega arith; in-rows = omega arith; some-columns = omega arith; in-columns = omega arith }
+    record { cells = refl; some-rows = omega arith; in-rows = omega arith; few-rows = omega arith; some-columns = omega arith; in-columns = omega arith; few-columns = omega arith }
 
 -- ---- what is done with each cell in turn
 

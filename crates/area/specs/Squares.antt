@@ -28,8 +28,10 @@ pub record Around (rows columns i first last a b : ℕ) : Type 0 where
   pub cells : squareOf rows columns i ≡ blockCells rows first last a b
   pub some-rows : first ≤ last
   pub in-rows : last ≤ rows
+  pub few-rows : last ≤ first + 3
   pub some-columns : a ≤ b
   pub in-columns : b ≤ columns
+  pub few-columns : b ≤ a + 3
 
 -- a safe cell's premium, so much up and so much down
 unfoldable pub shifted : ℕ → ℕ → List ℤ → ℕ → List ℤ
