@@ -100,23 +100,23 @@ listed-moves ms list h =
     sets-eq (map word ms) list 0 (omega (arith, length-map ms word)) ∙ ap (λ (k : ℕ). map word ms ++ drop k list) (zero-add (length (map word ms)))
 
 -- the untouched position is one to go on from
-pub fresh-going : (rows columns : ℕ) (w : List ℤ) (safe : ℕ) → Fresh rows columns w safe → Going rows columns w (record { moves = 0; closed = safe })
-fresh-going rows columns w safe f =
+pub fresh-going : (rows columns : ℕ) (w : List ℤ) (t : State) → Fresh rows columns w (t .closed) → Going rows columns w t
+fresh-going rows columns w t f =
     record { grid = f .grid; position = untouched (f .grid); old = f .old; stands = f .stands; tidy = untouched-tidy (f .grid); counts = f .counts }
 
-pub rounded : (rows columns : ℕ) (g : Grid) (old w : List ℤ) (first : Bool) (safe : ℕ) (list : List ℕ) (w′ : List ℤ) (list′ : List ℕ) (t′ : State)
-    → Fresh rows columns w safe → Stands rows columns g (untouched g) old w → rows * columns ≤ length list
-    → (Tidy g (untouched g) → safe ≡ closedSafe g (untouched g)
-    → Made rows columns g (untouched g) old (movesOf (stepsOn first g (untouched g))) list (record { moves = 0; closed = safe }) w′ list′ t′)
+pub rounded : (rows columns : ℕ) (g : Grid) (old w : List ℤ) (first : Bool) (list : List ℕ) (t : State) (w′ : List ℤ) (list′ : List ℕ) (t′ : State)
+    → t .moves ≡ 0 → Fresh rows columns w (t .closed) → Stands rows columns g (untouched g) old w → rows * columns ≤ length list
+    → (Tidy g (untouched g) → t .closed ≡ closedSafe g (untouched g)
+    → Made rows columns g (untouched g) old (movesOf (stepsOn first g (untouched g))) list t w′ list′ t′)
     → Round rows columns g old (movesOf (roundSteps first g)) list (t′ .moves) w′ list′
-rounded rows columns g old w first safe list w′ list′ t′ f st room goes =
+rounded rows columns g old w first list t w′ list′ t′ none f st room goes =
     let ms = movesOf (roundSteps first g) in
-    let m : Made rows columns g (untouched g) old ms list (record { moves = 0; closed = safe }) w′ list′ t′ =
+    let m : Made rows columns g (untouched g) old ms list t w′ list′ t′ =
     rw (round-on first g)
     (goes (untouched-tidy g) (f .counts ∙ closed-alike rows columns (f .grid) g (untouched (f .grid)) (untouched g) (f .old) old w (f .stands) st)) in
     let d = round-sound first g in
     record {
       clicks = omega (arith, m .clicks);
       stands = m .stands;
-      listed = m .noted ∙ listed-moves ms list (omega (arith, d .at-most-units, d .units-at-most, ap₂ _*_ (st .rows-are) (st .columns-are)));
+      listed = m .noted ∙ ap (λ (k : ℕ). sets list k (map word ms)) none ∙ listed-moves ms list (omega (arith, d .at-most-units, d .units-at-most, ap₂ _*_ (st .rows-are) (st .columns-are)));
     }

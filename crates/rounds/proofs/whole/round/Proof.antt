@@ -1,5 +1,6 @@
 -- `rounds::whole::round`: from the untouched position on, the steps are the defined round. Assumes nothing.
 use native.Mathlib.Omega.{arith}
+use mathlib.Core.Path.{refl}
 use Rattle.rounds.proofs.Ending.{fresh-going, rounded}
 use borrow.Author.Needs.{needs}
 use Rattle.rounds.proofs.whole.round.Statement.{statement}
@@ -9,7 +10,7 @@ go-on-requires : tie.Need-go-on-requires
 go-on-requires c κs =
     let b = c .before .before .before in
     let a = b .args in
-    (b .pre .0, ((b .pre .1 .0, omega arith), fresh-going (a .rows) (a .columns) (a .work .now) (a .safe) (b .pre .1 .1)))
+    (b .pre .0, ((b .pre .1 .0, omega arith), fresh-going (a .rows) (a .columns) (a .work .now) _ (b .pre .1 .1)))
 
 same-length : tie.Need-same-length
 same-length c = search needs
@@ -22,8 +23,8 @@ returns c =
     let y = c .before .before .before .go-on in
     let b = c .before .before .before .before .before .before .before in
     let a = b .args in
-    λ g old st room. rounded (a .rows) (a .columns) g old (a .work .now) (a .openings-first) (a .safe) (a .list .now) (y .last .0) (y .last .1 .1 .1 .0) (y .result)
-    (b .pre .1 .1) st room (y .ensures g _ old st)
+    λ g old st room. rounded (a .rows) (a .columns) g old (a .work .now) (a .openings-first) (a .list .now) _ (y .last .0) (y .last .1 .1 .1 .0) (y .result)
+    refl (b .pre .1 .1) st room (y .ensures g _ old st)
 
 pub round-spec : {M : Type 1} → statement M
 round-spec = tie.close (tie.spec go-on-requires same-length same-length-2 returns)
