@@ -1,17 +1,19 @@
 -- A random call uses no more bytes than it is lent, so a reader's place after it is a place of its bytes, or its place before. Assumes nothing.
 use mathlib.Core.Path.{_≡_, refl, sym, ap, subst, _∙_}
 use mathlib.Core.Logic.{_⊎_, inl, inr}
-use Prim.Native.Nat.{ℕ, zero, suc, _-_, _<_, _≤_, _^_, min, zero-le}
+use Prim.Native.Nat.{ℕ, _-_, _<_, _≤_, _^_, zero-le}
 use native.Mathlib.Omega.{arith}
 use mathlib.Core.List.{List, [], _∷_, _++_}
 use mathlib.Core.Option.{Option, none, some}
 use lib.IntN.{ℤ}
 use lib.ListN.{drop, drop-of-length-le, getD, length, length-drop, take}
 use lib.Seq.{take-all}
+use Rattle.game.specs.Draws.{lent}
 use Rattle.game.specs.Grid.{Grid}
-use Rattle.game.specs.Rounds.{Round, Searched, movesOf, randomRound, randomSearch, searchFrom}
+use Rattle.game.specs.Rounds.{Round, Searched, randomRound, randomSearch}
 use Rattle.game.specs.Calls.{Answer, Refusal, drawnRound, drawnSearch, firstGiven, gridChecks, listCheck, randomRoundCall, randomSearchCall, roundsCheck, unless, unlessListed}
-use Rattle.game.proofs.Rounds.{random-within}
+use Rattle.game.proofs.Randoms.{random-within}
+use Rattle.game.proofs.Searches.{search-within}
 use Rattle.zini.specs.Answers.{rolledAnswer}
 use Rattle.zini.specs.declared.Rolled.{Rolled}
 use Rattle.zini.specs.declared.Rolled.the-variants as Rolls
@@ -31,47 +33,21 @@ told a = getD (a .values) 1 0
 
 round-told : (g : Grid) (w : List ℤ) (l bytes : List ℕ) → told (randomRoundCall g w l bytes .answer) ≤ length bytes
 unfolding randomRoundCall
-round-told g w l bytes = go (firstGiven (gridChecks g w ++ listCheck g l ∷ [])) (randomRound g bytes 0) refl
+round-told g w l bytes = go (firstGiven (gridChecks g w ++ listCheck g l ∷ [])) (randomRound g (lent bytes) 0) refl
   where
-    go : (f : Option Refusal) (o : Option Round) → randomRound g bytes 0 ≡ o → told (unlessListed f w l (drawnRound g o w l) .answer) ≤ length bytes
+    go : (f : Option Refusal) (o : Option Round) → randomRound g (lent bytes) 0 ≡ o → told (unlessListed f w l (drawnRound g o w l) .answer) ≤ length bytes
     go (some f) o e = zero-le
     go none none e = zero-le
     go none (some r) e = random-within g bytes 0 r e zero-le .1
 
--- the next place, if a search came to an end
-abbrev nextOf : Option Searched → ℕ
-nextOf none = 0
-nextOf (some r) = r .next
-
-searched-within : (n : ℕ) (g : Grid) (bytes : List ℕ) (r : Searched) → r .next ≤ length bytes → nextOf (searchFrom n g bytes r) ≤ length bytes
-searched-within zero g bytes r h = h
-searched-within (suc n) g bytes r h = go (λ e k. searched-within n g bytes (onward e) k) (randomRound g bytes (r .next)) refl
-  where
-    onward : Round → Searched
-    onward e = record { least = min (r .least) (length (movesOf (e .steps))); next = e .next; moves = movesOf (e .steps) }
-
-    go : ((e : Round) → e .next ≤ length bytes → nextOf (searchFrom n g bytes (onward e)) ≤ length bytes) → (o : Option Round) → randomRound g bytes (r .next) ≡ o
-        → nextOf (elim o [ none ↦ none | some e ↦ searchFrom n g bytes (onward e) ]) ≤ length bytes
-    go f none q = zero-le
-    go f (some e) q = f e (random-within g bytes (r .next) e q h .1)
-
-search-within : (g : Grid) (bytes : List ℕ) (n : ℕ) → nextOf (randomSearch g bytes n) ≤ length bytes
-unfolding randomSearch
-search-within g bytes n = go (randomRound g bytes 0) refl
-  where
-    go : (o : Option Round) → randomRound g bytes 0 ≡ o
-        → nextOf (elim o [ none ↦ none | some e ↦ searchFrom (n - 1) g bytes (record { least = length (movesOf (e .steps)); next = e .next; moves = movesOf (e .steps) }) ]) ≤ length bytes
-    go none q = zero-le
-    go (some e) q = searched-within (n - 1) g bytes (record { least = length (movesOf (e .steps)); next = e .next; moves = movesOf (e .steps) }) (random-within g bytes 0 e q zero-le .1)
-
 search-told : (g : Grid) (w : List ℤ) (bytes : List ℕ) (n : ℕ) → told (randomSearchCall g w bytes n .answer) ≤ length bytes
 unfolding randomSearchCall
-search-told g w bytes n = go (firstGiven (gridChecks g w ++ roundsCheck n ∷ [])) (randomSearch g bytes n) (search-within g bytes n)
+search-told g w bytes n = go (firstGiven (gridChecks g w ++ roundsCheck n ∷ [])) (randomSearch g (lent bytes) n) refl
   where
-    go : (f : Option Refusal) (o : Option Searched) → nextOf o ≤ length bytes → told (unless f w (drawnSearch g o w) .answer) ≤ length bytes
-    go (some f) o h = zero-le
-    go none none h = zero-le
-    go none (some r) h = h
+    go : (f : Option Refusal) (o : Option Searched) → randomSearch g (lent bytes) n ≡ o → told (unless f w (drawnSearch g o w) .answer) ≤ length bytes
+    go (some f) o e = zero-le
+    go none none e = zero-le
+    go none (some r) e = search-within g bytes n r e
 
 -- a place that was moved on by no more than the bytes left fits
 moved-fits : (r : Rolled) (place n : ℕ) → place < 2 ^ 64 → n < 2 ^ 64 → told (rolledAnswer r) ≤ n - place → standsAt r place < 2 ^ 64

@@ -11,30 +11,13 @@ use lib.ListN.{List·getD-eq-default, getD}
 use Rattle.choices.specs.Picks.{foundFirst}
 use Rattle.game.specs.Lists.{bit, count, from, has, keep, range}
 use Rattle.game.proofs.Counts.{count-none, length-keep}
-use Rattle.game.proofs.Members.{first-of, has-cases, has-from, has-range, keep-has, rest-of}
-use Rattle.game.proofs.Orders.{Ordered}
+use Rattle.game.proofs.Members.{first-of, has-from, has-range, keep-has}
 
 -- ---- lists in index order
 
 pub none-there : (xs : List ℕ) → ((x : ℕ) → T (has x xs) → ⊥) → xs ≡ []
 none-there [] n = refl
 none-there (x ∷ xs) n = absurd (first-of x xs n)
-
--- in index order there is one list of the same cells
-pub ordered-same : (xs ys : List ℕ) → Ordered _<_ xs → Ordered _<_ ys → ((x : ℕ) → T (has x xs) → T (has x ys)) → ((x : ℕ) → T (has x ys) → T (has x xs)) → xs ≡ ys
-ordered-same [] ys o p f h = sym (none-there ys (λ x t. h x t))
-ordered-same (x ∷ xs) [] o p f h = absurd (first-of x xs f)
-ordered-same (x ∷ xs) (y ∷ ys) o p f h =
-    let e : x ≡ y = has-cases x y ys (λ q. q) (λ t. has-cases y x xs (λ q. sym q) (λ u. absurd (apart (p .0 x t) (o .0 y u))) (first-of y ys h)) (first-of x xs f) in
-    ap (λ (z : ℕ). z ∷ xs) e ∙ ap (λ (l : List ℕ). y ∷ l) (ordered-same xs ys (o .1) (p .1)
-    (λ z t. has-cases z y ys (λ q. absurd (other (o .0 z t) (q ∙ sym e))) (λ u. u) (rest-of x xs f z t))
-    (λ z t. has-cases z x xs (λ q. absurd (other (p .0 z t) (q ∙ e))) (λ u. u) (rest-of y ys h z t)))
-  where
-    apart : {a b : ℕ} → a < b → b < a → ⊥
-    apart h k = omega arith
-
-    other : {a b : ℕ} → a < b → b ≡ a → ⊥
-    other h e = omega arith
 
 -- ---- the first that passes
 

@@ -26,10 +26,10 @@ use Rattle.game.specs.Position.{Position, opened, premium}
 use Rattle.game.specs.Rounds.{highest, leastChosen, looked, same, topCells}
 use Rattle.choices.proofs.Columns.{Leading, Led, cell-bound, column-has, led-all, top→looked}
 use Rattle.choices.proofs.Held.{looked→, premium→raised, raised→premium, raised→safe, reaches→, →looked, →reaches}
-use Rattle.choices.proofs.Passing.{first-there, found-at, none-there, ordered-same}
+use Rattle.choices.proofs.Passing.{first-there, found-at, none-there}
 use Rattle.game.proofs.Choices.{top→, →top}
 use Rattle.game.proofs.Members.{has-keep, keep-has, range-has}
-use Rattle.game.proofs.Orders.{ordered-keep, ordered-range}
+use Rattle.game.proofs.Orders.{ordered-same, ordered-keep, ordered-range}
 use Rattle.game.proofs.Squares.{cells→, →cells}
 use Rattle.game.proofs.Truth.{and-both, eqb-yes}
 

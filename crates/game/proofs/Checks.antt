@@ -5,7 +5,7 @@ use mathlib.Core.List.{List, [], _++_, _∷_}
 use mathlib.Core.Option.{Option, none, some}
 use Rattle.game.specs.Calls.{Check, Refusal, firstGiven}
 use Rattle.game.specs.Lists.{Each}
-use Rattle.game.proofs.Rounds.{IfSome}
+use Rattle.game.proofs.Draws.{IfSome}
 
 -- the verdict of the first checks, or else of the last
 unfoldable pub orElse : Option Refusal → Option Refusal → Option Refusal

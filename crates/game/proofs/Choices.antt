@@ -34,14 +34,14 @@ le-total (pos a) (negsuc b) t = tt
 le-total (negsuc a) (pos b) t = absurd t
 le-total (negsuc a) (negsuc b) t = le→leb a b (omega (arith, nleb→lt b a t))
 
-le-trans : (a b c : ℤ) → T (leZ a b) → T (leZ b c) → T (leZ a c)
-le-trans (pos a) (pos b) (pos c) t u = le→leb a c (omega (arith, leb→le a b t, leb→le b c u))
-le-trans (pos a) (pos b) (negsuc c) t u = absurd u
-le-trans (pos a) (negsuc b) c t u = absurd t
-le-trans (negsuc a) (pos b) (pos c) t u = tt
-le-trans (negsuc a) (pos b) (negsuc c) t u = absurd u
-le-trans (negsuc a) (negsuc b) (pos c) t u = tt
-le-trans (negsuc a) (negsuc b) (negsuc c) t u = le→leb c a (omega (arith, leb→le b a t, leb→le c b u))
+pub leZ-trans : (a b c : ℤ) → T (leZ a b) → T (leZ b c) → T (leZ a c)
+leZ-trans (pos a) (pos b) (pos c) t u = le→leb a c (omega (arith, leb→le a b t, leb→le b c u))
+leZ-trans (pos a) (pos b) (negsuc c) t u = absurd u
+leZ-trans (pos a) (negsuc b) c t u = absurd t
+leZ-trans (negsuc a) (pos b) (pos c) t u = tt
+leZ-trans (negsuc a) (pos b) (negsuc c) t u = absurd u
+leZ-trans (negsuc a) (negsuc b) (pos c) t u = tt
+leZ-trans (negsuc a) (negsuc b) (negsuc c) t u = le→leb c a (omega (arith, leb→le b a t, leb→le c b u))
 
 -- a difference of 0 or more
 difference-pays : (a b : ℕ) → T (leZ leastChosen (pos a -ℤ pos b)) → b ≤ a
@@ -62,7 +62,7 @@ highest-bound f (y ∷ xs) x t = go (leZ (f y) (highest (map f xs))) refl (λ r.
     go true e r = has-cases x y xs (λ q. rw q (rw e tt)) r t
     go false e r =
         has-cases x y xs (λ q. rw q (le-refl (f y)))
-        (λ u. le-trans (f x) (highest (map f xs)) (f y) (r u) (le-total (f y) (highest (map f xs)) (rw e tt))) t
+        (λ u. leZ-trans (f x) (highest (map f xs)) (f y) (r u) (le-total (f y) (highest (map f xs)) (rw e tt))) t
 
 highest-least : (f : ℕ → ℤ) (xs : List ℕ) (z : ℤ) → T (leZ (negsuc 0) z) → ((x : ℕ) → T (has x xs) → T (leZ (f x) z)) → T (leZ (highest (map f xs)) z)
 highest-least f [] z b h = b
@@ -86,8 +86,8 @@ top→ openedOnly g s x t =
     let u = and-right (leZ (premium g s x) m) (leZ m (premium g s x)) (and-right (leZ leastChosen m) (same (premium g s x) m) (a .1)) in
     record {
       is-looked = a .0;
-      reaches = le-trans leastChosen m (premium g s x) (and-left (leZ leastChosen m) (same (premium g s x) m) (a .1)) u;
-      none-higher = λ y v. le-trans (premium g s y) m (premium g s x) (highest-bound (premium g s) (looked openedOnly g s) y v) u;
+      reaches = leZ-trans leastChosen m (premium g s x) (and-left (leZ leastChosen m) (same (premium g s x) m) (a .1)) u;
+      none-higher = λ y v. leZ-trans (premium g s y) m (premium g s x) (highest-bound (premium g s) (looked openedOnly g s) y v) u;
     }
   where
     m : ℤ
@@ -97,9 +97,9 @@ pub →top : (openedOnly : Bool) (g : Grid) (s : Position) (x : ℕ) → Top ope
 unfolding topCells
 →top openedOnly g s x p =
     let up = highest-bound (premium g s) (looked openedOnly g s) x (p .is-looked) in
-    let down = highest-least (premium g s) (looked openedOnly g s) (premium g s x) (le-trans (negsuc 0) leastChosen (premium g s x) tt (p .reaches)) (p .none-higher) in
+    let down = highest-least (premium g s) (looked openedOnly g s) (premium g s x) (leZ-trans (negsuc 0) leastChosen (premium g s x) tt (p .reaches)) (p .none-higher) in
     has-keep (λ i. leZ leastChosen m && same (premium g s i) m) x (looked openedOnly g s) (p .is-looked)
-    (and-both (leZ leastChosen m) (same (premium g s x) m) (le-trans leastChosen (premium g s x) m (p .reaches) up)
+    (and-both (leZ leastChosen m) (same (premium g s x) m) (leZ-trans leastChosen (premium g s x) m (p .reaches) up)
     (and-both (leZ (premium g s x) m) (leZ m (premium g s x)) up down))
   where
     m : ℤ

@@ -38,7 +38,7 @@ none-counted f [] e x t u = t
 none-counted f (y ∷ xs) e x t u =
     has-cases x y xs (λ q. let h = bit-yes (f y) (rw q at u) in absurd (omega arith)) (λ r. none-counted f xs (omega arith) x r u) t
 
-pub count-le : (f : ℕ → Bool) (xs : List ℕ) → count f xs ≤ length xs
+pub count-le : {A : Type 0} (f : A → Bool) (xs : List A) → count f xs ≤ length xs
 count-le f [] = omega arith
 count-le f (x ∷ xs) = omega (arith, bit-le (f x) true (λ t. tt), count-le f xs)
 

@@ -9,13 +9,13 @@ use lib.Dec.{T, eqb, ltb}
 use lib.ListN.{List·getD-eq-default, getD, length, set}
 use lib.Seq.{getD-set-other}
 use Rattle.game.specs.Grid.{Grid, cells, mine, safe, size, square}
-use Rattle.game.specs.Lists.{bit, count, fold}
+use Rattle.game.specs.Lists.{fold}
 use Rattle.game.specs.Moves.{AllLegal, Move, after, chord, flag, left, legal, play, reveal}
 use Rattle.game.specs.Openings.{holds, joinedTo, openings, threeBV, unlabelled}
 use Rattle.game.specs.Position.{Position, Tidy, cellUnit, closed, closedSafe, closedUnits, openingClosed}
 use Rattle.game.specs.Rounds.{Step, afterStep}
 use Rattle.game.proofs.Choices.{unit→}
-use Rattle.game.proofs.Counts.{count-each, count-ext, count-mono, count-same, each-map}
+use Rattle.game.proofs.Counts.{count-each, count-ext, count-le, count-mono, count-same, each-map}
 use Rattle.game.proofs.Members.{all-ext}
 use Rattle.game.proofs.Openings.{good}
 use Rattle.game.proofs.Tidy.{play-tidy, tidy-even}
@@ -113,14 +113,6 @@ step-pays g s t f (unit i u) =
 pub units-most : (g : Grid) (s : Position) → closedUnits g s ≤ threeBV g
 unfolding closedUnits threeBV
 units-most g s =
-    let a = at-most (openingClosed s) (openings g) in
+    let a = count-le (openingClosed s) (openings g) in
     let b = count-mono (cellUnit g s) (unlabelled g) (cells g) (λ i t. and-left (unlabelled g i) (closed s i) t) in
     omega arith
-  where
-    at-most : (f : List ℕ → Bool) (os : List (List ℕ)) → count f os ≤ length os
-    at-most f [] = omega arith
-    at-most f (o ∷ os) = let r = at-most f os in omega (arith, one (f o))
-      where
-        one : (b : Bool) → bit b ≤ 1
-        one true = omega arith
-        one false = omega arith

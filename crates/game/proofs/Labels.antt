@@ -10,14 +10,14 @@ use mathlib.Core.List.{List, [], _∷_}
 use lib.Dec.{T, eqb, eqb·suc-zero, not-T}
 use lib.ListN.{getD, length}
 use Rattle.game.specs.Grid.{Grid, mine, safe, size, square}
-use Rattle.game.specs.Lists.{Each, has, some-of}
+use Rattle.game.specs.Lists.{Each, bit, has, some-of}
 use Rattle.game.specs.Openings.{Joined, firstLabel, holds, labels, openings, places, secondLabel, unlabelled}
 use Rattle.game.proofs.Chains.{joined-close, joined-first, joined-last, joined-sym, three}
-use Rattle.game.proofs.Members.{has-cases, has-head, some-yes, yes-some}
+use Rattle.game.proofs.Members.{first-of, has-cases, has-head, rest-of, some-yes, yes-some}
 use Rattle.game.proofs.Openings.{Apart, Full, In, covered, good}
 use Rattle.game.proofs.Orders.{Ordered}
 use Rattle.game.proofs.Squares.{Close, close-sym, in-own-square, self-close, square→}
-use Rattle.game.proofs.Truth.{iff, or-cases, or-left, or-right}
+use Rattle.game.proofs.Truth.{eqb-no, iff, or-cases, or-left, or-right}
 use Rattle.game.proofs.Zeros.{Zero, zero→}
 
 -- ---- at most two labels: of three 0-cells in one square two are joined
@@ -128,7 +128,8 @@ mine-none g i h m =
 
 -- ---- a cell without label, by its first label
 
-places-none : (g : Grid) (i k : ℕ) (os : List (List ℕ)) → eqb (getD (places g i (suc k) os) 0 0) 0 ≡ not (some-of (holds g i) os)
+-- a cell's first place is 0 exactly if no opening holds it
+pub places-none : (g : Grid) (i k : ℕ) (os : List (List ℕ)) → eqb (getD (places g i (suc k) os) 0 0) 0 ≡ not (some-of (holds g i) os)
 places-none g i k [] = refl
 places-none g i k (o ∷ os) = go (holds g i o) (places-none g i (suc k) os)
   where
@@ -144,7 +145,8 @@ first-label g i = ap (λ (b : Bool). safe g i && b) (sym (places-none g i 0 (ope
 
 -- ---- labels lie between 1 and the count of openings, and are in order
 
-places-from : (g : Grid) (i k : ℕ) (os : List (List ℕ)) → (x : ℕ) → T (has x (places g i k os)) → (k ≤ x) × (x < k + length os)
+-- a place lies between the first and the last
+pub places-from : (g : Grid) (i k : ℕ) (os : List (List ℕ)) → (x : ℕ) → T (has x (places g i k os)) → (k ≤ x) × (x < k + length os)
 places-from g i k [] x t = absurd t
 places-from g i k (o ∷ os) x t = go (holds g i o) t (places-from g i (suc k) os x)
   where
@@ -164,6 +166,19 @@ places-ordered g i k (o ∷ os) = go (holds g i o) (places-ordered g i (suc k) o
 pub labels-range : (g : Grid) (i x : ℕ) → T (has x (labels g i)) → (1 ≤ x) × (x ≤ length (openings g))
 unfolding labels
 labels-range g i x t = let h = places-from g i 1 (openings g) x t in omega arith
+
+-- a cell's labels by its two numbers
+pub label-marks : (g : Grid) (i : ℕ) → i < size g → length (labels g i) ≡ bit (not (eqb (firstLabel g i) 0)) + bit (not (eqb (secondLabel g i) 0))
+label-marks g i h = go (labels g i) (at-most-two g i h) (λ x t. labels-range g i x t .0)
+  where
+    one : (x : ℕ) → 1 ≤ x → bit (not (eqb x 0)) ≡ 1
+    one x k = ap (λ (b : Bool). bit (not b)) (eqb-no x 0 (λ e. omega arith))
+
+    go : (ls : List ℕ) → length ls ≤ 2 → ((x : ℕ) → T (has x ls) → 1 ≤ x) → length ls ≡ bit (not (eqb (getD ls 0 0) 0)) + bit (not (eqb (getD ls 1 0) 0))
+    go [] l f = refl
+    go (a ∷ []) l f = omega (arith, one a (first-of a [] f))
+    go (a ∷ b ∷ []) l f = omega (arith, one a (first-of a (b ∷ []) f), one b (first-of b [] (rest-of a (b ∷ []) f)))
+    go (a ∷ b ∷ c ∷ ls) l f = absurd (omega arith)
 
 pub labels-ordered : (g : Grid) (i : ℕ) → Ordered _<_ (labels g i)
 unfolding labels

@@ -16,7 +16,9 @@ pub mod Tidy
 pub mod Choices
 pub mod Legal
 pub mod Runs
+pub mod Draws
 pub mod Rounds
+pub mod Randoms
 pub mod Falls
 pub mod Searches
 pub mod Ranges

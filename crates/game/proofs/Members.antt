@@ -31,6 +31,12 @@ first-of x xs h = h x (has-head x x xs refl)
 pub rest-of : {P : ℕ → Type 0} (x : ℕ) (xs : List ℕ) → ((y : ℕ) → T (has y (x ∷ xs)) → P y) → (y : ℕ) → T (has y xs) → P y
 rest-of x xs h y t = h y (has-tail y x xs t)
 
+-- what no member is above, none at a place is
+pub at-most : (xs : List ℕ) (k m : ℕ) → ((x : ℕ) → T (has x xs) → x ≤ m) → getD xs k 0 ≤ m
+at-most [] k m h = omega arith
+at-most (x ∷ xs) zero m h = first-of x xs h
+at-most (x ∷ xs) (suc k) m h = at-most xs k m (rest-of x xs h)
+
 -- ---- two lists, one after the other
 
 pub has-append-left : (x : ℕ) (xs ys : List ℕ) → T (has x xs) → T (has x (xs ++ ys))

@@ -1,14 +1,14 @@
 -- Lists in an order, each before all that follow it; such a list has no repeats. Assumes nothing.
 use Prim.Native.Nat.{ℕ, _-_, _<_, suc, zero}
 use native.Mathlib.Omega.{arith}
-use mathlib.Core.Path.{refl, subst, sym}
+use mathlib.Core.Path.{_≡_, ap₂, refl, subst, sym}
 use mathlib.Core.Logic.{⊎-elim}
 use mathlib.Core.Bool.{Bool, false, true}
 use mathlib.Core.List.{List, [], _++_, _∷_, map}
 use lib.Dec.{T}
 use Rattle.game.specs.Lists.{concat-map, from, has, keep, range}
 use Rattle.game.proofs.Counts.{Once}
-use Rattle.game.proofs.Members.{concat-map-has, first-of, has-append-cases, has-from, has-head, has-tail, keep-has, map-has, rest-of}
+use Rattle.game.proofs.Members.{concat-map-has, first-of, has-append-cases, has-cases, has-from, has-head, has-tail, keep-has, map-has, rest-of}
 
 -- each is before all that follow it
 abbrev pub Ordered : (ℕ → ℕ → Type 0) → List ℕ → Type 0
@@ -28,6 +28,20 @@ ordered-range a b = ordered-from (b - a) a
 
 pub once-range : (a b : ℕ) → Once (range a b)
 once-range a b = ordered-once _<_ (range a b) (λ x h. omega arith) (ordered-range a b)
+
+-- two lists in order with the same members are the same
+pub ordered-same : (xs ys : List ℕ) → Ordered _<_ xs → Ordered _<_ ys → ((x : ℕ) → T (has x xs) → T (has x ys)) → ((x : ℕ) → T (has x ys) → T (has x xs)) → xs ≡ ys
+ordered-same [] [] o p h l = refl
+ordered-same [] (y ∷ ys) o p h l = absurd (first-of y ys l)
+ordered-same (x ∷ xs) [] o p h l = absurd (first-of x xs h)
+ordered-same (x ∷ xs) (y ∷ ys) o p h l =
+    ap₂ (λ a b. a ∷ b) same-first (ordered-same xs ys (o .1) (p .1)
+    (λ z t. has-cases z y ys (λ e. absurd (omega (arith, o .0 z t, same-first))) (λ u. u) (rest-of x xs h z t))
+    (λ z t. has-cases z x xs (λ e. absurd (omega (arith, p .0 z t, same-first))) (λ u. u) (rest-of y ys l z t)))
+  where
+    same-first : x ≡ y
+    same-first =
+        has-cases x y ys (λ e. e) (λ t. has-cases y x xs (λ e. sym e) (λ u. absurd (omega (arith, o .0 y u, p .0 x t))) (first-of y ys l)) (first-of x xs h)
 
 pub ordered-keep : (R : ℕ → ℕ → Type 0) (f : ℕ → Bool) (xs : List ℕ) → Ordered R xs → Ordered R (keep f xs)
 ordered-keep R f [] o = tt

@@ -9,13 +9,13 @@ use mathlib.Core.Option.{Option, Option·map, bind, none, some}
 use lib.Dec.{leb, leb→le, le→leb}
 use lib.ListN.{drop, length, length-drop}
 use lib.Seq.{getD-drop}
-use Rattle.game.specs.Draws.{Drawn, draw, fourBytes}
+use Rattle.game.specs.Draws.{Drawn, Source, draw, fourBytes, lent}
 use Rattle.game.specs.Grid.{Grid}
 use Rattle.game.specs.Openings.{threeBV}
 use Rattle.game.specs.Position.{Position, closedSafe, untouched}
-use Rattle.game.specs.Rounds.{Choice, Round, Searched, Step, afterStep, before, choice, randomFrom, randomRound, randomSearch, searchFrom, stepOf, width}
-use Rattle.game.proofs.Enough.{goes-on}
-use Rattle.game.proofs.Searches.{first, onward}
+use Rattle.game.specs.Rounds.{Round, Searched, Step, afterStep, before, choice, randomFrom, randomRound, randomSearch, searchFrom, stepOf, width}
+use Rattle.game.proofs.Randoms.{by-draw}
+use Rattle.game.proofs.Searches.{first, goes-on, onward}
 use Rattle.game.proofs.Truth.{iff}
 
 -- ---- a draw
@@ -51,112 +51,113 @@ draw-dropped bytes k at n =
     go false true x = ap (λ (m : ℕ). some (record { place = x; next = m })) (add-assoc k at 4)
     go false false x = refl
 
+-- a source behind so many places of another: its draws are the other's from there on
+record Behind (k : ℕ) (source rest : Source) : Type 0 where
+  draws : (at n : ℕ) → source (k + at) n ≡ Option·map (drawn-from k) (rest at n)
+
+lent-behind : (bytes : List ℕ) (k : ℕ) → Behind k (lent bytes) (lent (drop k bytes))
+lent-behind bytes k = record { draws = draw-dropped bytes k }
+
 -- ---- a round
 
 -- so many steps from there on
-from-dropped : (n : ℕ) (g : Grid) (bytes : List ℕ) (k : ℕ) (s : Position) (at : ℕ) → randomFrom n g bytes s (k + at) ≡ Option·map (round-from k) (randomFrom n g (drop k bytes) s at)
-from-dropped zero g bytes k s at = refl
-from-dropped (suc n) g bytes k s at =
-    ap (by bytes (k + at) (closedSafe g s)) (draw-dropped bytes k at (width c))
-    ∙ go (λ t a. from-dropped n g bytes k (afterStep g s t) a) (closedSafe g s) (draw (drop k bytes) at (width c))
+from-behind : (n : ℕ) (g : Grid) (k : ℕ) (source rest : Source) → Behind k source rest → (s : Position) (at : ℕ) → randomFrom n g source s (k + at) ≡ Option·map (round-from k) (randomFrom n g rest s at)
+from-behind zero g k source rest b s at = refl
+from-behind (suc n) g k source rest b s at =
+    ap (by source (k + at) (closedSafe g s)) (b .draws at (width (choice false g s)))
+    ∙ go (λ t a. from-behind n g k source rest b (afterStep g s t) a) (closedSafe g s) (rest at (width (choice false g s)))
   where
-    c : Choice
-    c = choice false g s
-
-    on : List ℕ → Drawn → Option Round
-    on bytes d = let t = stepOf g s c (d .place) in before t (randomFrom n g bytes (afterStep g s t) (d .next))
-
-    by : List ℕ → ℕ → ℕ → Option Drawn → Option Round
-    by bytes at closed o = elim closed [ zero ↦ some (record { steps = []; next = at }) | suc j ↦ elim o [ none ↦ none | some d ↦ on bytes d ] ]
+    by : Source → ℕ → ℕ → Option Drawn → Option Round
+    by source at closed o = elim closed [ zero ↦ some (record { steps = []; next = at }) | suc j ↦ by-draw n g source s o ]
 
     first-too : (t : Step) (o : Option Round) → before t (Option·map (round-from k) o) ≡ Option·map (round-from k) (before t o)
     first-too t none = refl
     first-too t (some r) = refl
 
-    go : ((t : Step) (a : ℕ) → randomFrom n g bytes (afterStep g s t) (k + a) ≡ Option·map (round-from k) (randomFrom n g (drop k bytes) (afterStep g s t) a))
-        → (closed : ℕ) (o : Option Drawn) → by bytes (k + at) closed (Option·map (drawn-from k) o) ≡ Option·map (round-from k) (by (drop k bytes) at closed o)
+    go : ((t : Step) (a : ℕ) → randomFrom n g source (afterStep g s t) (k + a) ≡ Option·map (round-from k) (randomFrom n g rest (afterStep g s t) a))
+        → (closed : ℕ) (o : Option Drawn) → by source (k + at) closed (Option·map (drawn-from k) o) ≡ Option·map (round-from k) (by rest at closed o)
     go r zero o = refl
     go r (suc j) none = refl
     go r (suc j) (some d) =
-        let t = stepOf g s c (d .place) in
-        ap (before t) (r t (d .next)) ∙ first-too t (randomFrom n g (drop k bytes) (afterStep g s t) (d .next))
+        let t = stepOf g s (choice false g s) (d .place) in
+        ap (before t) (r t (d .next)) ∙ first-too t (randomFrom n g rest (afterStep g s t) (d .next))
 
--- a round from a place on is the round of the bytes from there on
-pub round-dropped : (g : Grid) (bytes : List ℕ) (k at : ℕ) → randomRound g bytes (k + at) ≡ Option·map (round-from k) (randomRound g (drop k bytes) at)
+-- a round from a place on is the round of what is behind it
+round-behind : (g : Grid) (k : ℕ) (source rest : Source) → Behind k source rest → (at : ℕ) → randomRound g source (k + at) ≡ Option·map (round-from k) (randomRound g rest at)
 unfolding randomRound
-round-dropped g bytes k at = from-dropped (threeBV g) g bytes k (untouched g) at
+round-behind g k source rest b at = from-behind (threeBV g) g k source rest b (untouched g) at
 
 -- ---- a search
 
--- what two searches come to, the second with the bytes that the first left
+-- what two searches come to, the second with the draws that the first left
 abbrev pub joined : Searched → Searched → Searched
 joined a b = record { least = min (a .least) (b .least); next = a .next + b .next; moves = b .moves }
 
--- rounds after others in the bytes that are left
-later-dropped : (n : ℕ) (g : Grid) (bytes : List ℕ) (a b : Searched) → searchFrom n g bytes (joined a b) ≡ Option·map (joined a) (searchFrom n g (drop (a .next) bytes) b)
-later-dropped zero g bytes a b = refl
-later-dropped (suc n) g bytes a b =
-    ap (goes-on n g bytes (onward (joined a b))) (round-dropped g bytes (a .next) (b .next))
-    ∙ go (λ e. later-dropped n g bytes a (onward b e)) (randomRound g (drop (a .next) bytes) (b .next))
+-- rounds after others with the draws that are left
+later-behind : (n : ℕ) (g : Grid) (a : Searched) (source rest : Source) → Behind (a .next) source rest → (b : Searched) → searchFrom n g source (joined a b) ≡ Option·map (joined a) (searchFrom n g rest b)
+later-behind zero g a source rest h b = refl
+later-behind (suc n) g a source rest h b =
+    ap (goes-on n g source (onward (joined a b))) (round-behind g (a .next) source rest h (b .next))
+    ∙ go (λ e. later-behind n g a source rest h (onward b e)) (randomRound g rest (b .next))
   where
     same : (e : Round) → onward (joined a b) (round-from (a .next) e) ≡ joined a (onward b e)
     same e = ap (λ (m : ℕ). record { least = m; next = a .next + e .next; moves = onward b e .moves }) (omega arith)
 
-    go : ((e : Round) → searchFrom n g bytes (joined a (onward b e)) ≡ Option·map (joined a) (searchFrom n g (drop (a .next) bytes) (onward b e))) → (o : Option Round)
-        → goes-on n g bytes (onward (joined a b)) (Option·map (round-from (a .next)) o) ≡ Option·map (joined a) (goes-on n g (drop (a .next) bytes) (onward b) o)
+    go : ((e : Round) → searchFrom n g source (joined a (onward b e)) ≡ Option·map (joined a) (searchFrom n g rest (onward b e))) → (o : Option Round)
+        → goes-on n g source (onward (joined a b)) (Option·map (round-from (a .next)) o) ≡ Option·map (joined a) (goes-on n g rest (onward b) o)
     go l none = refl
-    go l (some e) = ap (searchFrom n g bytes) (same e) ∙ l e
+    go l (some e) = ap (searchFrom n g source) (same e) ∙ l e
 
 -- a search after rounds that came to a
-search-dropped : (n : ℕ) (g : Grid) (bytes : List ℕ) (a : Searched) → 1 ≤ n → searchFrom n g bytes a ≡ Option·map (joined a) (randomSearch g (drop (a .next) bytes) n)
+search-behind : (n : ℕ) (g : Grid) (a : Searched) (source rest : Source) → Behind (a .next) source rest → 1 ≤ n → searchFrom n g source a ≡ Option·map (joined a) (randomSearch g rest n)
 unfolding randomSearch
-search-dropped n g bytes a h =
+search-behind n g a source rest b h =
     let one-first : n ≡ suc (n - 1) = omega arith in
-    ap (λ (k : ℕ). searchFrom k g bytes a) one-first
-    ∙ ap (goes-on (n - 1) g bytes (onward a)) (ap (randomRound g bytes) (sym (add-zero (a .next))) ∙ round-dropped g bytes (a .next) 0)
-    ∙ go (randomRound g (drop (a .next) bytes) 0)
+    ap (λ (k : ℕ). searchFrom k g source a) one-first
+    ∙ ap (goes-on (n - 1) g source (onward a)) (ap (randomRound g source) (sym (add-zero (a .next))) ∙ round-behind g (a .next) source rest b 0)
+    ∙ go (randomRound g rest 0)
   where
-    go : (o : Option Round) → goes-on (n - 1) g bytes (onward a) (Option·map (round-from (a .next)) o) ≡ Option·map (joined a) (goes-on (n - 1) g (drop (a .next) bytes) first o)
+    go : (o : Option Round) → goes-on (n - 1) g source (onward a) (Option·map (round-from (a .next)) o) ≡ Option·map (joined a) (goes-on (n - 1) g rest first o)
     go none = refl
-    go (some e) = later-dropped (n - 1) g bytes a (first e)
+    go (some e) = later-behind (n - 1) g a source rest b (first e)
 
 -- rounds and then more rounds
-later-parts : (m n : ℕ) (g : Grid) (bytes : List ℕ) (b : Searched) → searchFrom (m + n) g bytes b ≡ bind (searchFrom m g bytes b) (searchFrom n g bytes)
+later-parts : (m n : ℕ) (g : Grid) (source : Source) (b : Searched) → searchFrom (m + n) g source b ≡ bind (searchFrom m g source b) (searchFrom n g source)
 unfolding bind
-later-parts zero n g bytes b = ap (λ (k : ℕ). searchFrom k g bytes b) (zero-add n)
-later-parts (suc m) n g bytes b = ap (λ (k : ℕ). searchFrom k g bytes b) (suc-add m n) ∙ go (λ e. later-parts m n g bytes (onward b e)) (randomRound g bytes (b .next))
+later-parts zero n g source b = ap (λ (k : ℕ). searchFrom k g source b) (zero-add n)
+later-parts (suc m) n g source b = ap (λ (k : ℕ). searchFrom k g source b) (suc-add m n) ∙ go (λ e. later-parts m n g source (onward b e)) (randomRound g source (b .next))
   where
-    go : ((e : Round) → searchFrom (m + n) g bytes (onward b e) ≡ bind (searchFrom m g bytes (onward b e)) (searchFrom n g bytes)) → (o : Option Round)
-        → goes-on (m + n) g bytes (onward b) o ≡ bind (goes-on m g bytes (onward b) o) (searchFrom n g bytes)
+    go : ((e : Round) → searchFrom (m + n) g source (onward b e) ≡ bind (searchFrom m g source (onward b e)) (searchFrom n g source)) → (o : Option Round)
+        → goes-on (m + n) g source (onward b) o ≡ bind (goes-on m g source (onward b) o) (searchFrom n g source)
     go l none = refl
     go l (some e) = l e
 
 -- a search is one of its first rounds, and then one of the others with the bytes that are left
 search-splits : (g : Grid) (bytes : List ℕ) (m n : ℕ) → 1 ≤ m → 1 ≤ n
-    → randomSearch g bytes (m + n) ≡ bind (randomSearch g bytes m) (λ a. Option·map (joined a) (randomSearch g (drop (a .next) bytes) n))
+    → randomSearch g (lent bytes) (m + n) ≡ bind (randomSearch g (lent bytes) m) (λ a. Option·map (joined a) (randomSearch g (lent (drop (a .next) bytes)) n))
 unfolding randomSearch bind
-search-splits g bytes m n h k = go (randomRound g bytes 0)
+search-splits g bytes m n h k = go (randomRound g (lent bytes) 0)
   where
     on : Option Searched → Option Searched
-    on o = bind o (λ a. Option·map (joined a) (randomSearch g (drop (a .next) bytes) n))
+    on o = bind o (λ a. Option·map (joined a) (randomSearch g (lent (drop (a .next) bytes)) n))
 
-    more : (o : Option Searched) → bind o (searchFrom n g bytes) ≡ on o
+    more : (o : Option Searched) → bind o (searchFrom n g (lent bytes)) ≡ on o
     more none = refl
-    more (some a) = search-dropped n g bytes a k
+    more (some a) = search-behind n g a (lent bytes) (lent (drop (a .next) bytes)) (lent-behind bytes (a .next)) k
 
-    go : (o : Option Round) → goes-on (m + n - 1) g bytes first o ≡ on (goes-on (m - 1) g bytes first o)
+    go : (o : Option Round) → goes-on (m + n - 1) g (lent bytes) first o ≡ on (goes-on (m - 1) g (lent bytes) first o)
     go none = refl
     go (some e) =
         let as-many : m + n - 1 ≡ m - 1 + n = omega arith in
-        ap (λ (j : ℕ). searchFrom j g bytes (first e)) as-many
-        ∙ later-parts (m - 1) n g bytes (first e)
-        ∙ more (searchFrom (m - 1) g bytes (first e))
+        ap (λ (j : ℕ). searchFrom j g (lent bytes) (first e)) as-many
+        ∙ later-parts (m - 1) n g (lent bytes) (first e)
+        ∙ more (searchFrom (m - 1) g (lent bytes) (first e))
 
 -- two searches, the second with the bytes that the first left, come to one search of all their rounds
-pub search-parts : (g : Grid) (bytes : List ℕ) (m n : ℕ) (a b : Searched) → 1 ≤ m → 1 ≤ n → randomSearch g bytes m ≡ some a → randomSearch g (drop (a .next) bytes) n ≡ some b
-    → randomSearch g bytes (m + n) ≡ some (joined a b)
+pub search-parts : (g : Grid) (bytes : List ℕ) (m n : ℕ) (a b : Searched) → 1 ≤ m → 1 ≤ n → randomSearch g (lent bytes) m ≡ some a → randomSearch g (lent (drop (a .next) bytes)) n ≡ some b
+    → randomSearch g (lent bytes) (m + n) ≡ some (joined a b)
 unfolding bind
 search-parts g bytes m n a b h k e q =
     search-splits g bytes m n h k
-    ∙ ap (λ (o : Option Searched). bind o (λ a. Option·map (joined a) (randomSearch g (drop (a .next) bytes) n))) e
+    ∙ ap (λ (o : Option Searched). bind o (λ a. Option·map (joined a) (randomSearch g (lent (drop (a .next) bytes)) n))) e
     ∙ ap (Option·map (joined a)) q

@@ -2,24 +2,25 @@
 use Prim.Native.Nat.{ℕ, _*_, _+_, _-_, _<_, _≤_, min, suc, zero}
 use native.Mathlib.Omega.{arith}
 use native.Mathlib.Decide.{decLe}
-use mathlib.Core.Path.{_≡_, refl}
+use mathlib.Core.Path.{_∙_, _≡_, ap, refl, sym}
 use mathlib.Core.Bool.{Bool, _&&_, _||_, cond, false, not, true}
 use mathlib.Core.List.{List, [], _∷_, map}
-use lib.Dec.{T, T-not, le→leb, ltb}
+use lib.Dec.{T, T-not, eqb, le→leb, ltb}
 use lib.IntN.{_-ℤ_, negsuc, pos, ℤ}
 use lib.Signed.{leZ}
-use lib.ListN.{getD, length, length-append, length-map}
-use Rattle.game.specs.Grid.{Grid, columnOf, index, mine, near, rowOf, safe, size, square}
+use lib.ListN.{getD, getD-replicate, length, length-append, length-map}
+use Rattle.game.specs.Grid.{Grid, columnOf, index, mine, near, number, rowOf, safe, size, square}
 use Rattle.game.specs.Lists.{bit, concat-map, count, has, some-of}
 use Rattle.game.specs.Openings.{holds, labels, openings, places, threeBV, unlabelled}
-use Rattle.game.specs.Position.{Position, cellUnit, closed, cost, flagged, gain, openingClosed, premium, unflagged}
-use Rattle.game.proofs.Counts.{bit-le, bit-no, count-le}
+use Rattle.game.specs.Position.{Position, cellUnit, closed, cost, flagged, gain, openingClosed, premium, unflagged, untouched}
+use Rattle.game.proofs.Counts.{bit-le, bit-no, count-each, count-ext, count-le, each-map}
 use Rattle.game.proofs.Labels.{at-most-two, labelled→zero, labels-range}
-use Rattle.game.proofs.Members.{first-of, has-cases, length-from, rest-of}
+use Rattle.game.proofs.Members.{all-give, at-most, has-cases, length-from}
+use Rattle.game.proofs.Openings.{good}
 use Rattle.game.proofs.Reveal.{zero-labelled}
-use Rattle.game.proofs.Squares.{in-own-square}
-use Rattle.game.proofs.Truth.{and-left}
-use Rattle.game.proofs.Units.{units-at-most-cells}
+use Rattle.game.proofs.Squares.{in-own-square, square→}
+use Rattle.game.proofs.Truth.{T→true, and-left, and-true}
+use Rattle.game.proofs.Units.{closed-untouched, units-at-most-cells}
 
 -- ---- a square has at most nine cells
 
@@ -114,12 +115,30 @@ premium-range g s i h t =
     let c = cost-range g s i h t in
     difference (gain g s i) (cost g s i) (gain-range g s i h) (c .0) (c .1)
 
--- ---- labels
+-- ---- gain and cost before any move
 
-at-most : (ls : List ℕ) (k m : ℕ) → ((x : ℕ) → T (has x ls) → x ≤ m) → getD ls k 0 ≤ m
-at-most [] k m h = omega arith
-at-most (x ∷ ls) zero m h = first-of x ls h
-at-most (x ∷ ls) (suc k) m h = at-most ls k m (rest-of x ls h)
+-- before any move every mine is unflagged
+pub untouched-cost : (g : Grid) (i : ℕ) → i < size g → cost g (untouched g) i ≡ number g i + 2
+unfolding cost number
+untouched-cost g i h =
+    let a = count-ext (unflagged g (untouched g)) (mine g) (square g i)
+    (λ j t. ap (λ (k : ℕ). mine g j && not (eqb k 2)) (getD-replicate (size g) j 0 0 (square→ g i j h t .0)) ∙ sym (and-true (mine g j))) in
+    let b = ap (λ (k : ℕ). bit (eqb k 0)) (getD-replicate (size g) i 0 0 h) in
+    omega arith
+
+-- and every unit is closed
+pub untouched-gain : (g : Grid) (i : ℕ) → i < size g → gain g (untouched g) i ≡ length (labels g i) + count (unlabelled g) (square g i)
+unfolding gain labels
+untouched-gain g i h =
+    let a = count-each (λ o. holds g i o && openingClosed (untouched g) o) (holds g i) (openings g)
+    (each-map (openings g) (λ o f. ap (λ (b : Bool). holds g i o && b) (T→true (openingClosed (untouched g) o)
+    (all-give (closed (untouched g)) o (λ x t. rw (closed-untouched g x (f .zero-cell x t .inside)) tt))) ∙ sym (and-true (holds g i o))) (good g .full)) in
+    let b = held-count g i 1 (openings g) in
+    let c = count-ext (cellUnit g (untouched g)) (unlabelled g) (square g i)
+    (λ j t. ap (λ (k : ℕ). unlabelled g j && eqb k 0) (getD-replicate (size g) j 0 0 (square→ g i j h t .0)) ∙ sym (and-true (unlabelled g j))) in
+    omega arith
+
+-- ---- labels
 
 -- both labels are at most the cells
 pub label-range : (g : Grid) (i k : ℕ) → getD (labels g i) k 0 ≤ size g

@@ -6,6 +6,7 @@ use mathlib.Core.Option.{Option, none, some}
 use lib.IntN.{ℤ}
 use lib.ListN.{length, take}
 use lib.Dec.{eqb, ltb}
+use Rattle.game.specs.Draws.{lent}
 use Rattle.game.specs.Grid.{Grid, size}
 use Rattle.game.specs.Openings.{threeBV}
 use Rattle.game.specs.Position.{untouched, closedSafe}
@@ -145,7 +146,7 @@ drawnRound g (some r) ws ms =
 -- a single random round
 unfoldable pub randomRoundCall : Grid → List ℤ → List ℕ → List ℕ → ListOutcome
 randomRoundCall g ws ms bytes =
-    unlessListed (firstGiven (gridChecks g ws ++ listCheck g ms ∷ [])) ws ms (drawnRound g (randomRound g bytes 0) ws ms)
+    unlessListed (firstGiven (gridChecks g ws ++ listCheck g ms ∷ [])) ws ms (drawnRound g (randomRound g (lent bytes) 0) ws ms)
 
 -- what a random search comes to: the least clicks and bytes used, with the last round left; or DRAWS
 abbrev pub drawnSearch : Grid → Option Searched → List ℤ → Outcome
@@ -156,7 +157,7 @@ drawnSearch g (some r) ws =
 -- random search over so many rounds
 unfoldable pub randomSearchCall : Grid → List ℤ → List ℕ → ℕ → Outcome
 randomSearchCall g ws bytes n =
-    unless (firstGiven (gridChecks g ws ++ roundsCheck n ∷ [])) ws (drawnSearch g (randomSearch g bytes n) ws)
+    unless (firstGiven (gridChecks g ws ++ roundsCheck n ∷ [])) ws (drawnSearch g (randomSearch g (lent bytes) n) ws)
 
 -- what a replay of n moves comes to: moves made and safe cells still closed, or MOVE with the bad move's place
 abbrev pub replayed : Grid → ℕ → Replayed → List ℤ → Outcome

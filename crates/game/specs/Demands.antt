@@ -7,6 +7,7 @@ use mathlib.Core.Option.{none, some}
 use lib.IntN.{_+ℤ_, pos, ℤ}
 use lib.ListN.{length}
 use lib.Dec.{eqb}
+use Rattle.game.specs.Draws.{Source}
 use Rattle.game.specs.Grid.{Grid, safe, size}
 use Rattle.game.specs.Lists.{Each}
 use Rattle.game.specs.Moves.{AllLegal, Move, after, left}
@@ -51,9 +52,9 @@ pub record Sound (g : Grid) (ts : List Step) : Type 0 where
 -- ---- the rounds of a search
 
 -- rounds one after another through the same draws: each reads on where the one before it ended
-abbrev pub InTurn : Grid → List ℕ → ℕ → List Round → ℕ → Type 0
-InTurn g bytes at [] next = at ≡ next
-InTurn g bytes at (e ∷ es) next = (randomRound g bytes at ≡ some e) × InTurn g bytes (e .next) es next
+abbrev pub InTurn : Grid → Source → ℕ → List Round → ℕ → Type 0
+InTurn g source at [] next = at ≡ next
+InTurn g source at (e ∷ es) next = (randomRound g source at ≡ some e) × InTurn g source (e .next) es next
 
 -- the least clicks of rounds, and of a number before them
 abbrev pub leastOf : ℕ → List Round → ℕ
@@ -66,20 +67,20 @@ lastOf ms [] = ms
 lastOf ms (e ∷ es) = lastOf (movesOf (e .steps)) es
 
 -- Demand 3 of a search of n rounds: each of its rounds is sound; it answers the least of their clicks and leaves the last
-pub record SoundSearch (g : Grid) (bytes : List ℕ) (n : ℕ) (r : Searched) : Type 0 where
+pub record SoundSearch (g : Grid) (source : Source) (n : ℕ) (r : Searched) : Type 0 where
   pub first : Round
   pub later : List Round
   pub as-many : suc (length later) ≡ n
-  pub in-turn : InTurn g bytes 0 (first ∷ later) (r .next)
+  pub in-turn : InTurn g source 0 (first ∷ later) (r .next)
   pub each-sound : Each (λ (e : Round). Sound g (e .steps)) (first ∷ later)
   pub least-clicks : r .least ≡ leastOf (length (movesOf (first .steps))) later
   pub last-left : r .moves ≡ lastOf (movesOf (first .steps)) later
 
--- how many of n rounds are played from a place of the draws on: none after one that used no bytes, since each later one is the same
-abbrev pub playedFrom : ℕ → Grid → List ℕ → ℕ → ℕ
-playedFrom zero g bytes at = 0
-playedFrom (suc n) g bytes at =
-    elim (randomRound g bytes at) [
+-- how many of n rounds are played from a place of the draws on: none after one that stayed at its place, since each later one is the same
+abbrev pub playedFrom : ℕ → Grid → Source → ℕ → ℕ
+playedFrom zero g source at = 0
+playedFrom (suc n) g source at =
+    elim (randomRound g source at) [
       | none ↦ 1
-      | some e ↦ suc (cond (eqb (e .next) at) 0 (playedFrom n g bytes (e .next)))
+      | some e ↦ suc (cond (eqb (e .next) at) 0 (playedFrom n g source (e .next)))
     ]

@@ -6,7 +6,7 @@ use mathlib.Core.Option.{Option, none, some}
 use lib.IntN.{negsuc, pos, ℤ}
 use lib.Signed.{leZ}
 use lib.ListN.{getD, length}
-use Rattle.game.specs.Draws.{draw}
+use Rattle.game.specs.Draws.{Source}
 use Rattle.game.specs.Grid.{Grid, cells, safe, square, zeroCell}
 use Rattle.game.specs.Lists.{concat-map, keep}
 use Rattle.game.specs.Moves.{Move, after, chord, flag, left}
@@ -146,22 +146,22 @@ abbrev pub before : Step → Option Round → Option Round
 before t none = none
 before t (some r) = some (record { steps = t ∷ r .steps; next = r .next })
 
--- steps by drawn places until all safe cells are open; none where a step needs four bytes and fewer are left
-abbrev pub randomFrom : ℕ → Grid → List ℕ → Position → ℕ → Option Round
-randomFrom zero g bytes s at = some (record { steps = []; next = at })
-randomFrom (suc n) g bytes s at =
+-- steps by the places that a source draws until all safe cells are open; none where it runs dry
+abbrev pub randomFrom : ℕ → Grid → Source → Position → ℕ → Option Round
+randomFrom zero g source s at = some (record { steps = []; next = at })
+randomFrom (suc n) g source s at =
     elim (closedSafe g s) [
       | zero ↦ some (record { steps = []; next = at })
-      | suc k ↦ elim (draw bytes at (width (choice false g s))) [
+      | suc k ↦ elim (source at (width (choice false g s))) [
         | none ↦ none
         | some d ↦ let t = stepOf g s (choice false g s) (d .place) in
-            before t (randomFrom n g bytes (afterStep g s t) (d .next))
+            before t (randomFrom n g source (afterStep g s t) (d .next))
       ]
     ]
 
--- a random round that reads its draws from a place on
-unfoldable pub randomRound : Grid → List ℕ → ℕ → Option Round
-randomRound g bytes at = randomFrom (threeBV g) g bytes (untouched g) at
+-- a random round that draws from a source, from a place on
+unfoldable pub randomRound : Grid → Source → ℕ → Option Round
+randomRound g source at = randomFrom (threeBV g) g source (untouched g) at
 
 -- ---- random search
 
@@ -172,20 +172,20 @@ pub record Searched : Type 0 where
   pub moves : List Move
 
 -- n rounds more, after those that came to r
-abbrev pub searchFrom : ℕ → Grid → List ℕ → Searched → Option Searched
-searchFrom zero g bytes r = some r
-searchFrom (suc n) g bytes r =
-    elim (randomRound g bytes (r .next)) [
+abbrev pub searchFrom : ℕ → Grid → Source → Searched → Option Searched
+searchFrom zero g source r = some r
+searchFrom (suc n) g source r =
+    elim (randomRound g source (r .next)) [
       | none ↦ none
       | some e ↦ let ms = movesOf (e .steps) in
-          searchFrom n g bytes (record { least = min (r .least) (length ms); next = e .next; moves = ms })
+          searchFrom n g source (record { least = min (r .least) (length ms); next = e .next; moves = ms })
     ]
 
 -- so many rounds, one or more, one after another through the same draws
-unfoldable pub randomSearch : Grid → List ℕ → ℕ → Option Searched
-randomSearch g bytes rounds =
-    elim (randomRound g bytes 0) [
+unfoldable pub randomSearch : Grid → Source → ℕ → Option Searched
+randomSearch g source rounds =
+    elim (randomRound g source 0) [
       | none ↦ none
       | some e ↦ let ms = movesOf (e .steps) in
-          searchFrom (rounds - 1) g bytes (record { least = length ms; next = e .next; moves = ms })
+          searchFrom (rounds - 1) g source (record { least = length ms; next = e .next; moves = ms })
     ]

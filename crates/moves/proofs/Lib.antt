@@ -1,4 +1,5 @@
 pub mod Joins
+pub mod Partway
 pub mod Flags
 pub mod Acted
 pub mod Hits

@@ -18,29 +18,15 @@ use Rattle.game.specs.Rounds.{Step, afterStep, choice, chords, clicks, closedUn
 use Rattle.original.specs.Cells.{Zcell, at}
 use Rattle.original.specs.Play.{State, click}
 use Rattle.original.specs.Rounds.{Best, apply-zini, better, falls-back, first-fall, play-at}
-use Rattle.game.proofs.Choices.{Top, looked→, never-stuck, top→, unit→, →top}
+use Rattle.game.proofs.Choices.{Top, leZ-trans, looked→, never-stuck, top→, unit→, →top}
 use Rattle.game.proofs.Labels.{first-label}
-use Rattle.game.proofs.Members.{first-of, has-cases, has-head, has-keep, keep-has, rest-of}
-use Rattle.game.proofs.Orders.{Ordered, ordered-keep, ordered-range}
+use Rattle.game.proofs.Members.{first-of, has-head, has-keep, keep-has, rest-of}
+use Rattle.game.proofs.Orders.{ordered-keep, ordered-range, ordered-same}
 use Rattle.game.proofs.Squares.{cells→, length-cells}
 use Rattle.game.proofs.Truth.{T→true, and-both, and-false, and-left, and-right, and-true}
 use Rattle.original.proofs.Positions.{Stands, not-opened}
-use Rattle.original.proofs.Scans.{Scanned, fold-prefix, head-of, head-stays, leZ-same, leZ-trans, not-lt, reaches, scanned-higher, scanned-none, scanned-same}
+use Rattle.original.proofs.Scans.{Scanned, fold-prefix, head-of, head-stays, leZ-same, not-lt, reaches, scanned-higher, scanned-none, scanned-same}
 use Rattle.original.proofs.Turns.{click-stands, turn-stands}
-
--- two lists in order with the same members are the same
-ordered-ext : (xs ys : List ℕ) → Ordered _<_ xs → Ordered _<_ ys → ((x : ℕ) → T (has x xs) → T (has x ys)) → ((x : ℕ) → T (has x ys) → T (has x xs)) → xs ≡ ys
-ordered-ext [] [] o p h l = refl
-ordered-ext [] (y ∷ ys) o p h l = absurd (first-of y ys l)
-ordered-ext (x ∷ xs) [] o p h l = absurd (first-of x xs h)
-ordered-ext (x ∷ xs) (y ∷ ys) o p h l =
-    ap₂ (λ a b. a ∷ b) same-first (ordered-ext xs ys (o .1) (p .1)
-    (λ z t. has-cases z y ys (λ e. absurd (omega (arith, o .0 z t, same-first))) (λ u. u) (rest-of x xs h z t))
-    (λ z t. has-cases z x xs (λ e. absurd (omega (arith, p .0 z t, same-first))) (λ u. u) (rest-of y ys l z t)))
-  where
-    same-first : x ≡ y
-    same-first =
-        has-cases x y ys (λ e. e) (λ t. has-cases y x xs (λ e. sym e) (λ u. absurd (omega (arith, o .0 y u, p .0 x t))) (first-of y ys l)) (first-of x xs h)
 
 -- ---- the cells of highest premium
 
@@ -52,7 +38,7 @@ looks human g s i = safe g i && (opened s i || not human)
 pub scanned-tops : (human : Bool) (g : Grid) (s : Position) (m : ℤ) (ls : List ℕ) → Scanned (looks human g s) (premium g s) (cells g) m ls → ls ≡ topCells human g s
 unfolding topCells
 scanned-tops human g s m ls w =
-    w .tops ∙ ordered-ext (keep r (cells g)) (topCells human g s) (ordered-keep _<_ r (cells g) (ordered-range 0 (size g)))
+    w .tops ∙ ordered-same (keep r (cells g)) (topCells human g s) (ordered-keep _<_ r (cells g) (ordered-range 0 (size g)))
     (ordered-keep _<_ (λ i. leZ leastChosen (highest (map f (looked human g s))) && same (f i) (highest (map f (looked human g s)))) (looked human g s)
     (ordered-keep _<_ (looks human g s) (cells g) (ordered-range 0 (size g)))) to-top (λ x t. from-top x (top→ human g s x t))
   where

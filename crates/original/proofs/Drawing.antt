@@ -19,11 +19,11 @@ use Rattle.game.specs.Position.{Position, Tidy, closedSafe, opened, premium}
 use Rattle.game.specs.Rounds.{Choice, afterStep, choice, chords, clicks, closedUnitCell, highest, leastChosen, looked, same, stepOf, topCells, unitCells, width}
 use Rattle.original.specs.Cells.{Zcell}
 use Rattle.original.specs.Play.{State, click}
-use Rattle.original.specs.Rounds.{Applied, Falls, Rolled, Stepped, Ties, apply-zini-rng, dry, fallen, nothing, play-at, rand-range, stepped, tied}
+use Rattle.original.specs.Rounds.{Applied, Falls, Stepped, Ties, apply-zini-rng, dry, fallen, nothing, play-at, rand-range, stepped, tied}
 use Rattle.game.proofs.Choices.{looked→, never-stuck, top→, unit→}
 use Rattle.game.proofs.Counts.{count-le, length-keep}
 use Rattle.game.proofs.Members.{getD-has, has-head, has-keep, has-length, keep-has}
-use Rattle.game.proofs.Rounds.{IfSome, rolled}
+use Rattle.game.proofs.Draws.{lent-places}
 use Rattle.game.proofs.Squares.{cells→, length-cells}
 use Rattle.game.proofs.Truth.{T→true, and-both, and-left, and-right}
 use Rattle.original.proofs.Choosing.{falls-unit, looks, scanned-tops}
@@ -215,16 +215,16 @@ module _ (human : Bool) (g : Grid) (s : Position) (n : ℕ) (st : State) (w : St
   unfolding taken
   taken-rolls c act ls len run bytes next q e few l f h =
       subst (λ (o : Option Drawn). Rolls c (draw bytes next (width c)) (taken act run o)) (sym (ap (rand-range bytes next) (f .counted ∙ e) ∙ rand-draw bytes next (width c) q few))
-      (go (draw bytes next (width c)) (rolled bytes next (width c) l))
+      (go (draw bytes next (width c)) (λ d. lent-places bytes .inside next (width c) d l))
     where
-      go : (o : Option Drawn) → IfSome (Rattle.game.proofs.Rounds.Rolled bytes next (width c)) o → Rolls c o (taken act run o)
+      go : (o : Option Drawn) → ((d : Drawn) → o ≡ some d → d .place < width c) → Rolls c o (taken act run o)
       go none r = refl
       go (some d) r =
           record {
             done = record { state = act (getD run (d .place) 0); next = d .next; maxpr = run };
             is-stepped = refl;
             stands = subst (λ (i : ℕ). Stands g (afterStep g s (stepOf g s c (d .place))) (n + length (stepOf g s c (d .place) .moves)) (act i))
-                (sym (front-at (size g) ls len run (d .place) (omega (arith, r .inside)) f)) (h (d .place) (omega (arith, r .inside)));
+                (sym (front-at (size g) ls len run (d .place) (omega (arith, r d refl)) f)) (h (d .place) (omega (arith, r d refl)));
             reads-on = refl;
             room = f .room;
           }

@@ -1,20 +1,20 @@
 -- initboard's second loop numbers the openings as they are gathered, so each cell ends with its first and second label. Assumes nothing.
-use Prim.Native.Nat.{ℕ, _+_, _<_, _≤_, suc, zero}
+use Prim.Native.Nat.{ℕ, _+_, _<_, _≤_, suc}
 use native.Mathlib.Omega.{arith}
 use native.Mathlib.Nat.{add-zero}
 use mathlib.Core.Path.{_∙_, _≡_, ap, ap₂, refl, sym}
 use mathlib.Core.Bool.{Bool, _&&_, _||_, cond, false, not, true}
 use mathlib.Core.List.{List, [], _++_, _∷_}
 use mathlib.Core.Option.{none}
-use lib.Dec.{T, T-not, eqb, eqb·suc-zero, eqb→eq, not-T}
+use lib.Dec.{T, T-not, eqb, eqb→eq, not-T}
 use lib.ListN.{getD, length, length-append}
 use Rattle.game.specs.Grid.{Grid, cells, safe, size, zeroCell}
 use Rattle.game.specs.Lists.{Each, fold, has, range, some-of}
 use Rattle.game.specs.Openings.{firstLabel, gather, holds, joinedTo, labels, openings, places, secondLabel}
 use Rattle.original.specs.Cells.{Cells, Opened, Zcell, at, process-opening, set-opening}
 use Rattle.game.proofs.Chains.{joined-last, joined-sym}
-use Rattle.game.proofs.Labels.{holds-zero}
-use Rattle.game.proofs.Members.{first-of, has-cases, rest-of}
+use Rattle.game.proofs.Labels.{holds-zero, places-from, places-none}
+use Rattle.game.proofs.Members.{at-most, first-of, rest-of}
 use Rattle.game.proofs.Openings.{Full, Good, In, good-gather, good-none}
 use Rattle.game.proofs.Reveal.{zero-safe}
 use Rattle.game.proofs.Squares.{cells→}
@@ -25,25 +25,6 @@ use Rattle.original.proofs.Spreads.{Begun, first-of-two, met, second-of
 use Rattle.original.proofs.Tables.{Table, table-ext}
 
 -- ---- places of the openings that hold a cell
-
--- a place lies between the first and the last
-pub places-from : (g : Grid) (i k : ℕ) (os : List (List ℕ)) → (x : ℕ) → T (has x (places g i k os)) → (k ≤ x) × (x < k + length os)
-places-from g i k [] x t = absurd t
-places-from g i k (o ∷ os) x t = go (holds g i o) t (places-from g i (suc k) os x)
-  where
-    go : (b : Bool) → T (has x (elim b [ true ↦ k ∷ places g i (suc k) os | false ↦ places g i (suc k) os ]))
-        → (T (has x (places g i (suc k) os)) → (suc k ≤ x) × (x < suc k + length os)) → (k ≤ x) × (x < k + length (o ∷ os))
-    go true u r = has-cases x k (places g i (suc k) os) (λ e. omega arith) (λ v. let h = r v in omega arith) u
-    go false u r = let h = r u in omega arith
-
-places-none : (g : Grid) (i k : ℕ) (os : List (List ℕ)) → eqb (getD (places g i (suc k) os) 0 0) 0 ≡ not (some-of (holds g i) os)
-places-none g i k [] = refl
-places-none g i k (o ∷ os) = go (holds g i o) (places-none g i (suc k) os)
-  where
-    go : (b : Bool) → eqb (getD (places g i (suc (suc k)) os) 0 0) 0 ≡ not (some-of (holds g i) os)
-        → eqb (getD {A = ℕ} (elim b [ true ↦ suc k ∷ places g i (suc (suc k)) os | false ↦ places g i (suc (suc k)) os ]) 0 0) 0 ≡ not (b || some-of (holds g i) os)
-    go true e = eqb·suc-zero k
-    go false e = e
 
 places-snoc : (g : Grid) (i k : ℕ) (os : List (List ℕ)) (o : List ℕ) → places g i k (os ++ (o ∷ [])) ≡ places g i k os ++ cond (holds g i o) ((k + length os) ∷ []) []
 places-snoc g i k [] o = go (holds g i o)
@@ -97,11 +78,6 @@ held-in : (g : Grid) (i : ℕ) (os : List (List ℕ)) → Zero g i → Each (Ful
 held-in g i [] z e = refl
 held-in g i (o ∷ os) z e =
     ap (λ (b : Bool). b || some-of (holds g i) os) (holds-zero g i o z (e .0)) ∙ ap (λ (b : Bool). has i o || b) (held-in g i os z (e .1))
-
-at-most : (ls : List ℕ) (n m : ℕ) → ((x : ℕ) → T (has x ls) → x ≤ m) → getD ls n 0 ≤ m
-at-most [] n m h = omega arith
-at-most (x ∷ ls) zero m h = first-of x ls h
-at-most (x ∷ ls) (suc n) m h = at-most ls n m (rest-of x ls h)
 
 module _ (g : Grid) (os : List (List ℕ)) (o : Opened) (i : ℕ) (h : i < size g) (l : Labelled g os o) where
   -- a new opening begins where the loop finds an unlabelled 0-cell

@@ -15,7 +15,7 @@ use Rattle.game.specs.Rounds.{Step, afterStep, choice, movesOf, stepOf, stepsFr
 use Rattle.original.specs.Play.{State}
 use Rattle.original.specs.Rounds.{apply-zini, zini-loop}
 use Rattle.game.proofs.Choices.{never-stuck}
-use Rattle.game.proofs.Rounds.{steps-end}
+use Rattle.game.proofs.Rounds.{steps-end, steps-none}
 use Rattle.game.proofs.Runs.{choice-fits, fit-takes, step-tidy}
 use Rattle.game.proofs.Truth.{T→true, no→false}
 use Rattle.original.proofs.Choosing.{applies}
@@ -26,17 +26,6 @@ use Rattle.original.proofs.Positions.{Stands}
 -- no step is left where no unit is closed
 pub all-done : (human : Bool) (g : Grid) (s : Position) → Tidy g s → closedUnits g s ≤ 0 → closedSafe g s ≡ 0
 all-done human g s f h = steps-end 0 human g s f h
-
-steps-none : (m : ℕ) (human : Bool) (g : Grid) (s : Position) → closedSafe g s ≡ 0 → stepsFrom m human g s ≡ []
-steps-none zero human g s e = refl
-steps-none (suc m) human g s e = ap by e
-  where
-    by : ℕ → List Step
-    by k =
-        elim k [
-          | zero ↦ []
-          | suc k ↦ stepOf g s (choice human g s) 0 ∷ stepsFrom m human g (afterStep g s (stepOf g s (choice human g s) 0))
-        ]
 
 -- cells are left exactly while a safe cell is closed
 pub cells-left : (g : Grid) (s : Position) (n : ℕ) (st : State) → Stands g s n st → (k : ℕ) → closedSafe g s ≡ k

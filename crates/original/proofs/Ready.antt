@@ -1,27 +1,25 @@
 -- initboard leaves each cell with its number, its labels and its premium before any move. Assumes nothing.
-use Prim.Native.Nat.{ℕ, _+_, _<_, _≤_, suc}
+use Prim.Native.Nat.{ℕ, _+_, _<_}
 use native.Mathlib.Omega.{arith}
 use native.Mathlib.Nat.{mul-comm}
 use mathlib.Core.Path.{_∙_, _≡_, ap, ap₂, refl, subst, sym}
 use mathlib.Core.Bool.{Bool, _&&_, _||_, cond, false, not, true}
-use mathlib.Core.List.{List, [], _∷_}
 use mathlib.Core.Option.{none}
-use lib.Dec.{T, eqb}
+use lib.Dec.{eqb}
 use lib.IntN.{+ℤ-comm, _+ℤ_, _-ℤ_, negℤ, negℤ-+ℤ, pos, ℤ}
 use lib.ListN.{getD, getD-replicate, length}
 use Rattle.game.specs.Grid.{Grid, cells, mine, number, safe, size, square, zeroCell}
 use Rattle.game.specs.Lists.{bit, count, fold, has, range}
-use Rattle.game.specs.Openings.{firstLabel, holds, labels, openings, places, secondLabel, unlabelled}
-use Rattle.game.specs.Position.{cellUnit, closed, cost, gain, openingClosed, premium, unflagged, untouched}
+use Rattle.game.specs.Openings.{firstLabel, labels, openings, secondLabel, unlabelled}
+use Rattle.game.specs.Position.{closed, gain, premium, untouched}
 use Rattle.original.specs.Cells.{Cells, Zcell, add-premium, around, at, build-cells-ref, getadj3bv, initboard, set-number, set-opening, with-premium}
 use Rattle.original.specs.Entries.{prepared}
-use Rattle.game.proofs.Counts.{count-each, count-ext, count-none, each-map}
-use Rattle.game.proofs.Labels.{at-most-two, first-label, labels-range, zero-label}
-use Rattle.game.proofs.Members.{all-give, first-of, rest-of}
-use Rattle.game.proofs.Openings.{good}
+use Rattle.game.proofs.Counts.{count-ext, count-none}
+use Rattle.game.proofs.Labels.{first-label, label-marks, zero-label}
+use Rattle.game.proofs.Ranges.{untouched-cost, untouched-gain}
 use Rattle.game.proofs.Reveal.{no-zero-near}
 use Rattle.game.proofs.Squares.{cells→, close-sym, once-cells, square→, →cells, →square}
-use Rattle.game.proofs.Truth.{T→true, and-true, eqb-no}
+use Rattle.game.proofs.Truth.{T→true}
 use Rattle.game.proofs.Zeros.{Zero}
 use Rattle.original.proofs.Built.{built-table}
 use Rattle.original.proofs.Labelling.{labelled-table}
@@ -44,44 +42,9 @@ adjacent g i =
 pub untouched-at : (g : Grid) (j : ℕ) → j < size g → getD (untouched g) j 0 ≡ 0
 untouched-at g j h = getD-replicate (size g) j 0 0 h
 
-held-count : (g : Grid) (i k : ℕ) (os : List (List ℕ)) → count (holds g i) os ≡ length (places g i k os)
-held-count g i k [] = refl
-held-count g i k (o ∷ os) = go (holds g i o) (held-count g i (suc k) os)
-  where
-    go : (b : Bool) → count (holds g i) os ≡ length (places g i (suc k) os) → bit b + count (holds g i) os ≡ length {A = ℕ} (elim b [ true ↦ k ∷ places g i (suc k) os | false ↦ places g i (suc k) os ])
-    go true e = omega arith
-    go false e = omega arith
-
--- as many as are not 0, of two at most
-two-bits : (ls : List ℕ) → length ls ≤ 2 → ((x : ℕ) → T (has x ls) → 1 ≤ x) → length ls ≡ bit (not (eqb (getD ls 0 0) 0)) + bit (not (eqb (getD ls 1 0) 0))
-two-bits [] l h = refl
-two-bits (x ∷ []) l h = simp (eqb-no x 0 (λ e. absurd (omega (arith, first-of x [] h))))
-two-bits (x ∷ y ∷ []) l h =
-    simp (eqb-no x 0 (λ e. absurd (omega (arith, first-of x (y ∷ []) h))), eqb-no y 0 (λ e. absurd (omega (arith, first-of y [] (rest-of x (y ∷ []) h)))))
-two-bits (x ∷ y ∷ z ∷ ls) l h = absurd (omega arith)
-
-gain-untouched : (g : Grid) (i : ℕ) → i < size g → gain g (untouched g) i ≡ length (labels g i) + count (unlabelled g) (square g i)
-unfolding gain labels
-gain-untouched g i h =
-    let a = count-each (λ o. holds g i o && openingClosed (untouched g) o) (holds g i) (openings g)
-    (each-map (openings g) (λ o f. ap (λ (b : Bool). holds g i o && b) (T→true (openingClosed (untouched g) o)
-    (all-give (closed (untouched g)) o (λ x t. rw (untouched-at g x (f .zero-cell x t .inside)) tt))) ∙ sym (and-true (holds g i o))) (good g .full)) in
-    let b = held-count g i 1 (openings g) in
-    let c = count-ext (cellUnit g (untouched g)) (unlabelled g) (square g i)
-    (λ j t. ap (λ (k : ℕ). unlabelled g j && eqb k 0) (untouched-at g j (square→ g i j h t .0)) ∙ sym (and-true (unlabelled g j))) in
-    omega arith
-
-cost-untouched : (g : Grid) (i : ℕ) → i < size g → cost g (untouched g) i ≡ number g i + 2
-unfolding cost number
-cost-untouched g i h =
-    let a = count-ext (unflagged g (untouched g)) (mine g) (square g i)
-    (λ j t. ap (λ (k : ℕ). mine g j && not (eqb k 2)) (untouched-at g j (square→ g i j h t .0)) ∙ sym (and-true (mine g j))) in
-    let b = ap (λ (k : ℕ). bit (eqb k 0)) (untouched-at g i h) in
-    omega arith
-
 adjacent-gain : (g : Grid) (i : ℕ) → i < size g → adjacent g i ≡ gain g (untouched g) i
 unfolding adjacent
-adjacent-gain g i h = go (zeroCell g i) refl ∙ sym (gain-untouched g i h)
+adjacent-gain g i h = go (zeroCell g i) refl ∙ sym (untouched-gain g i h)
   where
     go : (b : Bool) → zeroCell g i ≡ b
         → cond b 1 (count (λ j. safe g j && eqb (firstLabel g j) 0) (square g i) + bit (not (eqb (firstLabel g i) 0)) + bit (not (eqb (secondLabel g i) 0)))
@@ -94,7 +57,7 @@ adjacent-gain g i h = go (zeroCell g i) refl ∙ sym (gain-untouched g i h)
         no-zero-near g j i u (→square g j i (q .0) h (close-sym g i j (q .1))) z) in
         omega arith
     go false e =
-        let a = two-bits (labels g i) (at-most-two g i h) (λ x t. labels-range g i x t .0) in
+        let a = label-marks g i h in
         let b = count-ext (unlabelled g) (λ j. safe g j && eqb (firstLabel g j) 0) (square g i) (λ j t. first-label g j) in
         omega arith
 
@@ -102,7 +65,7 @@ premium-untouched : (g : Grid) (i : ℕ) → i < size g → start g i +ℤ pos (
 unfolding premium
 premium-untouched g i h =
     ap (λ (z : ℤ). z +ℤ pos (adjacent g i)) (sym (negℤ-+ℤ (pos (number g i)) (pos 2))) ∙ +ℤ-comm (negℤ (pos (number g i + 2))) (pos (adjacent g i))
-    ∙ ap₂ (λ a b. pos a -ℤ pos b) (adjacent-gain g i h) (sym (cost-untouched g i h))
+    ∙ ap₂ (λ a b. pos a -ℤ pos b) (adjacent-gain g i h) (sym (untouched-cost g i h))
 
 -- ---- the third loop
 

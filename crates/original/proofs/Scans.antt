@@ -13,19 +13,11 @@ use lib.ListN.{length, length-append}
 use Rattle.game.specs.Lists.{fold, has, keep}
 use Rattle.game.specs.Rounds.{same}
 use Rattle.original.specs.Cells.{at}
+use Rattle.game.proofs.Choices.{leZ-trans}
 use Rattle.game.proofs.Members.{first-of, has-append-cases, has-append-left, has-append-right, has-cases, has-head, has-keep, has-length, has-tail, rest-of}
 use Rattle.game.proofs.Truth.{T→true, and-both, and-left, and-right, no→false}
 
 -- ---- the order of whole numbers
-
-pub leZ-trans : (a b c : ℤ) → T (leZ a b) → T (leZ b c) → T (leZ a c)
-leZ-trans (pos a) (pos b) (pos c) t u = le→leb a c (omega (arith, leb→le a b t, leb→le b c u))
-leZ-trans (pos a) (pos b) (negsuc c) t u = absurd u
-leZ-trans (pos a) (negsuc b) c t u = absurd t
-leZ-trans (negsuc a) (pos b) (pos c) t u = tt
-leZ-trans (negsuc a) (pos b) (negsuc c) t u = absurd u
-leZ-trans (negsuc a) (negsuc b) (pos c) t u = tt
-leZ-trans (negsuc a) (negsuc b) (negsuc c) t u = le→leb c a (omega (arith, leb→le b a t, leb→le c b u))
 
 lt-le : (a b : ℤ) → T (ltZ a b) → T (leZ a b)
 lt-le (pos a) (pos b) t = le→leb a b (omega (arith, ltb→lt a b t))

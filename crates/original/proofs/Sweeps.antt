@@ -19,7 +19,7 @@ use Rattle.game.specs.Position.{Position, Tidy, closed, closedSafe, flagged, op
 use Rattle.original.specs.Cells.{Zcell, add-premium}
 use Rattle.original.specs.Play.{State, open-cell, reveal-cell, reveal-one, with-cells}
 use Rattle.game.proofs.Counts.{Once, count-ext, count-split}
-use Rattle.game.proofs.Labels.{Seated, at-most-two, first-seat, labels-range, seat, seated}
+use Rattle.game.proofs.Labels.{Seated, at-most-two, first-seat, labels-range, places-from, seat, seated}
 use Rattle.game.proofs.Members.{first-of, has-cases, has-head, has-tail, rest-of}
 use Rattle.game.proofs.Openings.{covered, good}
 use Rattle.game.proofs.Owners.{same-holds}
@@ -29,7 +29,6 @@ use Rattle.game.proofs.Reveal.{Revealed, getD-sweep, mine-off, opens, revealed,
 use Rattle.game.proofs.Squares.{cells→, once-cells, →cells}
 use Rattle.game.proofs.Truth.{T→true, and-false, and-inside, and-true, and-under, eqb-no, eqb-yes, iff, no→false, or-cases, or-left, or-right}
 use Rattle.game.proofs.Zeros.{Zero}
-use Rattle.original.proofs.Labelling.{places-from}
 use Rattle.original.proofs.Positions.{Board, Stands, after-open, board-ext, board-premium, not-opened, not-two, one-at, open-board, open-stands, shift}
 
 -- ---- the label of a 0-cell stands at what its opening holds

@@ -6,6 +6,7 @@ use mathlib.Core.Option.{Option, none, some}
 use lib.IntN.{ℤ}
 use lib.ListN.{length}
 use Rattle.game.specs.Lists.{Each}
+use Rattle.game.specs.Draws.{lent}
 use Rattle.game.specs.Grid.{Grid}
 use Rattle.game.specs.Calls.{Answer, Refusal, draws, firstGiven, gives, greedyCall, gridChecks, listCheck, openingsFirstCall, randomSearchCall, refuses, roundsCheck}
 use Rattle.game.specs.Rounds.{movesOf, greedySteps, openingsFirstSteps, Searched, randomSearch}
@@ -29,7 +30,7 @@ pub record Equal (g : Grid) : Type 0 where
   pub greedy : cal-zini g ≡ length (movesOf (greedySteps g))
   pub openings-first : cal-hzini g ≡ length (movesOf (openingsFirstSteps g))
   pub random-search : (bytes : List ℕ) (rounds : ℕ) → Each (λ b. b < 256) bytes → 1 ≤ rounds
-      → cal-rzini g bytes rounds ≡ answered (randomSearch g bytes rounds)
+      → cal-rzini g bytes rounds ≡ answered (randomSearch g (lent bytes) rounds)
 
 -- a call's answer, unless its checks refuse it
 abbrev pub answerUnless : Option Refusal → Answer → Answer

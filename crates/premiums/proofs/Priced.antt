@@ -1,61 +1,20 @@
 -- Before any move: the raised premium in two parts, one by labels and kind, one by the unlabelled cells near. Assumes nothing.
-use Prim.Native.Nat.{ℕ, _+_, _-_, _<_, _≤_}
+use Prim.Native.Nat.{ℕ, _+_, _-_, _<_}
 use native.Mathlib.Omega.{arith}
 use mathlib.Core.Path.{_∙_, _≡_, ap, refl, sym}
 use mathlib.Core.Bool.{Bool, _&&_, cond, false, not, true}
-use mathlib.Core.List.{List, [], _∷_}
-use lib.Dec.{T, eqb}
-use lib.ListN.{getD, getD-replicate, length}
+use lib.Dec.{eqb}
 use Rattle.area.specs.Stages.{kind, raised}
 use Rattle.game.specs.Grid.{Grid, cells, mine, number, safe, size, square}
 use Rattle.game.specs.Lists.{bit, count, has}
-use Rattle.game.specs.Openings.{firstLabel, holds, labels, openings, secondLabel, unlabelled}
-use Rattle.game.specs.Position.{cellUnit, closed, cost, gain, openingClosed, unflagged, untouched}
+use Rattle.game.specs.Openings.{firstLabel, secondLabel, unlabelled}
+use Rattle.game.specs.Position.{cost, gain, untouched}
 use Rattle.premiums.specs.Laying.{alonePremium}
-use Rattle.game.proofs.Counts.{count-each, count-ext, count-none, each-map}
-use Rattle.game.proofs.Labels.{at-most-two, labels-range}
-use Rattle.game.proofs.Members.{all-give, first-of, rest-of}
-use Rattle.game.proofs.Openings.{good}
-use Rattle.game.proofs.Ranges.{cost-range, held-count}
+use Rattle.game.proofs.Counts.{count-ext, count-none}
+use Rattle.game.proofs.Labels.{label-marks}
+use Rattle.game.proofs.Ranges.{cost-range, untouched-cost, untouched-gain}
 use Rattle.game.proofs.Squares.{cells→, close-sym, count-square, square→, →square}
-use Rattle.game.proofs.Truth.{T→true, and-right, and-true, eqb-no, iff}
-use Rattle.game.proofs.Units.{closed-untouched}
-
--- ---- a cell without move: cost and gain
-
--- before any move every mine is unflagged
-untouched-cost : (g : Grid) (i : ℕ) → i < size g → cost g (untouched g) i ≡ number g i + 2
-unfolding cost number
-untouched-cost g i h =
-    let a = count-ext (unflagged g (untouched g)) (mine g) (square g i)
-    (λ j t. ap (λ (k : ℕ). mine g j && not (eqb k 2)) (getD-replicate (size g) j 0 0 (square→ g i j h t .0)) ∙ sym (and-true (mine g j))) in
-    let b = ap (λ (k : ℕ). bit (eqb k 0)) (getD-replicate (size g) i 0 0 h) in
-    omega arith
-
--- and every unit is closed
-untouched-gain : (g : Grid) (i : ℕ) → i < size g → gain g (untouched g) i ≡ length (labels g i) + count (unlabelled g) (square g i)
-unfolding gain labels
-untouched-gain g i h =
-    let a = count-each (λ o. holds g i o && openingClosed (untouched g) o) (holds g i) (openings g)
-    (each-map (openings g) (λ o f. ap (λ (b : Bool). holds g i o && b) (T→true (openingClosed (untouched g) o)
-    (all-give (closed (untouched g)) o (λ x t. rw (closed-untouched g x (f .zero-cell x t .inside)) tt))) ∙ sym (and-true (holds g i o))) (good g .full)) in
-    let b = held-count g i 1 (openings g) in
-    let c = count-ext (cellUnit g (untouched g)) (unlabelled g) (square g i)
-    (λ j t. ap (λ (k : ℕ). unlabelled g j && eqb k 0) (getD-replicate (size g) j 0 0 (square→ g i j h t .0)) ∙ sym (and-true (unlabelled g j))) in
-    omega arith
-
--- a cell's labels by its two numbers
-label-marks : (g : Grid) (i : ℕ) → i < size g → length (labels g i) ≡ bit (not (eqb (firstLabel g i) 0)) + bit (not (eqb (secondLabel g i) 0))
-label-marks g i h = go (labels g i) (at-most-two g i h) (λ x t. labels-range g i x t .0)
-  where
-    one : (x : ℕ) → 1 ≤ x → bit (not (eqb x 0)) ≡ 1
-    one x k = ap (λ (b : Bool). bit (not b)) (eqb-no x 0 (λ e. omega arith))
-
-    go : (ls : List ℕ) → length ls ≤ 2 → ((x : ℕ) → T (has x ls) → 1 ≤ x) → length ls ≡ bit (not (eqb (getD ls 0 0) 0)) + bit (not (eqb (getD ls 1 0) 0))
-    go [] l f = refl
-    go (a ∷ []) l f = omega (arith, one a (first-of a [] f))
-    go (a ∷ b ∷ []) l f = omega (arith, one a (first-of a (b ∷ []) f), one b (first-of b [] (rest-of a (b ∷ []) f)))
-    go (a ∷ b ∷ c ∷ ls) l f = absurd (omega arith)
+use Rattle.game.proofs.Truth.{and-right, eqb-no, iff}
 
 -- ---- the raised premium before any move, in two parts
 

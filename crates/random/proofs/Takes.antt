@@ -19,20 +19,19 @@ use Rattle.area.specs.Stages.{Shape}
 use Rattle.ties.specs.Candidates.{candidateAt, candidatesOf, forClick}
 use Rattle.choices.specs.Tops.{Kept, UnitsKept}
 use Rattle.draws.specs.Answers.{drawnOf}
-use Rattle.game.specs.Draws.{draw}
+use Rattle.game.specs.Draws.{Places, Source}
 use Rattle.game.specs.Grid.{Grid, safe, zeroCell}
 use Rattle.game.specs.Lists.{count, has, keep, range}
 use Rattle.game.specs.Moves.{Move, left}
 use Rattle.game.specs.Position.{Position, Tidy, closed, closedSafe}
 use Rattle.game.specs.Rounds.{Choice, choice, chords, clicks, movesAt, stepOf, topCells, unitCells, width}
-use Rattle.random.specs.Promises.{Stepping, takenMoves}
+use Rattle.random.specs.Promises.{Stepping, Tells, takenMoves}
 use Rattle.moves.specs.Promises.{Made}
 use Rattle.rounds.specs.Promises.{MadeKept}
 use Rattle.game.proofs.Choices.{Top, looked→, never-stuck, premium-pays, top→, unit→}
 use Rattle.game.proofs.Counts.{length-keep}
 use Rattle.game.proofs.Legal.{zero-poor}
 use Rattle.game.proofs.Members.{getD-has, has-range, keep-has}
-use Rattle.game.proofs.Rounds.{IfSome, Rolled, rolled}
 use Rattle.game.proofs.Truth.{T→true, no→false}
 
 -- ---- the moves by the highest raised premium
@@ -101,38 +100,43 @@ takes g s top i k = go (topCells false g s) refl (top→ false g s)
 pub any-marks : (w : List ℤ) (rows columns : ℕ) (marks units : List ℕ) → UnitsKept w rows columns units units → UnitsKept w rows columns marks units
 any-marks w rows columns marks units k = record { room = k .room; right = λ c h _ n. k .right c h n n }
 
-module _ (rows columns : ℕ) (g : Grid) (s : Position) (old w : List ℤ) (top n cells : ℕ) (bytes : List ℕ) (next : ℕ) (list : List ℕ) (t : State) (d : Drawn)
-    (tells : (ltb top 10 ≡ forClick (choice false g s)) × (keep (candidateAt top w) (range 0 cells) ≡ candidatesOf (choice false g s)))
-    (counted : n ≡ count (candidateAt top w) (range 0 cells)) (drew : drawnOf d ≡ draw bytes next n) where
-  -- as many cells were counted as the choice is among
-  wide : n ≡ width (choice false g s)
-  wide = counted ∙ sym (length-keep (candidateAt top w) (range 0 cells)) ∙ ap (λ (xs : List ℕ). length xs) (tells .1) ∙ of (choice false g s)
+module _ (g : Grid) (s : Position) (w : List ℤ) (cells top : ℕ) (tells : Tells g s w cells top) where
+  -- as many cells are counted as the choice is among
+  pub wide : (n : ℕ) → n ≡ count (candidateAt top w) (range 0 cells) → n ≡ width (choice false g s)
+  wide n e = e ∙ sym (length-keep (candidateAt top w) (range 0 cells)) ∙ ap (λ (xs : List ℕ). length xs) (tells .candidates) ∙ of (choice false g s)
     where
       of : (c : Choice) → length (candidatesOf c) ≡ width c
       of (chords is) = refl
       of (clicks is) = refl
 
-  drawn-so : drawnOf d ≡ draw bytes next (width (choice false g s))
-  drawn-so = drew ∙ ap (draw bytes next) wide
+  -- the moves at the cell of a place are those of the step that takes the place
+  pub took : (rows columns : ℕ) (old : List ℤ) (list : List ℕ) (t : State) (p i : ℕ) (tops units : List ℕ) (w′ : List ℤ) (list′ tops′ : List ℕ) (r : State) → p < width (choice false g s)
+      → i ≡ getD (keep (candidateAt top w) (range 0 cells)) p 0 → Kept false w rows columns tops → UnitsKept w rows columns units units
+      → (T (safe g i) → (top < 10 → T (closed s i) × (topCells false g s ≡ [])) → (10 ≤ top → T (zeroCell g i) → ⊥)
+      → MadeKept false rows columns g s old (takenMoves g s top i) list w tops t w′ list′ tops′ r)
+      → Made rows columns g s old (stepOf g s (choice false g s) p .moves) list t w′ list′ r × Kept false w′ rows columns tops′ × UnitsKept w′ rows columns tops′ units
+  took rows columns old list t p i tops units w′ list′ tops′ r l q kept units-kept made =
+      let a = takes g s top i p l (tells .one-click) (q ∙ ap (λ (xs : List ℕ). getD xs p 0) (tells .candidates)) in
+      let b = made (a .is-safe) (a .shut) (a .no-zero) in
+      (subst (λ (ms : List Move). Made rows columns g s old ms list t w′ list′ r) (a .same) (b .made), b .kept kept, b .units-kept units units-kept)
 
-  pub step-dry : d ≡ Short → Stepping rows columns g s old (draw bytes next (width (choice false g s))) list t w w list Dry
+-- what a step comes to, by what its source drew among as many as the choice is among
+module _ (rows columns : ℕ) (g : Grid) (s : Position) (old w : List ℤ) (source : Source) (next n : ℕ) (list : List ℕ) (t : State) (d : Drawn) (wide : n ≡ width (choice false g s)) (drew : drawnOf d ≡ source next n) where
+  drawn-so : drawnOf d ≡ source next (width (choice false g s))
+  drawn-so = drew ∙ ap (source next) wide
+
+  pub step-dry : d ≡ Short → Stepping rows columns g s old (source next (width (choice false g s))) list t w w list Dry
   step-dry e =
       subst (λ (o : Option Game.Drawn). Stepping rows columns g s old o list t w w list Dry) (sym (ap drawnOf e) ∙ drawn-so)
       (record { answer = refl; same-work = refl; same-list = refl })
 
-  pub step-went : (p k i : ℕ) (tops units : List ℕ) (w′ : List ℤ) (list′ tops′ : List ℕ) (r : State) → Tidy g s → 1 ≤ closedSafe g s → d ≡ Place p k → i ≡ getD (keep (candidateAt top w) (range 0 cells)) p 0
-      → Kept false w rows columns tops → UnitsKept w rows columns units units
-      → (T (safe g i) → (top < 10 → T (closed s i) × (topCells false g s ≡ [])) → (10 ≤ top → T (zeroCell g i) → ⊥)
-      → MadeKept false rows columns g s old (takenMoves g s top i) list w tops t w′ list′ tops′ r)
-      → Stepping rows columns g s old (draw bytes next (width (choice false g s))) list t w w′ list′ (Went (record { state = r; next = k })) × Kept false w′ rows columns tops′ × UnitsKept w′ rows columns tops′ units
-  step-went p k i tops units w′ list′ tops′ r f h e q kept units-kept made =
-      let o = sym (ap drawnOf e) ∙ drawn-so in
-      let l = subst (IfSome (Rolled bytes next (width (choice false g s)))) (sym o) (rolled bytes next (width (choice false g s)) (never-stuck false g s f h)) in
-      let a = takes g s top i p (l .inside) (tells .0) (q ∙ ap (λ (xs : List ℕ). getD xs p 0) (tells .1)) in
-      let b = made (a .is-safe) (a .shut) (a .no-zero) in
-      let m = subst (λ (ms : List Move). Made rows columns g s old ms list t w′ list′ r) (a .same) (b .made) in (
-        subst (λ (o : Option Game.Drawn). Stepping rows columns g s old o list t w w′ list′ (Went (record { state = r; next = k }))) o
-            (record { state = r; answer = refl; made = m }),
-        b .kept kept,
-        b .units-kept units units-kept,
-      )
+  module _ (p k : ℕ) (e : d ≡ Place p k) where
+    pub drawn-inside : Places source → Tidy g s → 1 ≤ closedSafe g s → p < width (choice false g s)
+    drawn-inside c f h =
+        c .inside next (width (choice false g s)) (record { place = p; next = k }) (never-stuck false g s f h) (sym (sym (ap drawnOf e) ∙ drawn-so))
+
+    pub step-went : (w′ : List ℤ) (list′ : List ℕ) (r : State) → Made rows columns g s old (stepOf g s (choice false g s) p .moves) list t w′ list′ r
+        → Stepping rows columns g s old (source next (width (choice false g s))) list t w w′ list′ (Went (record { state = r; next = k }))
+    step-went w′ list′ r m =
+        subst (λ (o : Option Game.Drawn). Stepping rows columns g s old o list t w w′ list′ (Went (record { state = r; next = k }))) (sym (ap drawnOf e) ∙ drawn-so)
+        (record { state = r; answer = refl; made = m })

@@ -9,21 +9,28 @@ use lib.IntN.{ℤ}
 use lib.ListN.{getD, length}
 use lib.Seq.{sets}
 use Rattle.game.specs.Grid.{Grid, size}
+use Rattle.game.specs.Lists.{keep, range}
 use Rattle.game.specs.Position.{Position, untouched, closedSafe}
 use Rattle.game.specs.Moves.{Move, after, left, word}
-use Rattle.game.specs.Draws as Game
+use Rattle.game.specs.Draws.{Drawn}
 use Rattle.game.specs.Rounds.{Round, Searched, choice, movesAt, movesOf, stepOf}
 use Rattle.area.specs.Stages.{Stands}
+use Rattle.ties.specs.Candidates.{candidateAt, candidatesOf, forClick}
 use Rattle.moves.specs.Promises.{Made}
 use Rattle.moves.specs.declared.State.{State}
 use Rattle.random.specs.declared.Stepped.{Stepped}
 use Rattle.random.specs.declared.Stepped.the-variants as Steps
-use Rattle.random.specs.declared.Rolled.{Rolled}
-use Rattle.random.specs.declared.Rolled.the-variants as Rolls
+use Rattle.random.specs.declared.Finish.{Finish}
+use Rattle.random.specs.declared.Finish.the-variants as Finishes
 
 -- the moves of a step at the cell that it took: one L where the highest raised premium is below 10
 abbrev pub takenMoves : Grid → Position → ℕ → ℕ → List Move
 takenMoves g s top i = cond (ltb top 10) (left i ∷ []) (movesAt g s i)
+
+-- so high a raised premium tells the cells of a choice from the others, and whether it is for one L
+pub record Tells (g : Grid) (s : Position) (w : List ℤ) (cells top : ℕ) : Type 0 where
+  pub one-click : ltb top 10 ≡ forClick (choice false g s)
+  pub candidates : keep (candidateAt top w) (range 0 cells) ≡ candidatesOf (choice false g s)
 
 -- a step was drawn and made; the state after it, and where the next draw reads on, are handed on
 pub record Went (rows columns : ℕ) (g : Grid) (s : Position) (old : List ℤ) (ms : List Move) (next : ℕ) (list : List ℕ) (t : State) (w′ : List ℤ) (list′ : List ℕ) (r : Stepped) : Type 0 where
@@ -38,27 +45,27 @@ pub record Dried (r : Stepped) (w w′ : List ℤ) (list list′ : List ℕ) : T
   pub same-list : list′ ≡ list
 
 -- what a random step comes to, by its draw
-abbrev pub Stepping : (rows columns : ℕ) → Grid → Position → List ℤ → Option Game.Drawn → List ℕ → State → List ℤ → List ℤ → List ℕ → Stepped → Type 0
+abbrev pub Stepping : (rows columns : ℕ) → Grid → Position → List ℤ → Option Drawn → List ℕ → State → List ℤ → List ℤ → List ℕ → Stepped → Type 0
 Stepping rows columns g s old none list t w w′ list′ r = Dried r w w′ list list′
 Stepping rows columns g s old (some d) list t w w′ list′ r =
     Went rows columns g s old (stepOf g s (choice false g s) (d .place) .moves) (d .next) list t w′ list′ r
 
 -- a round was played to its end
-pub record Ended (rows columns : ℕ) (g : Grid) (old : List ℤ) (o : Round) (list : List ℕ) (w′ : List ℤ) (list′ : List ℕ) (r : Rolled) : Type 0 where
-  pub answer : r ≡ Rolls.Ended (length (movesOf (o .steps))) (o .next)
+pub record Ended (rows columns : ℕ) (g : Grid) (old : List ℤ) (o : Round) (list : List ℕ) (w′ : List ℤ) (list′ : List ℕ) (r : Finish) : Type 0 where
+  pub answer : r ≡ Finishes.Ended (length (movesOf (o .steps))) (o .next)
   pub stands : Stands rows columns g (after g (untouched g) (movesOf (o .steps))) old w′
   pub noted : list′ ≡ sets list 0 (map word (movesOf (o .steps)))
 
 -- the draws ran dry in a round: the area stands for some position, and the list is unchanged past the cells
-pub record Broken (rows columns : ℕ) (g : Grid) (old : List ℤ) (list : List ℕ) (w′ : List ℤ) (list′ : List ℕ) (r : Rolled) : Type 0 where
-  pub answer : r ≡ Rolls.Dry
+pub record Broken (rows columns : ℕ) (g : Grid) (old : List ℤ) (list : List ℕ) (w′ : List ℤ) (list′ : List ℕ) (r : Finish) : Type 0 where
+  pub answer : r ≡ Finishes.Dry
   pub position : Position
   pub stands : Stands rows columns g position old w′
   pub long : length list′ ≡ length list
   pub past : (k : ℕ) → size g ≤ k → getD list′ k 0 ≡ getD list k 0
 
 -- what a random round comes to
-abbrev pub Rolling : (rows columns : ℕ) → Grid → List ℤ → Option Round → List ℕ → List ℤ → List ℕ → Rolled → Type 0
+abbrev pub Rolling : (rows columns : ℕ) → Grid → List ℤ → Option Round → List ℕ → List ℤ → List ℕ → Finish → Type 0
 Rolling rows columns g old none list w′ list′ r = Broken rows columns g old list w′ list′ r
 Rolling rows columns g old (some o) list w′ list′ r = Ended rows columns g old o list w′ list′ r
 
@@ -76,17 +83,17 @@ once none = none
 once (some e) = some (record { least = length (movesOf (e .steps)); next = e .next; moves = movesOf (e .steps) })
 
 -- a search was played to its end: the least clicks, the bytes used, the last round left
-pub record Found (rows columns : ℕ) (g : Grid) (old : List ℤ) (o : Searched) (w′ : List ℤ) (r : Rolled) : Type 0 where
-  pub answer : r ≡ Rolls.Ended (o .least) (o .next)
+pub record Found (rows columns : ℕ) (g : Grid) (old : List ℤ) (o : Searched) (w′ : List ℤ) (r : Finish) : Type 0 where
+  pub answer : r ≡ Finishes.Ended (o .least) (o .next)
   pub stands : Stands rows columns g (after g (untouched g) (o .moves)) old w′
 
 -- the draws ran dry in a search: the area stands for some position
-pub record Lost (rows columns : ℕ) (g : Grid) (old : List ℤ) (w′ : List ℤ) (r : Rolled) : Type 0 where
-  pub answer : r ≡ Rolls.Dry
+pub record Lost (rows columns : ℕ) (g : Grid) (old : List ℤ) (w′ : List ℤ) (r : Finish) : Type 0 where
+  pub answer : r ≡ Finishes.Dry
   pub position : Position
   pub stands : Stands rows columns g position old w′
 
 -- what a random search comes to
-abbrev pub Searching : (rows columns : ℕ) → Grid → List ℤ → Option Searched → List ℤ → Rolled → Type 0
+abbrev pub Searching : (rows columns : ℕ) → Grid → List ℤ → Option Searched → List ℤ → Finish → Type 0
 Searching rows columns g old none w′ r = Lost rows columns g old w′ r
 Searching rows columns g old (some o) w′ r = Found rows columns g old o w′ r

@@ -12,12 +12,19 @@ ghost use Rattle.area.specs.Numbers.{HasCells};
 ghost use Rattle.game.specs.Grid.{Grid, safe, zeroCell};
 ghost use Rattle.game.specs.Position.{Position, Tidy, closed as isClosed, closedSafe, untouched};
 ghost use Rattle.game.specs.Moves.{Move, after};
-ghost use Rattle.game.specs.Draws.{draw};
-ghost use Rattle.game.specs.Rounds.{choice, topCells, width, randomRound, randomSearch, searchFrom};
+ghost use Rattle.game.specs.Draws.{lent};
+ghost use Rattle.game.specs.Rounds.{choice, stepOf, topCells, width, randomRound, randomSearch, searchFrom};
 ghost use Rattle.area.specs.Stages.{Shape, Stands};
 ghost use Rattle.choices.specs.Tops.{Kept, UnitsKept};
+ghost use Rattle.moves.specs.Promises.{Made};
 ghost use Rattle.rounds.specs.Promises.{MadeKept, Fresh};
-ghost use Rattle.random.specs.Promises.{Counted, takenMoves, once, Stepping, Rolling, Searching};
+ghost use Rattle.random.specs.Promises.{Counted, Tells, takenMoves, once, Stepping, Rolling, Searching};
+
+// What a step draws among: so many cells, and the highest raised premium; below 10 the step is one L.
+struct Candidates {
+    top: usize,
+    count: usize,
+}
 
 // What a step hands on: the state after it, and the place at which the next draw reads on.
 pub struct Onward {
@@ -31,8 +38,8 @@ pub enum Stepped {
     Dry,
 }
 
-// Clicks and the place after the last draw, or the draws ran dry.
-pub enum Rolled {
+// How a round or a search ends: its clicks and the place after the last draw, or the draws ran dry.
+pub enum Finish {
     Ended(usize, usize),
     Dry,
 }
@@ -60,7 +67,51 @@ fn take(
     steps::act_at(work, rows, columns, list, tops, state, index)
 }
 
-// A step at a cell drawn among those of highest premium, or, if none reaches 0, among the closed units. The draw reads from the place next on.
+// The cells that a step may take, counted.
+fn count_candidates(
+    work: &[i32],
+    rows: usize,
+    columns: usize,
+    tops: &mut [u8],
+    units: &mut [u8],
+) -> Candidates
+    requires { ⌜ Shape rows columns ⌝ }
+    requires { ⌜ (5 * (rows * columns) ≤ length (now work)) × Kept false (now work) rows columns (now tops) × UnitsKept (now work) rows columns (now tops) (now units) ⌝ }
+    ensures { λ _. ⌜ (length (now (tops .exit)) ≡ length (now (tops .entry))) × Kept false (now (work .entry)) rows columns (now (tops .exit)) ⌝ }
+    ensures { λ _. ⌜ (length (now (units .exit)) ≡ length (now (units .entry))) × UnitsKept (now (work .entry)) rows columns (now (units .exit)) (now (units .exit)) ⌝ }
+    ensures { λ r. ⌜ ((g : Grid) (s : Position) (old : List ℤ) → Stands rows columns g s old (now (work .entry)) → Tells g s (now (work .entry)) (rows * columns) (r .top) × (r .count ≡ width (choice false g s))) ⌝ }
+{
+    let top = ties::top(work, rows, columns, tops, units);
+    let count = ties::count(work, rows, columns, tops, units, top);
+    Candidates { top, count }
+}
+
+// The candidate at a place, in index order, is taken: the moves of a step there.
+fn take_place(
+    work: &mut [i32],
+    rows: usize,
+    columns: usize,
+    list: &mut [u32],
+    tops: &mut [u8],
+    units: &mut [u8],
+    state: State,
+    top: usize,
+    place: usize,
+) -> State
+    requires { ⌜ Shape rows columns ⌝ }
+    requires { ⌜ (5 * (rows * columns) ≤ length (now work)) × (state .moves ≤ 2 ^ 45) ⌝ }
+    requires { ⌜ Kept false (now work) rows columns (now tops) × UnitsKept (now work) rows columns (now units) (now units) ⌝ }
+    ensures { λ r. ⌜ ((g : Grid) (s : Position) (old : List ℤ) → Stands rows columns g s old (now (work .entry)) → Tidy g s → Tells g s (now (work .entry)) (rows * columns) top
+        → place < width (choice false g s) → state .closed ≡ closedSafe g s
+        → Made rows columns g s old (stepOf g s (choice false g s) place .moves) (now (list .entry)) state (now (work .exit)) (now (list .exit)) r
+        × Kept false (now (work .exit)) rows columns (now (tops .exit))
+        × UnitsKept (now (work .exit)) rows columns (now (tops .exit)) (now (units .exit))) ⌝ }
+{
+    let index = ties::pick(work, rows, columns, tops, units, top, place);
+    take(work, rows, columns, list, tops, state, top, index)
+}
+
+// A step: the candidates are counted, one is drawn, from the place next on, and the drawn one is taken.
 pub fn step(
     work: &mut [i32],
     rows: usize,
@@ -77,18 +128,18 @@ pub fn step(
     requires { ⌜ Kept false (now work) rows columns (now tops) × UnitsKept (now work) rows columns (now tops) (now units) ⌝ }
     ensures { λ r. ⌜ ((g : Grid) (s : Position) (old : List ℤ) → Stands rows columns g s old (now (work .entry)) → Tidy g s
         → 1 ≤ closedSafe g s → state .closed ≡ closedSafe g s
-        → Stepping rows columns g s old (draw (now (draws .entry)) next (width (choice false g s))) (now (list .entry)) state (now (work .entry)) (now (work .exit)) (now (list .exit)) r
+        → Stepping rows columns g s old (lent (now (draws .entry)) next (width (choice false g s))) (now (list .entry)) state (now (work .entry)) (now (work .exit)) (now (list .exit)) r
         × Kept false (now (work .exit)) rows columns (now (tops .exit))
         × UnitsKept (now (work .exit)) rows columns (now (tops .exit)) (now (units .exit))) ⌝ }
 {
-    let top = ties::top(work, rows, columns, tops, units);
-    let candidates = ties::count(work, rows, columns, tops, units, top);
-    let drawn = reads::draw_from(draws, next, candidates);
+    let candidates = count_candidates(work, rows, columns, tops, units);
+    let count = candidates.count;
+    let top = candidates.top;
+    let drawn = reads::draw_from(draws, next, count);
     let Drawn::Place(place, after) = drawn else {
         return Stepped::Dry;
     };
-    let index = ties::pick(work, rows, columns, tops, units, top, place);
-    let taken = take(work, rows, columns, list, tops, state, top, index);
+    let taken = take_place(work, rows, columns, list, tops, units, state, top, place);
     Stepped::Went(Onward {
         state: taken,
         next: after,
@@ -106,13 +157,13 @@ fn roll_on(
     units: &mut [u8],
     safe: usize,
     next: usize,
-) -> Rolled
+) -> Finish
     requires { ⌜ Shape rows columns ⌝ }
     requires { ⌜ HasCells (now work) (rows * columns) ⌝ }
     requires { ⌜ Fresh rows columns (now work) safe ⌝ }
     requires { ⌜ Kept false (now work) rows columns (now tops) × UnitsKept (now work) rows columns (now tops) (now units) ⌝ }
     ensures { λ r. ⌜ ((g : Grid) (old : List ℤ) → Stands rows columns g (untouched g) old (now (work .entry))
-        → Rolling rows columns g old (randomRound g (now (draws .entry)) next) (now (list .entry)) (now (work .exit)) (now (list .exit)) r) ⌝ }
+        → Rolling rows columns g old (randomRound g (lent (now (draws .entry))) next) (now (list .entry)) (now (work .exit)) (now (list .exit)) r) ⌝ }
 {
     let mut state = State {
         moves: 0,
@@ -122,12 +173,12 @@ fn roll_on(
     while 0 < state.closed {
         let stepped = step(work, rows, columns, list, draws, tops, units, state, at);
         let Stepped::Went(onward) = stepped else {
-            return Rolled::Dry;
+            return Finish::Dry;
         };
         state = onward.state;
         at = onward.next;
     }
-    Rolled::Ended(state.moves, at)
+    Finish::Ended(state.moves, at)
 }
 
 // A round from the position before any move, of so many safe cells, that reads its draws from a place on.
@@ -139,12 +190,12 @@ pub fn round(
     draws: &[u8],
     safe: usize,
     next: usize,
-) -> Rolled
+) -> Finish
     requires { ⌜ Shape rows columns ⌝ }
     requires { ⌜ HasCells (now work) (rows * columns) ⌝ }
     requires { ⌜ Fresh rows columns (now work) safe ⌝ }
     ensures { λ r. ⌜ ((g : Grid) (old : List ℤ) → Stands rows columns g (untouched g) old (now (work .entry))
-        → Rolling rows columns g old (randomRound g (now (draws .entry)) next) (now (list .entry)) (now (work .exit)) (now (list .exit)) r) ⌝ }
+        → Rolling rows columns g old (randomRound g (lent (now (draws .entry))) next) (now (list .entry)) (now (work .exit)) (now (list .exit)) r) ⌝ }
 {
     let mut tops = [0u8; 255];
     let mut units = [0u8; 255];
@@ -169,12 +220,12 @@ fn unlisted(
     draws: &[u8],
     safe: usize,
     next: usize,
-) -> Rolled
+) -> Finish
     requires { ⌜ Shape rows columns ⌝ }
     requires { ⌜ HasCells (now work) (rows * columns) ⌝ }
     requires { ⌜ Fresh rows columns (now work) safe ⌝ }
     ensures { λ r. ⌜ ((g : Grid) (old : List ℤ) → Stands rows columns g (untouched g) old (now (work .entry))
-        → Searching rows columns g old (once (randomRound g (now (draws .entry)) next)) (now (work .exit)) r) ⌝ }
+        → Searching rows columns g old (once (randomRound g (lent (now (draws .entry))) next)) (now (work .exit)) r) ⌝ }
 {
     let mut none = [0u32; 0];
     round(work, rows, columns, &mut none, draws, safe, next)
@@ -188,12 +239,12 @@ fn again(
     draws: &[u8],
     safe: usize,
     next: usize,
-) -> Rolled
+) -> Finish
     requires { ⌜ Shape rows columns ⌝ }
     requires { ⌜ HasCells (now work) (rows * columns) ⌝ }
     requires { ⌜ Counted rows columns (now work) safe ⌝ }
     ensures { λ r. ⌜ ((g : Grid) (s : Position) (old : List ℤ) → Stands rows columns g s old (now (work .entry))
-        → Searching rows columns g old (once (randomRound g (now (draws .entry)) next)) (now (work .exit)) r) ⌝ }
+        → Searching rows columns g old (once (randomRound g (lent (now (draws .entry))) next)) (now (work .exit)) r) ⌝ }
 {
     start::begin::reset(work, rows, columns);
     unlisted(work, rows, columns, draws, safe, next)
@@ -206,8 +257,8 @@ fn fewer(least: usize, clicks: usize) -> usize
     if clicks < least { clicks } else { least }
 }
 
-// The rounds still to play: none after one that used no bytes, since each later one would be the same.
-fn still(rounds: usize, began: usize, next: usize) -> usize
+// The rounds still to play: none after one that stayed at its place, since each later one would be the same.
+fn rounds_left(rounds: usize, began: usize, next: usize) -> usize
     ensures { λ r. ⌜ (r ≡ cond (eqb next began) 0 rounds) × (r ≤ rounds) ⌝ }
 {
     if next == began { 0 } else { rounds }
@@ -223,26 +274,26 @@ fn search_on(
     clicks: usize,
     next: usize,
     more: usize,
-) -> Rolled
+) -> Finish
     requires { ⌜ Shape rows columns ⌝ }
     requires { ⌜ HasCells (now work) (rows * columns) ⌝ }
     requires { ⌜ Counted rows columns (now work) safe ⌝ }
     ensures { λ r. ⌜ ((g : Grid) (old : List ℤ) (ms : List Move) → Stands rows columns g (after g (untouched g) ms) old (now (work .entry))
-        → Searching rows columns g old (searchFrom more g (now (draws .entry)) (record { least = clicks; next = next; moves = ms })) (now (work .exit)) r) ⌝ }
+        → Searching rows columns g old (searchFrom more g (lent (now (draws .entry))) (record { least = clicks; next = next; moves = ms })) (now (work .exit)) r) ⌝ }
 {
     let mut least = clicks;
     let mut at = next;
     let mut left = more;
     while 0 < left {
         let rolled = again(work, rows, columns, draws, safe, at);
-        let Rolled::Ended(paid, onward) = rolled else {
-            return Rolled::Dry;
+        let Finish::Ended(paid, onward) = rolled else {
+            return Finish::Dry;
         };
         least = fewer(least, paid);
-        left = still(left - 1, at, onward);
+        left = rounds_left(left - 1, at, onward);
         at = onward;
     }
-    Rolled::Ended(least, at)
+    Finish::Ended(least, at)
 }
 
 // So many rounds one after another through the same draws: the least clicks.
@@ -253,17 +304,17 @@ pub fn search(
     draws: &[u8],
     safe: usize,
     rounds: usize,
-) -> Rolled
+) -> Finish
     requires { ⌜ Shape rows columns ⌝ }
     requires { ⌜ HasCells (now work) (rows * columns) × (1 ≤ rounds) ⌝ }
     requires { ⌜ Fresh rows columns (now work) safe ⌝ }
     ensures { λ r. ⌜ ((g : Grid) (old : List ℤ) → Stands rows columns g (untouched g) old (now (work .entry))
-        → Searching rows columns g old (randomSearch g (now (draws .entry)) rounds) (now (work .exit)) r) ⌝ }
+        → Searching rows columns g old (randomSearch g (lent (now (draws .entry))) rounds) (now (work .exit)) r) ⌝ }
 {
     let rolled = unlisted(work, rows, columns, draws, safe, 0);
-    let Rolled::Ended(clicks, next) = rolled else {
-        return Rolled::Dry;
+    let Finish::Ended(clicks, next) = rolled else {
+        return Finish::Dry;
     };
-    let more = still(rounds - 1, 0, next);
+    let more = rounds_left(rounds - 1, 0, next);
     search_on(work, rows, columns, draws, safe, clicks, next, more)
 }

@@ -6,30 +6,31 @@ use mathlib.Core.List.{List, [], _∷_}
 use mathlib.Core.Option.{Option, none, some}
 use lib.IntN.{ℤ, pos}
 use lib.ListN.{length}
+use Rattle.game.specs.Draws.{Places, Source}
 use Rattle.game.specs.Grid.{Grid, size}
 use Rattle.game.specs.Position.{Position}
 use Rattle.game.specs.Area.{areaOf}
 use Rattle.game.specs.Rounds.{Round, Searched, movesOf, randomRound}
 use Rattle.game.specs.Calls.{Answer, draws, drawnRound, drawnSearch, gives, refuses}
-use Rattle.game.proofs.Rounds.{random-sound}
+use Rattle.game.proofs.Randoms.{random-sound}
 use Rattle.area.specs.Stages.{held}
 use Rattle.random.specs.Promises.{Rolling, Searching}
-use Rattle.random.specs.declared.Rolled.{Rolled}
-use Rattle.random.specs.declared.Rolled.the-variants.{Dry, Ended}
+use Rattle.random.specs.declared.Finish.{Finish}
+use Rattle.random.specs.declared.Finish.the-variants.{Dry, Ended}
 use Rattle.rounds.proofs.Ending.{listed-moves}
 use Rattle.zini.specs.Answers.{Kept, KeptList}
 use Rattle.zini.specs.Clearing.{Cleared}
 use Rattle.zini.proofs.Clearing.{area-cleared, list-cleared}
 
 -- the answer to be given for it
-abbrev answerOf : Rolled → Answer
+abbrev answerOf : Finish → Answer
 answerOf (Ended n k) = gives (n ∷ k ∷ [])
 answerOf Dry = refuses draws
 
 differ : (n k : ℕ) → Ended n k ≡ Dry → ⊥
-differ n k e = let q : _≡_ {A = ℕ} 0 6 = ap (λ (r : Rolled). answerOf r .number) e in omega arith
+differ n k e = let q : _≡_ {A = ℕ} 0 6 = ap (λ (r : Finish). answerOf r .number) e in omega arith
 
-module _ (rows columns : ℕ) (g : Grid) (old w w′ : List ℤ) (x : Rolled) where
+module _ (rows columns : ℕ) (g : Grid) (old w w′ : List ℤ) (x : Finish) where
   pub round-ended : (o : Option Round) (before l : List ℕ) (n k : ℕ) → ((r : Round) → o ≡ some r → length (movesOf (r .steps)) ≤ length before)
       → x ≡ Ended n k → ((s : Position) → w ≡ held g s old → w′ ≡ areaOf g s old) → Rolling rows columns g old o before w l x → KeptList (drawnRound g o old before) (gives (n ∷ k ∷ [])) w′ l
   round-ended none before l n k few e f p = absurd (differ n k (sym e ∙ p .answer))
@@ -59,5 +60,5 @@ module _ (rows columns : ℕ) (g : Grid) (old w w′ : List ℤ) (x : Rolled) wh
   search-dry (some r) h e cw p = absurd (differ _ _ (sym (p .answer) ∙ e))
 
 -- the moves of a random round are no more than the cells
-pub few-moves : (g : Grid) (bytes : List ℕ) (n : ℕ) (r : Round) → size g ≤ n → randomRound g bytes 0 ≡ some r → length (movesOf (r .steps)) ≤ n
-few-moves g bytes n r h e = let d = random-sound g bytes 0 r e in omega (arith, d .at-most-units, d .units-at-most)
+pub few-moves : (g : Grid) (source : Source) → Places source → (n : ℕ) (r : Round) → size g ≤ n → randomRound g source 0 ≡ some r → length (movesOf (r .steps)) ≤ n
+few-moves g source p n r h e = let d = random-sound g source p 0 r e in omega (arith, d .at-most-units, d .units-at-most)

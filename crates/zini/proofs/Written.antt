@@ -8,6 +8,7 @@ use mathlib.Core.Option.{Option, none, some}
 use lib.IntN.{ℤ}
 use lib.ListN.{drop, getD, length, length-map, take}
 use borrow.Author.Tests.{ne-eqb}
+use Rattle.game.specs.Draws.{lent}
 use Rattle.game.specs.Grid.{Grid, size}
 use Rattle.game.specs.Area.{listOf}
 use Rattle.game.specs.Moves.{replayFrom, word}
@@ -17,7 +18,9 @@ use Rattle.game.specs.Demands.{Sound, SoundSearch}
 use Rattle.game.specs.Calls.{Answer, ListOutcome, Refusal, board, draws, drawnRound, drawnSearch, firstGiven, frame, gives, greedyCall, gridChecks, listCheck, move, numberOf, openingsFirstCall, playedRound, Outcome, randomRoundCall, randomSearchCall, rounds, roundsCheck, shape, size-over, trace, unless, unlessListed, work}
 use Rattle.game.proofs.Parts.{joined, search-parts}
 use Rattle.game.proofs.Replays.{round-replays}
-use Rattle.game.proofs.Rounds.{greedy-sound, openings-first-sound, random-sound}
+use Rattle.game.proofs.Draws.{lent-places}
+use Rattle.game.proofs.Randoms.{random-sound}
+use Rattle.game.proofs.Rounds.{greedy-sound, openings-first-sound}
 use Rattle.game.proofs.Searches.{search-sound}
 use Rattle.area.proofs.Cells.{cells-few}
 use Rattle.zini.specs.Answers.{Kept, KeptList}
@@ -83,8 +86,8 @@ openings-first-written g w w′ l l′ n k = played-written g (openingsFirstStep
 pub random-written : (g : Grid) (w w′ : List ℤ) (l l′ bytes : List ℕ) (n used : ℕ) → KeptList (randomRoundCall g w l bytes) (gives (n ∷ used ∷ [])) w′ l′ → Written g n l′
 unfolding randomRoundCall
 random-written g w w′ l l′ bytes n used k =
-    let p = not-refused (firstGiven (gridChecks g w ++ listCheck g l ∷ [])) w w′ l l′ (drawnRound g (randomRound g bytes 0) w l) (n ∷ used ∷ []) k in
-    go (randomRound g bytes 0) (λ r e. random-sound g bytes 0 r e) (small g w l (p .0)) (p .1)
+    let p = not-refused (firstGiven (gridChecks g w ++ listCheck g l ∷ [])) w w′ l l′ (drawnRound g (randomRound g (lent bytes) 0) w l) (n ∷ used ∷ []) k in
+    go (randomRound g (lent bytes) 0) (λ r e. random-sound g (lent bytes) (lent-places bytes) 0 r e) (small g w l (p .0)) (p .1)
   where
     go : (o : Option Round) → ((r : Round) → o ≡ some r → Sound g (r .steps)) → size g ≤ 65536 → KeptList (drawnRound g o w l) (gives (n ∷ used ∷ [])) w′ l′ → Written g n l′
     go none d h k = absurd (let e : 0 ≡ numberOf draws = ap (λ (a : Answer). a .number) (k .answers) in omega arith)
@@ -94,11 +97,11 @@ random-written g w w′ l l′ bytes n used k =
 pub search-told : (g : Grid) (w w′ : List ℤ) (bytes : List ℕ) (n clicks used : ℕ) → Kept (randomSearchCall g w bytes n) (gives (clicks ∷ used ∷ [])) w′ → Told g bytes n clicks used
 unfolding randomSearchCall
 search-told g w w′ bytes n clicks used k =
-    let p = not-turned-down (firstGiven (gridChecks g w ++ roundsCheck n ∷ [])) w w′ (drawnSearch g (randomSearch g bytes n) w) (clicks ∷ used ∷ []) k in
+    let p = not-turned-down (firstGiven (gridChecks g w ++ roundsCheck n ∷ [])) w w′ (drawnSearch g (randomSearch g (lent bytes) n) w) (clicks ∷ used ∷ []) k in
     let h : 1 ≤ n = all-passed g w n 1 rounds (ap (λ (b : Bool). firstGiven (gridChecks g w ++ record { given = b; refusal = rounds } ∷ [])) (none-below n) ∙ p .0) .1 in
-    go (randomSearch g bytes n) (λ r e. search-sound g bytes n r h e) refl (p .1)
+    go (randomSearch g (lent bytes) n) (λ r e. search-sound g (lent bytes) (lent-places bytes) n r h e) refl (p .1)
   where
-    go : (o : Option Searched) → ((r : Searched) → o ≡ some r → SoundSearch g bytes n r) → randomSearch g bytes n ≡ o → Kept (drawnSearch g o w) (gives (clicks ∷ used ∷ [])) w′ → Told g bytes n clicks used
+    go : (o : Option Searched) → ((r : Searched) → o ≡ some r → SoundSearch g (lent bytes) n r) → randomSearch g (lent bytes) n ≡ o → Kept (drawnSearch g o w) (gives (clicks ∷ used ∷ [])) w′ → Told g bytes n clicks used
     go none d e k = absurd (let e : 0 ≡ numberOf draws = ap (λ (a : Answer). a .number) (k .answers) in omega arith)
     go (some r) d e k =
         record {
@@ -115,7 +118,7 @@ pub searches-join : (g : Grid) (w w′ v v′ : List ℤ) (bytes : List ℕ) (m 
     → randomSearchCall g w bytes (m + n) .answer ≡ gives (min clicks clicks′ ∷ (used + used′) ∷ [])
 unfolding randomSearchCall
 searches-join g w w′ v v′ bytes m n clicks used clicks′ used′ k k′ =
-    ap (λ (o : Option Refusal). unless o w (drawnSearch g (randomSearch g bytes (m + n)) w) .answer) (given-as (m + n) m (omega (arith, a .sound .as-many)) (omega (arith, a .sound .as-many)) ∙ fine .0)
+    ap (λ (o : Option Refusal). unless o w (drawnSearch g (randomSearch g (lent bytes) (m + n)) w) .answer) (given-as (m + n) m (omega (arith, a .sound .as-many)) (omega (arith, a .sound .as-many)) ∙ fine .0)
     ∙ ap (λ (o : Option Searched). drawnSearch g o w .answer) whole
     ∙ ap₂ (λ (c u : ℕ). gives (c ∷ u ∷ [])) (ap₂ min (sym (a .clicks-are)) (sym (b .clicks-are))) (ap₂ _+_ (sym (a .used-are)) (sym (b .used-are)))
   where
@@ -125,14 +128,14 @@ searches-join g w w′ v v′ bytes m n clicks used clicks′ used′ k k′ =
     b : Told g (drop used bytes) n clicks′ used′
     b = search-told g v v′ (drop used bytes) n clicks′ used′ k′
 
-    fine : (firstGiven (gridChecks g w ++ roundsCheck m ∷ []) ≡ none) × Kept (drawnSearch g (randomSearch g bytes m) w) (gives (clicks ∷ used ∷ [])) w′
-    fine = not-turned-down (firstGiven (gridChecks g w ++ roundsCheck m ∷ [])) w w′ (drawnSearch g (randomSearch g bytes m) w) (clicks ∷ used ∷ []) k
+    fine : (firstGiven (gridChecks g w ++ roundsCheck m ∷ []) ≡ none) × Kept (drawnSearch g (randomSearch g (lent bytes) m) w) (gives (clicks ∷ used ∷ [])) w′
+    fine = not-turned-down (firstGiven (gridChecks g w ++ roundsCheck m ∷ [])) w w′ (drawnSearch g (randomSearch g (lent bytes) m) w) (clicks ∷ used ∷ []) k
 
     given-as : (i j : ℕ) → 1 ≤ i → 1 ≤ j → firstGiven (gridChecks g w ++ roundsCheck i ∷ []) ≡ firstGiven (gridChecks g w ++ roundsCheck j ∷ [])
     given-as i j h l =
         ap (λ (x : Bool). firstGiven (gridChecks g w ++ record { given = x; refusal = rounds } ∷ [])) (ne-eqb i 0 (λ e. omega arith) ∙ sym (ne-eqb j 0 (λ e. omega arith)))
 
-    whole : randomSearch g bytes (m + n) ≡ some (joined (a .came-to) (b .came-to))
+    whole : randomSearch g (lent bytes) (m + n) ≡ some (joined (a .came-to) (b .came-to))
     whole =
         search-parts g bytes m n (a .came-to) (b .came-to) (omega (arith, a .sound .as-many)) (omega (arith, b .sound .as-many)) (a .searched)
-        (ap (λ (i : ℕ). randomSearch g (drop i bytes) n) (sym (a .used-are)) ∙ b .searched)
+        (ap (λ (i : ℕ). randomSearch g (lent (drop i bytes)) n) (sym (a .used-are)) ∙ b .searched)

@@ -4,6 +4,7 @@ use mathlib.Core.Path.{_≡_}
 use mathlib.Core.List.{List, map}
 use mathlib.Core.Option.{some}
 use lib.ListN.{length, take}
+use Rattle.game.specs.Draws.{lent}
 use Rattle.game.specs.Grid.{Grid}
 use Rattle.game.specs.Position.{untouched}
 use Rattle.game.specs.Moves.{replayFrom, whole, word}
@@ -21,7 +22,7 @@ pub record Written (g : Grid) (n : ℕ) (list : List ℕ) : Type 0 where
 -- a search of so many rounds answered clicks and bytes used: the least and the last byte of rounds that each meet demand 3
 pub record Told (g : Grid) (bytes : List ℕ) (rounds clicks used : ℕ) : Type 0 where
   pub came-to : Searched
-  pub searched : randomSearch g bytes rounds ≡ some came-to
+  pub searched : randomSearch g (lent bytes) rounds ≡ some came-to
   pub clicks-are : clicks ≡ came-to .least
   pub used-are : used ≡ came-to .next
-  pub sound : SoundSearch g bytes rounds came-to
+  pub sound : SoundSearch g (lent bytes) rounds came-to

@@ -9,6 +9,7 @@ ghost use mathlib.Core.Option.{Option};
 ghost use Prim.Native.Nat.{ℕ, _*_, _≤_};
 ghost use lib.IntN.{ℤ};
 ghost use lib.ListN.{length};
+ghost use Rattle.game.specs.Draws.{Places, Source, lent};
 ghost use Rattle.game.specs.Grid.{Grid, size};
 ghost use Rattle.game.specs.Rounds.{Searched, randomRound, randomSearch};
 ghost use Rattle.game.specs.Calls.{drawnRound, drawnSearch, randomRoundCall, randomSearchCall};
@@ -19,7 +20,7 @@ ghost use Rattle.zini.specs.Answers.{Kept, KeptList, rolledAnswer};
 
 // A random round's lent memory is handed back: settled, or filled with 0 where the draws ran dry.
 fn end_round(
-    rolled: random::Rolled,
+    rolled: random::Finish,
     rows: usize,
     columns: usize,
     work: &mut [i32],
@@ -27,16 +28,16 @@ fn end_round(
 ) -> Rolled
     requires { ⌜ Shape rows columns ⌝ }
     requires { ⌜ (5 * (rows * columns) ≤ length (now work)) × (rows * columns ≤ length (now list)) ⌝ }
-    ensures { λ r. ⌜ ((g : Grid) (bytes : List ℕ) (old : List ℤ) (before : List ℕ) → size g ≡ rows * columns → 5 * size g ≤ length old → size g ≤ length before
-        → Rolling rows columns g old (randomRound g bytes 0) before (now (work .entry)) (now (list .entry)) rolled
-        → KeptList (drawnRound g (randomRound g bytes 0) old before) (rolledAnswer r) (now (work .exit)) (now (list .exit))) ⌝ }
+    ensures { λ r. ⌜ ((g : Grid) (source : Source) (old : List ℤ) (before : List ℕ) → Places source → size g ≡ rows * columns → 5 * size g ≤ length old → size g ≤ length before
+        → Rolling rows columns g old (randomRound g source 0) before (now (work .entry)) (now (list .entry)) rolled
+        → KeptList (drawnRound g (randomRound g source 0) old before) (rolledAnswer r) (now (work .exit)) (now (list .exit))) ⌝ }
 {
     match rolled {
-        random::Rolled::Ended(clicks, used) => {
+        random::Finish::Ended(clicks, used) => {
             start::begin::settle(work, rows * columns);
             Rolled::Clicks(clicks, used)
         }
-        random::Rolled::Dry => {
+        random::Finish::Dry => {
             clears::clear_area(work, 5 * (rows * columns));
             clears::clear_list(list, rows * columns);
             Rolled::Refused(Refusal::Draws)
@@ -45,18 +46,18 @@ fn end_round(
 }
 
 // A random search's lent memory is handed back: settled, or filled with 0 where the draws ran dry.
-fn end_search(rolled: random::Rolled, rows: usize, columns: usize, work: &mut [i32]) -> Rolled
+fn end_search(rolled: random::Finish, rows: usize, columns: usize, work: &mut [i32]) -> Rolled
     requires { ⌜ Shape rows columns ⌝ }
     requires { ⌜ 5 * (rows * columns) ≤ length (now work) ⌝ }
     ensures { λ r. ⌜ ((g : Grid) (o : Option Searched) (old : List ℤ) → size g ≡ rows * columns → 5 * size g ≤ length old
         → Searching rows columns g old o (now (work .entry)) rolled → Kept (drawnSearch g o old) (rolledAnswer r) (now (work .exit))) ⌝ }
 {
     match rolled {
-        random::Rolled::Ended(least, used) => {
+        random::Finish::Ended(least, used) => {
             start::begin::settle(work, rows * columns);
             Rolled::Clicks(least, used)
         }
-        random::Rolled::Dry => {
+        random::Finish::Dry => {
             clears::clear_area(work, 5 * (rows * columns));
             Rolled::Refused(Refusal::Draws)
         }
@@ -74,7 +75,7 @@ fn roll_checked(
 ) -> Rolled
     requires { ⌜ Shape rows columns ⌝ }
     requires { ⌜ (length (now grid) ≡ rows * columns) × (5 * (rows * columns) ≤ length (now work)) × (rows * columns ≤ length (now list)) ⌝ }
-    ensures { λ r. ⌜ KeptList (drawnRound (gridOf rows columns (now (grid .entry))) (randomRound (gridOf rows columns (now (grid .entry))) (now (draws .entry)) 0) (now (work .entry)) (now (list .entry))) (rolledAnswer r) (now (work .exit)) (now (list .exit)) ⌝ }
+    ensures { λ r. ⌜ KeptList (drawnRound (gridOf rows columns (now (grid .entry))) (randomRound (gridOf rows columns (now (grid .entry))) (lent (now (draws .entry))) 0) (now (work .entry)) (now (list .entry))) (rolledAnswer r) (now (work .exit)) (now (list .exit)) ⌝ }
 {
     let counts = start::begin::set_up(grid, rows, columns, work);
     let safe = counts.safe;
@@ -93,7 +94,7 @@ fn search_checked(
 ) -> Rolled
     requires { ⌜ Shape rows columns ⌝ }
     requires { ⌜ (length (now grid) ≡ rows * columns) × (5 * (rows * columns) ≤ length (now work)) × (1 ≤ rounds) ⌝ }
-    ensures { λ r. ⌜ Kept (drawnSearch (gridOf rows columns (now (grid .entry))) (randomSearch (gridOf rows columns (now (grid .entry))) (now (draws .entry)) rounds) (now (work .entry))) (rolledAnswer r) (now (work .exit)) ⌝ }
+    ensures { λ r. ⌜ Kept (drawnSearch (gridOf rows columns (now (grid .entry))) (randomSearch (gridOf rows columns (now (grid .entry))) (lent (now (draws .entry))) rounds) (now (work .entry))) (rolledAnswer r) (now (work .exit)) ⌝ }
 {
     let counts = start::begin::set_up(grid, rows, columns, work);
     let safe = counts.safe;

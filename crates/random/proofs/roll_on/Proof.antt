@@ -5,17 +5,19 @@ use mathlib.Core.Bool.{false}
 use lib.ListN.{length}
 use borrow.Author.Needs.{needs}
 use Rattle.choices.specs.Tops.{Kept, UnitsKept}
+use Rattle.game.specs.Draws.{lent}
 use Rattle.game.specs.Moves.{after}
 use Rattle.game.specs.Position.{untouched}
-use Rattle.game.specs.Rounds.{movesOf}
-use Rattle.random.proofs.Courses.{Midway, course-breaks, course-ends, course-falls, course-goes-on, midway-begins, moves-few}
+use Rattle.game.proofs.Draws.{lent-places}
+use Rattle.moves.proofs.Partway.{partway-few}
+use Rattle.random.proofs.Courses.{Midway, course-breaks, course-ends, course-falls, course-goes-on, fresh, midway-begins}
 use Rattle.random.proofs.roll_on.Statement.{statement}
 use Rattle.random.proofs.roll_on.Tie as tie
 
 abbrev Inv-loop : tie.InvT-loop
 Inv-loop work₀ rows columns list₀ draws tops₀ units₀ safe next state₀ at₀ work list tops units state at =
     (length work ≡ length work₀) × (length list ≡ length list₀) × (length tops ≡ length tops₀) × (length units ≡ length units₀)
-    × Midway rows columns work₀ draws safe next list₀ work list state at × Kept false work rows columns tops × UnitsKept work rows columns tops units
+    × Midway rows columns work₀ (lent draws) safe next list₀ work list state at × Kept false work rows columns tops × UnitsKept work rows columns tops units
 
 abbrev μ-loop : tie.MeasureT-loop
 μ-loop work₀ rows columns list₀ draws tops₀ units₀ safe next state₀ at₀ work list tops units state at = state .closed
@@ -28,7 +30,7 @@ loop-holds c =
       refl,
       refl,
       refl,
-      midway-begins (a .rows) (a .columns) (a .work .now) (a .draws .now) (a .safe) (a .next) (a .list .now) (b .pre .1 .1 .0),
+      midway-begins (a .rows) (a .columns) (a .work .now) (lent (a .draws .now)) (a .safe) (a .next) (a .list .now) (b .pre .1 .1 .0),
       b .pre .1 .1 .1 .0,
       b .pre .1 .1 .1 .1,
     )
@@ -45,7 +47,7 @@ step-requires c κs =
           omega arith,
           omega (
             arith,
-            moves-few (a .rows) (a .columns) (f .grid) (f .old) (a .draws .now) (a .safe) (a .next) (a .list .now) (l .loop .work) (l .loop .list) (l .loop .state) (l .loop .at)
+            partway-few (a .rows) (a .columns) (f .grid) (untouched (f .grid)) (f .old) (a .list .now) (fresh (a .safe)) _ (l .loop .work) (l .loop .list) (l .loop .state)
                 (l .loop .inv .4 .course (f .grid) (f .old) (f .stands)) (b .pre .0),
           ),
         ),
@@ -77,7 +79,7 @@ returns c =
     let k = x .before .before .before .before .before in
     let l = k .before .before in
     let a = l .before .before .before .before .before .args in
-    λ g old st. course-breaks (a .rows) (a .columns) g old (a .draws .now) (a .safe) (a .next) (a .list .now) (l .loop .work) (l .loop .list) (l .loop .state) (l .loop .at) (l .loop .inv .4 .course g old st)
+    λ g old st. course-breaks (a .rows) (a .columns) g old (lent (a .draws .now)) (a .safe) (a .next) (a .list .now) (l .loop .work) (l .loop .list) (l .loop .state) (l .loop .at) (l .loop .inv .4 .course g old st)
     (x .step .last .0) (x .step .last .1 .1 .1 .0) (x .step .result) (k .if1 .taken) (λ s v f h e. x .step .ensures g s old v f h e .0) (c .enum-told .given .1)
 
 loop-less : tie.Need-loop-less Inv-loop μ-loop
@@ -88,8 +90,8 @@ loop-less c =
     let b = l .before .before .before .before .before in
     let a = b .args in
     let f = b .pre .1 .1 .0 in
-    course-falls (a .rows) (a .columns) (f .grid) (f .old) (a .draws .now) (a .safe) (a .next) (a .list .now) (l .loop .work) (l .loop .list) (l .loop .state) (l .loop .at)
-    (l .loop .inv .4 .course (f .grid) (f .old) (f .stands)) (x .step .last .0) (x .step .last .1 .1 .1 .0) (x .step .result) (k .if1 .taken) (λ s v p h e. x .step .ensures (f .grid) s (f .old) v p h e .0) _ (c .before .before .stepped .given .1)
+    course-falls (a .rows) (a .columns) (f .grid) (f .old) (lent (a .draws .now)) (a .safe) (a .next) (a .list .now) (l .loop .work) (l .loop .list) (l .loop .state) (l .loop .at)
+    (l .loop .inv .4 .course (f .grid) (f .old) (f .stands)) (x .step .last .0) (x .step .last .1 .1 .1 .0) (x .step .result) (k .if1 .taken) (λ s v p h e. x .step .ensures (f .grid) s (f .old) v p h e .0) (lent-places (a .draws .now)) _ (c .before .before .stepped .given .1)
 
 loop-again : tie.Need-loop-again Inv-loop μ-loop
 loop-again c = (
@@ -102,21 +104,21 @@ loop-again c = (
       let l = k .before .before in
       let a = l .before .before .before .before .before .args in
       record {
-        course = λ g old st. course-goes-on (a .rows) (a .columns) g old (a .draws .now) (a .safe) (a .next) (a .list .now) (l .loop .work) (l .loop .list) (l .loop .state) (l .loop .at)
-            (l .loop .inv .4 .course g old st) (x .step .last .0) (x .step .last .1 .1 .1 .0) (x .step .result) (k .if1 .taken) (λ s v f h e. x .step .ensures g s old v f h e .0) _ (c .before .before .stepped .given .1);
+        course = λ g old st. course-goes-on (a .rows) (a .columns) g old (lent (a .draws .now)) (a .safe) (a .next) (a .list .now) (l .loop .work) (l .loop .list) (l .loop .state) (l .loop .at)
+            (l .loop .inv .4 .course g old st) (x .step .last .0) (x .step .last .1 .1 .1 .0) (x .step .result) (k .if1 .taken) (λ s v f h e. x .step .ensures g s old v f h e .0) (lent-places (a .draws .now)) _ (c .before .before .stepped .given .1);
       },
   let x = c .before .before .before .before .before .before .before .before .before .before .before in
       let k = x .before .before .before .before .before in
       let l = k .before .before in
       let f = l .before .before .before .before .before .pre .1 .1 .0 in
       let o = l .loop .inv .4 .course (f .grid) (f .old) (f .stands) in
-      x .step .ensures (f .grid) (after (f .grid) (untouched (f .grid)) (movesOf (o .done))) (f .old) (o .made .stands) (o .made .tidy) (omega (arith, o .made .left-closed, k .if1 .taken)) (o .made .left-closed) .1,
+      x .step .ensures (f .grid) (after (f .grid) (untouched (f .grid)) (o .done)) (f .old) (o .made .stands) (o .made .tidy) (omega (arith, o .made .left-closed, k .if1 .taken)) (o .made .left-closed) .1,
   let x = c .before .before .before .before .before .before .before .before .before .before .before in
       let k = x .before .before .before .before .before in
       let l = k .before .before in
       let f = l .before .before .before .before .before .pre .1 .1 .0 in
       let o = l .loop .inv .4 .course (f .grid) (f .old) (f .stands) in
-      x .step .ensures (f .grid) (after (f .grid) (untouched (f .grid)) (movesOf (o .done))) (f .old) (o .made .stands) (o .made .tidy) (omega (arith, o .made .left-closed, k .if1 .taken)) (o .made .left-closed) .2,
+      x .step .ensures (f .grid) (after (f .grid) (untouched (f .grid)) (o .done)) (f .old) (o .made .stands) (o .made .tidy) (omega (arith, o .made .left-closed, k .if1 .taken)) (o .made .left-closed) .2,
 )
 
 same-length-5 : tie.Need-same-length-5 Inv-loop μ-loop
@@ -135,7 +137,7 @@ returns-2 : tie.Need-returns-2 Inv-loop μ-loop
 returns-2 c =
     let l = c .before .before in
     let a = l .before .before .before .before .before .args in
-    λ g old st. course-ends (a .rows) (a .columns) g old (a .draws .now) (a .safe) (a .next) (a .list .now) (l .loop .work) (l .loop .list) (l .loop .state) (l .loop .at) (l .loop .inv .4 .course g old st) (omega arith)
+    λ g old st. course-ends (a .rows) (a .columns) g old (lent (a .draws .now)) (a .safe) (a .next) (a .list .now) (l .loop .work) (l .loop .list) (l .loop .state) (l .loop .at) (l .loop .inv .4 .course g old st) (omega arith)
 
 pub roll-on-spec : {M : Type 1} → statement M
 roll-on-spec =

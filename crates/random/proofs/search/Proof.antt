@@ -1,6 +1,7 @@
 -- `random::search`: the first round, then the others. Assumes nothing.
 use mathlib.Core.Path.{subst, sym}
 use mathlib.Core.Option.{Option}
+use Rattle.game.specs.Draws.{lent}
 use Rattle.game.specs.Rounds.{Searched}
 use Rattle.random.specs.Promises.{Searching}
 use Rattle.random.proofs.Searches.{first-breaks, first-ends}
@@ -24,13 +25,13 @@ returns : tie.Need-returns
 returns c =
     let x = c .before .before .before in
     let a = x .before .before .before .args in
-    λ g old st. first-breaks (a .rows) (a .columns) g old (a .draws .now) (x .unlisted .last .0) (x .unlisted .result) (x .unlisted .ensures g old st) (a .rounds) (c .enum-told .given .1)
+    λ g old st. first-breaks (a .rows) (a .columns) g old (lent (a .draws .now)) (x .unlisted .last .0) (x .unlisted .result) (x .unlisted .ensures g old st) (a .rounds) (c .enum-told .given .1)
 
-sub-still : tie.Need-sub-still
-sub-still c = search needs
+sub-rounds-left : tie.Need-sub-rounds-left
+sub-rounds-left c = search needs
 
-still-requires : tie.Need-still-requires
-still-requires c κs = search needs
+rounds-left-requires : tie.Need-rounds-left-requires
+rounds-left-requires c κs = search needs
 
 search-on-requires : tie.Need-search-on-requires
 search-on-requires c κs =
@@ -40,8 +41,8 @@ search-on-requires c κs =
     let b = x .before .before .before in
     let a = b .args in
     let f = b .pre .1 .1 in
-    let d = first-ends (a .rows) (a .columns) (f .grid) (f .old) (a .draws .now) (x .unlisted .last .0) (x .unlisted .result) (x .unlisted .ensures (f .grid) (f .old) (f .stands)) (a .rounds)
-    _ _ (z .still .result) (o .rolled .given .1) (z .still .ensures .0) in
+    let d = first-ends (a .rows) (a .columns) (f .grid) (f .old) (lent (a .draws .now)) (x .unlisted .last .0) (x .unlisted .result) (x .unlisted .ensures (f .grid) (f .old) (f .stands)) (a .rounds)
+    _ _ (z .rounds-left .result) (o .rolled .given .1) (z .rounds-left .ensures .0) in
     (b .pre .0, (search needs, record { grid = f .grid; old = f .old; moves = d .moves; stands = d .stands; counts = f .counts }))
 
 same-length-2 : tie.Need-same-length-2
@@ -55,8 +56,8 @@ returns-2 c =
     let x = o .before .before .before in
     let a = x .before .before .before .args in
     λ g old st.
-    let d = first-ends (a .rows) (a .columns) g old (a .draws .now) (x .unlisted .last .0) (x .unlisted .result) (x .unlisted .ensures g old st) (a .rounds)
-    _ _ (z .still .result) (o .rolled .given .1) (z .still .ensures .0) in
+    let d = first-ends (a .rows) (a .columns) g old (lent (a .draws .now)) (x .unlisted .last .0) (x .unlisted .result) (x .unlisted .ensures g old st) (a .rounds)
+    _ _ (z .rounds-left .result) (o .rolled .given .1) (z .rounds-left .ensures .0) in
     subst (λ (s : Option Searched). Searching (a .rows) (a .columns) g old s (y .search-on .last .0) (y .search-on .result)) (sym (d .rest)) (y .search-on .ensures g old (d .moves) (d .stands))
 
 pub search-spec : {M : Type 1} → statement M
@@ -68,8 +69,8 @@ search-spec =
     enum-told
     same-length
     returns
-    sub-still
-    still-requires
+    sub-rounds-left
+    rounds-left-requires
     search-on-requires
     same-length-2
     returns-2)

@@ -3,6 +3,7 @@ use native.Mathlib.Omega.{arith}
 use mathlib.Core.Path.{_≡_, refl}
 use lib.ListN.{length}
 use borrow.Author.Needs.{needs}
+use Rattle.game.specs.Draws.{lent}
 use Rattle.game.specs.Moves.{after}
 use Rattle.game.specs.Position.{untouched}
 use Rattle.game.specs.Rounds.{searchFrom}
@@ -12,7 +13,7 @@ use Rattle.random.proofs.search_on.Tie as tie
 
 abbrev Inv-loop : tie.InvT-loop
 Inv-loop work₀ rows columns draws safe clicks next more least₀ at₀ left₀ work least at left =
-    (length work ≡ length work₀) × Midway rows columns work₀ draws clicks next more work least at left
+    (length work ≡ length work₀) × Midway rows columns work₀ (lent draws) clicks next more work least at left
 
 abbrev μ-loop : tie.MeasureT-loop
 μ-loop work₀ rows columns draws safe clicks next more least₀ at₀ left₀ work least at left = turns (length draws) at left
@@ -28,7 +29,7 @@ again-requires c κs =
       b .pre .0,
       (
         search needs,
-        still-counted (a .rows) (a .columns) (a .work .now) (a .draws .now) (a .clicks) (a .next) (a .more) (l .loop .work) (l .loop .least) (l .loop .at) (l .loop .left) (a .safe)
+        still-counted (a .rows) (a .columns) (a .work .now) (lent (a .draws .now)) (a .clicks) (a .next) (a .more) (l .loop .work) (l .loop .least) (l .loop .at) (l .loop .left) (a .safe)
             (l .loop .inv .1) (b .pre .1 .1),
       ),
     )
@@ -50,17 +51,17 @@ returns c =
     let a = l .before .before .args in
     λ g old ms st.
     let f = l .loop .inv .1 .sofar g old ms st in
-    search-breaks (a .rows) (a .columns) g old (a .draws .now) (l .loop .at) (x .again .last .0) (x .again .result) (x .again .ensures g (after g (untouched g) (f .moves)) old (f .stands))
-    (searchFrom (a .more) g (a .draws .now) (record { least = a .clicks; next = a .next; moves = ms })) (l .loop .work) (l .loop .least) (l .loop .left) f (omega arith) (c .enum-told .given .1)
+    search-breaks (a .rows) (a .columns) g old (lent (a .draws .now)) (l .loop .at) (x .again .last .0) (x .again .result) (x .again .ensures g (after g (untouched g) (f .moves)) old (f .stands))
+    (searchFrom (a .more) g (lent (a .draws .now)) (record { least = a .clicks; next = a .next; moves = ms })) (l .loop .work) (l .loop .least) (l .loop .left) f (omega arith) (c .enum-told .given .1)
 
 fewer-requires : tie.Need-fewer-requires Inv-loop μ-loop
 fewer-requires c κs = search needs
 
-sub-still : tie.Need-sub-still Inv-loop μ-loop
-sub-still c = search needs
+sub-rounds-left : tie.Need-sub-rounds-left Inv-loop μ-loop
+sub-rounds-left c = search needs
 
-still-requires : tie.Need-still-requires Inv-loop μ-loop
-still-requires c κs = search needs
+rounds-left-requires : tie.Need-rounds-left-requires Inv-loop μ-loop
+rounds-left-requires c κs = search needs
 
 loop-less : tie.Need-loop-less Inv-loop μ-loop
 loop-less c =
@@ -69,10 +70,10 @@ loop-less c =
     let l = x .before .before .before in
     let b = l .before .before in
     let a = b .args in
-    let f = still-counted (a .rows) (a .columns) (a .work .now) (a .draws .now) (a .clicks) (a .next) (a .more) (l .loop .work) (l .loop .least) (l .loop .at) (l .loop .left) (a .safe)
+    let f = still-counted (a .rows) (a .columns) (a .work .now) (lent (a .draws .now)) (a .clicks) (a .next) (a .more) (l .loop .work) (l .loop .least) (l .loop .at) (l .loop .left) (a .safe)
     (l .loop .inv .1) (b .pre .1 .1) in
     turns-fall (a .rows) (a .columns) (a .draws .now) (l .loop .at) (l .loop .work) (x .again .last .0) (x .again .result) (a .safe) f (x .again .ensures)
-    _ _ (l .loop .left) (c .still .result) (o .rolled .given .1) (omega arith) (c .still .ensures .0)
+    _ _ (l .loop .left) (c .rounds-left .result) (o .rolled .given .1) (omega arith) (c .rounds-left .ensures .0)
 
 loop-again : tie.Need-loop-again Inv-loop μ-loop
 loop-again c =
@@ -85,9 +86,9 @@ loop-again c =
       record {
         sofar = λ g old ms st.
             let f = l .loop .inv .1 .sofar g old ms st in
-            search-goes-on (a .rows) (a .columns) g old (a .draws .now) (l .loop .at) (x .again .last .0) (x .again .result) (x .again .ensures g (after g (untouched g) (f .moves)) old (f .stands))
-            (searchFrom (a .more) g (a .draws .now) (record { least = a .clicks; next = a .next; moves = ms })) (l .loop .work) (l .loop .least) (l .loop .left) f (omega arith)
-            _ _ (c .before .fewer .result) (c .still .result) (o .rolled .given .1) (c .before .fewer .ensures) (c .still .ensures .0);
+            search-goes-on (a .rows) (a .columns) g old (lent (a .draws .now)) (l .loop .at) (x .again .last .0) (x .again .result) (x .again .ensures g (after g (untouched g) (f .moves)) old (f .stands))
+            (searchFrom (a .more) g (lent (a .draws .now)) (record { least = a .clicks; next = a .next; moves = ms })) (l .loop .work) (l .loop .least) (l .loop .left) f (omega arith)
+            _ _ (c .before .fewer .result) (c .rounds-left .result) (o .rolled .given .1) (c .before .fewer .ensures) (c .rounds-left .ensures .0);
       },
     )
 
@@ -98,7 +99,7 @@ returns-2 : tie.Need-returns-2 Inv-loop μ-loop
 returns-2 c =
     let l = c .before in
     let a = l .before .before .args in
-    λ g old ms st. search-ends (a .rows) (a .columns) g old (a .draws .now) (searchFrom (a .more) g (a .draws .now) (record { least = a .clicks; next = a .next; moves = ms }))
+    λ g old ms st. search-ends (a .rows) (a .columns) g old (lent (a .draws .now)) (searchFrom (a .more) g (lent (a .draws .now)) (record { least = a .clicks; next = a .next; moves = ms }))
     (l .loop .work) (l .loop .least) (l .loop .at) (l .loop .left) (l .loop .inv .1 .sofar g old ms st) (omega arith)
 
 pub search-on-spec : {M : Type 1} → statement M
@@ -114,8 +115,8 @@ search-on-spec =
     same-length
     returns
     fewer-requires
-    sub-still
-    still-requires
+    sub-rounds-left
+    rounds-left-requires
     loop-less
     loop-again
     same-length-2

@@ -6,15 +6,17 @@ use lib.ListN.{length}
 use borrow.Author.Needs.{needs}
 use Rattle.choices.specs.Tests.{NoUnitBelow}
 use Rattle.choices.specs.Tops.{Kept}
+use Rattle.game.specs.Moves.{after}
 use Rattle.game.specs.Position.{closedSafe}
 use Rattle.rounds.proofs.Lows.{low-goes-on}
-use Rattle.rounds.proofs.Onward.{Midway, Underway, closed-falls, midway-begins, midway-ends, midway-goes-on, underway-begins, underway-goes-on, underway-stands}
+use Rattle.moves.proofs.Partway.{partway-few}
+use Rattle.rounds.proofs.Onward.{Midway, closed-falls, known, midway-begins, midway-ends, midway-goes-on}
 use Rattle.rounds.proofs.whole.play_on.Statement.{statement}
 use Rattle.rounds.proofs.whole.play_on.Tie as tie
 
 abbrev Inv-loop : tie.InvT-loop
 Inv-loop work₀ rows columns list₀ tops₀ opened-only current₀ from₀ work list tops current from =
-    (length work ≡ length work₀) × (length list ≡ length list₀) × (length tops ≡ length tops₀) × Underway rows columns work current
+    (length work ≡ length work₀) × (length list ≡ length list₀) × (length tops ≡ length tops₀)
     × Midway opened-only rows columns work₀ list₀ current₀ work list current × Kept opened-only work rows columns tops × (from ≤ columns) × NoUnitBelow work (from * rows)
 
 abbrev μ-loop : tie.MeasureT-loop
@@ -27,7 +29,6 @@ loop-holds c =
       refl,
       refl,
       refl,
-      underway-begins (a .rows) (a .columns) (a .work .now) (a .state) (b .pre .0) (b .pre .1 .1 .0) (b .pre .1 .0 .1),
       midway-begins (a .opened-only) (a .rows) (a .columns) (a .work .now) (a .list .now) (a .state),
       b .pre .1 .1 .1,
       omega arith,
@@ -39,33 +40,40 @@ step-requires c κs =
     let l = c .before .before .before .before .before in
     let b = l .before .before .before in
     let a = b .args in
-    let u = l .loop .inv .3 in
-    (b .pre .0, ((omega arith, omega (arith, u .few), l .loop .inv .6, l .loop .inv .7), (l .loop .inv .5, underway-stands (a .rows) (a .columns) (l .loop .work) (l .loop .current) u)))
+    let g = b .pre .1 .1 .0 in
+    let o = known (a .opened-only) (a .rows) (a .columns) (a .work .now) (a .list .now) (a .state) (l .loop .work) (l .loop .list) (l .loop .current) (l .loop .inv .3) g in
+    let few = partway-few (a .rows) (a .columns) (g .grid) (g .position) (g .old) (a .list .now) (a .state) _ (l .loop .work) (l .loop .list) (l .loop .current) o (b .pre .0) in
+    (b .pre .0, ((omega arith, omega (arith, few, b .pre .1 .0 .1), l .loop .inv .5, l .loop .inv .6), (l .loop .inv .4, record { grid = g .grid; position = after (g .grid) (g .position) (o .done); old = g .old; stands = o .made .stands })))
 
 loop-less : tie.Need-loop-less Inv-loop μ-loop
 loop-less c =
     let x = c .before .before .before .before .before .before .step in
     let n = c .before .before .before .before .before .before .before .before .before .before in
     let l = n .before .before in
-    let a = l .before .before .before .args in
-    closed-falls _ (a .rows) (a .columns) (l .loop .work) (l .loop .list) (l .loop .current) (x .last .0) (x .last .1 .1 .1 .0) (x .result .state) (λ g s old st f h e. x .ensures g s old st f h e .made) (n .if1 .taken) (l .loop .inv .3)
+    let b = l .before .before .before in
+    let a = b .args in
+    closed-falls (a .opened-only) (a .rows) (a .columns) (a .work .now) (a .list .now) (a .state) (l .loop .work) (l .loop .list) (l .loop .current) (l .loop .inv .3)
+    (x .last .0) (x .last .1 .1 .1 .0) (x .result .state) (λ g s old st f h e. x .ensures g s old st f h e .made) (n .if1 .taken) (b .pre .1 .1 .0)
 
 loop-again : tie.Need-loop-again Inv-loop μ-loop
 loop-again c =
     let x = c .before .before .before .before .before .before .step in
     let n = c .before .before .before .before .before .before .before .before .before .before in
     let l = n .before .before in
-    let a = l .before .before .before .args in
-    let u = l .loop .inv .3 .going in
-    let h : 1 ≤ closedSafe (u .grid) (u .position) = omega (arith, u .counts, n .if1 .taken) in
-    let q = x .ensures (u .grid) (u .position) (u .old) (u .stands) (u .tidy) h (u .counts) in
-    let low = low-goes-on (a .opened-only) (a .rows) (a .columns) (u .grid) (u .position) (u .old) (l .loop .work) (x .last .0) (l .loop .from) (x .result .from)
-    (u .stands) (u .tidy) (q .made .stands) h (q .column) (l .loop .inv .6, l .loop .inv .7) in (
+    let b = l .before .before .before in
+    let a = b .args in
+    let g = b .pre .1 .1 .0 in
+    let o = known (a .opened-only) (a .rows) (a .columns) (a .work .now) (a .list .now) (a .state) (l .loop .work) (l .loop .list) (l .loop .current) (l .loop .inv .3) g in
+    let u = o .made in
+    let p = after (g .grid) (g .position) (o .done) in
+    let h : 1 ≤ closedSafe (g .grid) p = omega (arith, u .left-closed, n .if1 .taken) in
+    let q = x .ensures (g .grid) p (g .old) (u .stands) (u .tidy) h (u .left-closed) in
+    let low = low-goes-on (a .opened-only) (a .rows) (a .columns) (g .grid) p (g .old) (l .loop .work) (x .last .0) (l .loop .from) (x .result .from)
+    (u .stands) (u .tidy) (q .made .stands) h (q .column) (l .loop .inv .5, l .loop .inv .6) in (
       search needs,
       search needs,
       search needs,
-      underway-goes-on _ (a .rows) (a .columns) (l .loop .work) (l .loop .list) (l .loop .current) (x .last .0) (x .last .1 .1 .1 .0) (x .result .state) (λ g s old st f h e. x .ensures g s old st f h e .made) (n .if1 .taken) (l .loop .inv .3),
-      midway-goes-on (a .opened-only) (a .rows) (a .columns) (a .work .now) (a .list .now) (a .state) (l .loop .work) (l .loop .list) (l .loop .current) (l .loop .inv .4)
+      midway-goes-on (a .opened-only) (a .rows) (a .columns) (a .work .now) (a .list .now) (a .state) (l .loop .work) (l .loop .list) (l .loop .current) (l .loop .inv .3)
           (x .last .0) (x .last .1 .1 .1 .0) (x .result .state) (λ g s old st f h e. x .ensures g s old st f h e .made) (n .if1 .taken),
       q .kept,
       omega (arith, low .0),
@@ -85,7 +93,7 @@ returns : tie.Need-returns Inv-loop μ-loop
 returns c =
     let l = c .before .before in
     let a = l .before .before .before .args in
-    midway-ends (a .opened-only) (a .rows) (a .columns) (a .work .now) (a .list .now) (a .state) (l .loop .work) (l .loop .list) (l .loop .current) (l .loop .inv .4) (omega arith)
+    midway-ends (a .opened-only) (a .rows) (a .columns) (a .work .now) (a .list .now) (a .state) (l .loop .work) (l .loop .list) (l .loop .current) (l .loop .inv .3) (omega arith)
 
 pub play-on-spec : {M : Type 1} → statement M
 play-on-spec =

@@ -43,9 +43,9 @@ same-length c = search needs
 returns : tie.Need-returns
 returns c =
     let a = c .before .before .before .before .before .before .before .args in
-    λ g bytes old before e h b p.
-    round-ended (a .rows) (a .columns) g old (a .work .now) (c .before .settle .last .0) (a .rolled) (randomRound g bytes 0) before (a .list .now) _ _
-    (λ r q. few-moves g bytes (length before) r b q) (c .before .before .before .before .rolled .given .1) (λ s q. c .before .settle .ensures g s old e h q) p
+    λ g source old before d e h b p.
+    round-ended (a .rows) (a .columns) g old (a .work .now) (c .before .settle .last .0) (a .rolled) (randomRound g source 0) before (a .list .now) _ _
+    (λ r q. few-moves g source d (length before) r b q) (c .before .before .before .before .rolled .given .1) (λ s q. c .before .settle .ensures g s old e h q) p
 
 same-length-2 : tie.Need-same-length-2
 same-length-2 c = search needs
@@ -56,8 +56,8 @@ same-length-3 c = search needs
 returns-2 : tie.Need-returns-2
 returns-2 c =
     let a = c .before .before .before .before .before .before .before .before .before .before .args in
-    λ g bytes old before e h b p.
-    round-dry (a .rows) (a .columns) g old (a .work .now) (c .before .before .before .before .before .clear-area .last .0) (a .rolled) (randomRound g bytes 0) before (a .list .now) (c .before .before .clear-list .last .0) h b (c .before .before .before .before .before .before .before .enum-told .given .1)
+    λ g source old before d e h b p.
+    round-dry (a .rows) (a .columns) g old (a .work .now) (c .before .before .before .before .before .clear-area .last .0) (a .rolled) (randomRound g source 0) before (a .list .now) (c .before .before .clear-list .last .0) h b (c .before .before .before .before .before .before .before .enum-told .given .1)
     (subst (λ (n : ℕ). Cleared (pos 0) (5 * n) (a .work .now) (c .before .before .before .before .before .clear-area .last .0)) (sym e) (c .before .before .before .before .before .clear-area .ensures))
     (subst (λ (n : ℕ). Cleared 0 n (a .list .now) (c .before .before .clear-list .last .0)) (sym e) (c .before .before .clear-list .ensures)) p
 

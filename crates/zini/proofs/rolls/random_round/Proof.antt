@@ -6,6 +6,7 @@ use Prim.Native.Nat.{_*_}
 use lib.ListN.{length}
 use Rattle.area.specs.Numbers.{gridOf}
 use Rattle.checks.specs.Refusals.{refusalOf}
+use Rattle.game.specs.Draws.{lent}
 use Rattle.game.specs.Rounds.{randomRound}
 use Rattle.game.specs.Calls.{ListOutcome, Refusal, drawnRound, firstGiven, gridChecks, randomRoundCall, trace}
 use Rattle.checks.proofs.More.{reaches, all-passed}
@@ -23,7 +24,7 @@ given c =
 abbrev come : tie.Start → ListOutcome
 come c =
     let g = gridOf (c .args .rows) (c .args .columns) (c .args .grid .now) in
-    drawnRound g (randomRound g (c .args .draws .now) 0) (c .args .work .now) (c .args .list .now)
+    drawnRound g (randomRound g (lent (c .args .draws .now)) 0) (c .args .work .now) (c .args .list .now)
 
 -- where nothing is refused
 verdict : (c : tie.After-enum-told) → given (c .before .before .before .before .before .before .before) ≡ none

@@ -7,6 +7,7 @@ use Rattle.checks.specs.Refusals.{refusalOf}
 use mathlib.Core.Bool.{Bool}
 use mathlib.Core.List.{[], _∷_}
 use lib.Dec.{eqb, ltb}
+use Rattle.game.specs.Draws.{lent}
 use Rattle.game.specs.Rounds.{randomSearch}
 use Rattle.game.specs.Calls.{Outcome, Refusal, drawnSearch, firstGiven, gridChecks, randomSearchCall, rounds}
 use Rattle.checks.proofs.More.{all-passed, none-below}
@@ -21,7 +22,7 @@ given c none-at-all = firstGiven (gridChecks (gridOf (c .args .rows) (c .args .c
 
 -- what the call comes to where none is
 abbrev come : tie.Start → Outcome
-come c = let g = gridOf (c .args .rows) (c .args .columns) (c .args .grid .now) in drawnSearch g (randomSearch g (c .args .draws .now) (c .args .rounds)) (c .args .work .now)
+come c = let g = gridOf (c .args .rows) (c .args .columns) (c .args .grid .now) in drawnSearch g (randomSearch g (lent (c .args .draws .now)) (c .args .rounds)) (c .args .work .now)
 
 -- where nothing is refused
 verdict : (c : tie.After-enum-told) → given (c .before .before .before .before .before) (ltb (c .before .before .before .before .before .args .rounds) 1) ≡ none

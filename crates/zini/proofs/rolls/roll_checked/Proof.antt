@@ -1,6 +1,8 @@
 -- `zini::rolls::roll_checked`: set up, played, handed back. Assumes nothing.
 use mathlib.Core.Path.{refl}
+use Rattle.game.specs.Draws.{lent}
 use Rattle.game.specs.Position.{untouched}
+use Rattle.game.proofs.Draws.{lent-places}
 use Rattle.area.specs.Numbers.{gridOf}
 use Rattle.area.specs.Stages.{Stands}
 use Rattle.zini.proofs.Played.{fresh}
@@ -35,7 +37,7 @@ returns : tie.Need-returns
 returns c =
     let a = c .before .before .before .before .before .before .before .before .before .before .before .before .before .before .before .before .before .args in
     let g = gridOf (a .rows) (a .columns) (a .grid .now) in
-    c .before .before .before .end-round .ensures g (a .draws .now) (a .work .now) (a .list .now) refl (c .before .before .before .before .before .before .before .before .before .before .before .before .before .before .before .before .before .pre .1 .1) (c .before .before .before .before .before .before .before .before .before .before .before .before .before .before .before .before .before .pre .1 .2)
+    c .before .before .before .end-round .ensures g (lent (a .draws .now)) (a .work .now) (a .list .now) (lent-places (a .draws .now)) refl (c .before .before .before .before .before .before .before .before .before .before .before .before .before .before .before .before .before .pre .1 .1) (c .before .before .before .before .before .before .before .before .before .before .before .before .before .before .before .before .before .pre .1 .2)
     (c .before .before .before .before .before .before .before .before .before .round .ensures g (a .work .now) (begun (c .before .before .before .before .before .before .before .before .before .before .before .before .before)))
 
 pub roll-checked-spec : {M : Type 1} → statement M

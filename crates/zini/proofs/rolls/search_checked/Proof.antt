@@ -1,5 +1,6 @@
 -- `zini::rolls::search_checked`: set up, played, handed back. Assumes nothing.
 use mathlib.Core.Path.{refl}
+use Rattle.game.specs.Draws.{lent}
 use Rattle.game.specs.Position.{untouched}
 use Rattle.game.specs.Rounds.{randomSearch}
 use Rattle.area.specs.Numbers.{gridOf}
@@ -33,7 +34,7 @@ returns : tie.Need-returns
 returns c =
     let a = c .before .before .before .before .before .before .before .before .before .before .args in
     let g = gridOf (a .rows) (a .columns) (a .grid .now) in
-    c .before .end-search .ensures g (randomSearch g (a .draws .now) (a .rounds)) (a .work .now) refl (c .before .before .before .before .before .before .before .before .before .before .pre .1 .1)
+    c .before .end-search .ensures g (randomSearch g (lent (a .draws .now)) (a .rounds)) (a .work .now) refl (c .before .before .before .before .before .before .before .before .before .before .pre .1 .1)
     (c .before .before .before .before .search .ensures g (a .work .now) (begun (c .before .before .before .before .before .before .before)))
 
 pub search-checked-spec : {M : Type 1} → statement M

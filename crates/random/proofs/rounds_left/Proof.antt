@@ -1,10 +1,10 @@
--- `random::still`: the test tells which. Assumes nothing.
+-- `random::rounds_left`: the test tells which. Assumes nothing.
 use native.Mathlib.Omega.{arith}
 use mathlib.Core.Path.{ap, sym}
 use mathlib.Core.Bool.{Bool, cond}
 use Rattle.game.proofs.Truth.{eqb-no, eqb-yes}
-use Rattle.random.proofs.still.Statement.{statement}
-use Rattle.random.proofs.still.Tie as tie
+use Rattle.random.proofs.rounds_left.Statement.{statement}
+use Rattle.random.proofs.rounds_left.Tie as tie
 
 returns : tie.Need-returns
 returns c =
@@ -16,5 +16,5 @@ returns-2 c =
     let a = c .before .args in
     (ap (λ (b : Bool). cond b 0 (a .rounds)) (sym (eqb-no (a .next) (a .began) (c .if1 .left))), omega arith)
 
-pub still-spec : {M : Type 1} → statement M
-still-spec = tie.close (tie.spec returns returns-2)
+pub rounds-left-spec : {M : Type 1} → statement M
+rounds-left-spec = tie.close (tie.spec returns returns-2)
