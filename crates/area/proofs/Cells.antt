@@ -5,8 +5,8 @@ use native.Mathlib.Nat.{mul-le-mul-left, mul-le-mul-right}
 use mathlib.Core.Path.{_≡_, ap, sym, _∙_}
 use mathlib.Core.List.{List}
 use lib.IntN.{ℤ}
-use Rattle.game.specs.Grid.{mine}
-use Rattle.game.proofs.Squares.{index-row, index-column}
+use Rattle.game.specs.Grid.{Grid, columnOf, mine, rowOf}
+use Rattle.game.proofs.Squares.{index-column, index-of, index-row}
 use Rattle.area.specs.Numbers.{gridOf, rowMine}
 use Rattle.area.specs.Stages.{Shape}
 
@@ -23,6 +23,10 @@ cell-below rows columns row column h k = omega (arith, mul-le-mul-right rows k)
 -- a place in the grid's values too
 pub place-below : (rows columns row column : ℕ) → row < rows → column < columns → row * columns + column < rows * columns
 place-below rows columns row column h k = omega (arith, mul-le-mul-right columns h)
+
+-- a cell by its column
+pub placed : (g : Grid) (rows y q : ℕ) → g .rows ≡ rows → columnOf g y ≡ q → q * rows + rowOf g y ≡ y
+placed g rows y q e f = rw (← f, ← e) (index-of g y)
 
 -- there are at most 65025 cells
 pub cells-few : (rows columns : ℕ) → Shape rows columns → rows * columns ≤ 65025

@@ -1,8 +1,11 @@
 pub mod Signs
 pub mod Cells
 pub mod Tests
+pub mod Puts
+pub mod Rows
+pub mod Shifts
+pub mod CellByCell
 pub mod Held
 pub mod Sides
 pub mod Marks
 pub mod Spans
-pub mod Puts

@@ -18,12 +18,6 @@ use Rattle.area.specs.Squares.{Neighbour, nearCell, onGrid, side}
 use Rattle.area.specs.Stages.{Shape}
 
 module _ (rows columns : ℕ) (s : Shape rows columns) where
-  pub row-of : (i : ℕ) → i % rows < rows
-  row-of i = mod-lt i (s .some-rows)
-
-  pub column-of : (i : ℕ) → i < rows * columns → i / rows < columns
-  column-of i h = column-lt (gridOf rows columns []) i h
-
   -- no neighbour there
   pub off-grid : (i d e : ℕ) → ((y : ℕ) → y < rows * columns → y % rows + 1 ≡ i % rows + d → y / rows + 1 ≡ i / rows + e → ⊥)
       → Neighbour (gridOf rows columns []) i d e (rows * columns)

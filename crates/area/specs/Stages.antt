@@ -1,14 +1,15 @@
 -- What the work area holds while a call runs. Assumes nothing.
-use Prim.Native.Nat.{ℕ, _+_, _-_, _*_, _≤_}
+use Prim.Native.Nat.{ℕ, _+_, _-_, _≤_}
 use mathlib.Core.Path.{_≡_}
 use mathlib.Core.Bool.{cond}
-use mathlib.Core.List.{List, [], _∷_}
-use lib.IntN.{ℤ, pos}
+use mathlib.Core.List.{List}
+use lib.IntN.{ℤ}
 use lib.ListN.{getD, length}
 use Rattle.game.specs.Grid.{Grid, size, mine, number}
 use Rattle.game.specs.Openings.{firstLabel, secondLabel}
 use Rattle.game.specs.Position.{Position, gain, cost}
 use Rattle.game.specs.Area.{laid}
+use Rattle.area.specs.Numbers.{HasCells, five}
 
 -- what tells a cell's kind: 0 for a mine, 1 more than its number for a safe cell
 unfoldable pub kind : Grid → ℕ → ℕ
@@ -18,18 +19,17 @@ kind g i = cond (mine g i) 0 (1 + number g i)
 unfoldable pub raised : Grid → Position → ℕ → ℕ
 raised g s i = cond (mine g i) 0 (10 + gain g s i - cost g s i)
 
--- before labelling: the third number holds the kind
+-- before labelling: the kind alone
 unfoldable pub loadedFive : Grid → ℕ → List ℤ
-loadedFive g i = pos 0 ∷ pos 0 ∷ pos (kind g i) ∷ pos 0 ∷ pos 0 ∷ []
+loadedFive g i = five 0 0 0 0 (kind g i)
 
 -- once labelled
 unfoldable pub labelledFive : Grid → ℕ → List ℤ
-labelledFive g i = pos (firstLabel g i) ∷ pos (secondLabel g i) ∷ pos (kind g i) ∷ pos 0 ∷ pos 0 ∷ []
+labelledFive g i = five (firstLabel g i) (secondLabel g i) 0 0 (kind g i)
 
 -- during play: labels, raised premium, state, kind
 unfoldable pub heldFive : Grid → Position → ℕ → List ℤ
-heldFive g s i =
-    pos (firstLabel g i) ∷ pos (secondLabel g i) ∷ pos (raised g s i) ∷ pos (getD s i 0) ∷ pos (kind g i) ∷ []
+heldFive g s i = five (firstLabel g i) (secondLabel g i) (raised g s i) (getD s i 0) (kind g i)
 
 -- the work area during play
 abbrev pub held : Grid → Position → List ℤ → List ℤ
@@ -47,7 +47,7 @@ pub record Stands (rows columns : ℕ) (g : Grid) (s : Position) (old w : List �
   pub rows-are : g .rows ≡ rows
   pub columns-are : g .columns ≡ columns
   pub shape : Shape rows columns
-  pub room : 5 * size g ≤ length old
+  pub room : HasCells old (size g)
   pub long : length s ≡ size g
   pub holds-it : w ≡ held g s old
 

@@ -8,6 +8,7 @@ use mathlib.Core.Bool.{false, true}
 use mathlib.Core.List.{List}
 use lib.Dec.{T}
 use lib.IntN.{ℤ}
+use Rattle.area.proofs.Held.{held-numbers}
 use Rattle.area.specs.Stages.{Stands}
 use Rattle.area.proofs.Cells.{cell-below}
 use Rattle.choices.specs.declared.Found.{Found}
@@ -19,7 +20,6 @@ use Rattle.game.specs.Lists.{keep, range}
 use Rattle.game.specs.Position.{Position}
 use Rattle.game.specs.Rounds.{unitCells}
 use Rattle.game.proofs.Squares.{index-column, index-lt}
-use Rattle.marks.proofs.Held.{held-numbers}
 use Rattle.choices.proofs.Held.{units-there}
 use Rattle.choices.proofs.Passing.{found-at, found-none}
 

@@ -11,7 +11,7 @@ use mathlib.Core.List.{List, [], _∷_}
 use borrow.Author.Tests.{le-ltb, lt-ltb}
 use lib.Dec.{T, eqb, eqb-refl, eqb→eq, ltb}
 use lib.IntN.{ℤ}
-use Rattle.area.specs.Numbers.{numberAt}
+use Rattle.area.specs.Numbers.{premiumAt}
 use Rattle.game.specs.Lists.{fold, from, has, range}
 use Rattle.game.proofs.Members.{has-cases, has-head, has-range, has-tail, range-has}
 use Rattle.game.proofs.Truth.{and-left, and-right}
@@ -19,27 +19,27 @@ use Rattle.choices.specs.Tests.{lookedAt, topAt}
 use Rattle.choices.specs.Tops.{columnTop, firstOf, higherOf, topWith}
 
 -- a cell of that premium is looked at and has it
-pub top→looked : (openedOnly : Bool) (m : ℕ) (w : List ℤ) (i : ℕ) → T (topAt openedOnly m w i) → T (lookedAt openedOnly w i) × (numberAt w (5 * i + 2) ≡ m)
+pub top→looked : (openedOnly : Bool) (m : ℕ) (w : List ℤ) (i : ℕ) → T (topAt openedOnly m w i) → T (lookedAt openedOnly w i) × (premiumAt w i ≡ m)
 top→looked openedOnly m w i t =
-    (and-left (lookedAt openedOnly w i) (eqb (numberAt w (5 * i + 2)) m) t, eqb→eq (numberAt w (5 * i + 2)) m (and-right (lookedAt openedOnly w i) (eqb (numberAt w (5 * i + 2)) m) t))
+    (and-left (lookedAt openedOnly w i) (eqb (premiumAt w i) m) t, eqb→eq (premiumAt w i) m (and-right (lookedAt openedOnly w i) (eqb (premiumAt w i) m) t))
 
 -- ---- some cells, one after the other
 
 -- the cells of a list were looked at: none has more, and the premium is the first one or that of one of them
 record Scanned (openedOnly : Bool) (w : List ℤ) (f : ℕ → ℕ) (xs : List ℕ) (top top′ : ℕ) : Type 0 where
   pub rises : top ≤ top′
-  pub bound : (x : ℕ) → T (has x xs) → T (lookedAt openedOnly w (f x)) → numberAt w (5 * f x + 2) ≤ top′
+  pub bound : (x : ℕ) → T (has x xs) → T (lookedAt openedOnly w (f x)) → premiumAt w (f x) ≤ top′
   pub which : (top′ ≡ top) ⊎ ((x : ℕ) × T (has x xs) × T (topAt openedOnly top′ w (f x)))
 
 module _ (openedOnly : Bool) (w : List ℤ) where
   -- a cell leaves the premium as it is, or has a higher one
   one-cell : (top i : ℕ)
-      → ((topWith openedOnly w top i ≡ top) × (T (lookedAt openedOnly w i) → numberAt w (5 * i + 2) ≤ top))
-      ⊎ ((top < topWith openedOnly w top i) × (topWith openedOnly w top i ≡ numberAt w (5 * i + 2)) × T (topAt openedOnly (topWith openedOnly w top i) w i))
+      → ((topWith openedOnly w top i ≡ top) × (T (lookedAt openedOnly w i) → premiumAt w i ≤ top))
+      ⊎ ((top < topWith openedOnly w top i) × (topWith openedOnly w top i ≡ premiumAt w i) × T (topAt openedOnly (topWith openedOnly w top i) w i))
   one-cell top i = go (lookedAt openedOnly w i) (decLt top here)
     where
       here : ℕ
-      here = numberAt w (5 * i + 2)
+      here = premiumAt w i
 
       at-it : Bool → ℕ
       at-it c = cond (ltb top here && c) here top
@@ -61,10 +61,10 @@ module _ (openedOnly : Bool) (w : List ℤ) where
         next : ℕ
         next = topWith openedOnly w top (f x)
 
-        there : (y : ℕ) → T (lookedAt openedOnly w (f y)) → y ≡ x → T (lookedAt openedOnly w (f x)) × (numberAt w (5 * f y + 2) ≡ numberAt w (5 * f x + 2))
-        there y l q = (subst (λ (z : ℕ). T (lookedAt openedOnly w (f z))) q l, ap (λ (z : ℕ). numberAt w (5 * f z + 2)) q)
+        there : (y : ℕ) → T (lookedAt openedOnly w (f y)) → y ≡ x → T (lookedAt openedOnly w (f x)) × (premiumAt w (f y) ≡ premiumAt w (f x))
+        there y l q = (subst (λ (z : ℕ). T (lookedAt openedOnly w (f z))) q l, ap (λ (z : ℕ). premiumAt w (f z)) q)
 
-        lower : (next ≡ top) × (T (lookedAt openedOnly w (f x)) → numberAt w (5 * f x + 2) ≤ top) → Scanned openedOnly w f (x ∷ xs) top top′
+        lower : (next ≡ top) × (T (lookedAt openedOnly w (f x)) → premiumAt w (f x) ≤ top) → Scanned openedOnly w f (x ∷ xs) top top′
         lower u =
             record {
               rises = omega (arith, u .0, rest .rises);
@@ -72,7 +72,7 @@ module _ (openedOnly : Bool) (w : List ℤ) where
               which = ⊎-elim (λ q. inl (q ∙ u .0)) (λ q. inr (q .0, has-tail (q .0) x xs (q .1), q .2)) (rest .which);
             }
 
-        higher : (top < next) × (next ≡ numberAt w (5 * f x + 2)) × T (topAt openedOnly next w (f x)) → Scanned openedOnly w f (x ∷ xs) top top′
+        higher : (top < next) × (next ≡ premiumAt w (f x)) × T (topAt openedOnly next w (f x)) → Scanned openedOnly w f (x ∷ xs) top top′
         higher u =
             record {
               rises = omega (arith, u .0, rest .rises);
@@ -92,7 +92,7 @@ module _ (openedOnly : Bool) (w : List ℤ) (rows column : ℕ) where
   column-scanned = scanned openedOnly w (λ row. column * rows + row) (range 0 rows) 9
 
   -- no cell looked at has more
-  pub column-bound : (row : ℕ) → row < rows → T (lookedAt openedOnly w (column * rows + row)) → numberAt w (5 * (column * rows + row) + 2) ≤ columnTop openedOnly w rows column
+  pub column-bound : (row : ℕ) → row < rows → T (lookedAt openedOnly w (column * rows + row)) → premiumAt w (column * rows + row) ≤ columnTop openedOnly w rows column
   column-bound row h t = column-scanned .bound row (range-has 0 rows row (omega arith) h) t
 
   -- one has it, if it is 10 or more
@@ -103,7 +103,7 @@ module _ (openedOnly : Bool) (w : List ℤ) (rows column : ℕ) where
       other k q = omega arith
 
   -- where no premium reaches 0, none is kept
-  pub column-low : ((row : ℕ) → row < rows → T (lookedAt openedOnly w (column * rows + row)) → numberAt w (5 * (column * rows + row) + 2) ≤ 9) → columnTop openedOnly w rows column ≡ 9
+  pub column-low : ((row : ℕ) → row < rows → T (lookedAt openedOnly w (column * rows + row)) → premiumAt w (column * rows + row) ≤ 9) → columnTop openedOnly w rows column ≡ 9
   column-low f = ⊎-elim (λ e. e) low (column-scanned .which)
     where
       low : (row : ℕ) × T (has row (range 0 rows)) × T (topAt openedOnly (columnTop openedOnly w rows column) w (column * rows + row)) → columnTop openedOnly w rows column ≡ 9
@@ -113,10 +113,10 @@ module _ (openedOnly : Bool) (w : List ℤ) (rows column : ℕ) where
 
 -- a cell of the first columns: its column is one of them, and has as much
 pub cell-bound : (openedOnly : Bool) (w : List ℤ) (rows columns j : ℕ) → 0 < rows → j < columns * rows
-    → (j / rows < columns) × (T (lookedAt openedOnly w j) → numberAt w (5 * j + 2) ≤ columnTop openedOnly w rows (j / rows))
+    → (j / rows < columns) × (T (lookedAt openedOnly w j) → premiumAt w j ≤ columnTop openedOnly w rows (j / rows))
 cell-bound openedOnly w rows columns j some h = (
   div-lt-iff-lt-mul some .1 h,
-  subst (λ (i : ℕ). T (lookedAt openedOnly w i) → numberAt w (5 * i + 2) ≤ columnTop openedOnly w rows (j / rows)) (div-add-mod' j rows)
+  subst (λ (i : ℕ). T (lookedAt openedOnly w i) → premiumAt w i ≤ columnTop openedOnly w rows (j / rows)) (div-add-mod' j rows)
       (column-bound openedOnly w rows (j / rows) (j % rows) (mod-lt j some)),
 )
 

@@ -1,6 +1,6 @@
 -- What the numbers of a work area that stands for a position say of each cell: its premium, whether it is looked at, whether it is a closed unit. Assumes nothing.
 use borrow.Author.Tests.{lt-ltb, le-ltb}
-use Prim.Native.Nat.{ℕ, _*_, _+_, _-_, _<_, _≤_, suc, zero}
+use Prim.Native.Nat.{ℕ, _+_, _-_, _<_, _≤_, suc, zero}
 use native.Mathlib.Omega.{arith}
 use native.Mathlib.Decide.{decLt}
 use mathlib.Core.Path.{_∙_, _≡_, ap, refl, subst, sym}
@@ -9,7 +9,8 @@ use mathlib.Core.List.{List}
 use lib.Dec.{T, eqb, leb, leb→le, le→leb}
 use lib.IntN.{_-ℤ_, negsuc, pos, ℤ}
 use lib.Signed.{leZ}
-use Rattle.area.specs.Numbers.{numberAt}
+use Rattle.area.proofs.Held.{Holds, one-more}
+use Rattle.area.specs.Numbers.{firstAt, kindAt}
 use Rattle.area.specs.Stages.{kind, raised}
 use Rattle.choices.specs.Tests.{lookedAt, unitAt}
 use Rattle.game.specs.Grid.{Grid, cells, mine, number, safe, size, zeroCell}
@@ -17,7 +18,6 @@ use Rattle.game.specs.Lists.{has, keep, range}
 use Rattle.game.specs.Openings.{firstLabel}
 use Rattle.game.specs.Position.{Position, closed, cost, gain, opened, premium}
 use Rattle.game.specs.Rounds.{closedUnitCell, leastChosen, looked, unitCells}
-use Rattle.marks.proofs.Held.{Holds, one-more}
 use Rattle.game.proofs.Labels.{first-label}
 use Rattle.game.proofs.Members.{has-keep, has-range, keep-ext, keep-has}
 use Rattle.game.proofs.Ranges.{cost-range}
@@ -129,8 +129,8 @@ module _ (g : Grid) (s : Position) (w : List ℤ) (r : Holds g s w) where
   pub unit-there : (i : ℕ) → i < size g → closedUnitCell g s i ≡ unitAt w i
   unfolding kind
   unit-there i h =
-      sym (ap (λ (k : ℕ). eqb k 0 && not (eqb (numberAt w (5 * i + 4)) 0) && (eqb (numberAt w (5 * i + 4)) 1 || eqb (numberAt w (5 * i)) 0)) (r .states i h)
-      ∙ ap (λ (k : ℕ). closed s i && not (eqb k 0) && (eqb k 1 || eqb (numberAt w (5 * i)) 0)) (r .kinds i h)
+      sym (ap (λ (k : ℕ). eqb k 0 && not (eqb (kindAt w i) 0) && (eqb (kindAt w i) 1 || eqb (firstAt w i) 0)) (r .states i h)
+      ∙ ap (λ (k : ℕ). closed s i && not (eqb k 0) && (eqb k 1 || eqb (firstAt w i) 0)) (r .kinds i h)
       ∙ ap (λ (k : ℕ). closed s i && not (eqb (kind g i) 0) && (eqb (kind g i) 1 || eqb k 0)) (r .firsts i h)
       ∙ go (mine g i) (closed s i)
       ∙ ap (λ (b : Bool). safe g i && closed s i && (zeroCell g i || b)) (sym (first-label g i)))

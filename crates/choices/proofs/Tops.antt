@@ -1,4 +1,5 @@
 -- The cells of highest premium, by what the work area holds: the first column of highest premium has the lowest of them. Assumes nothing.
+use Rattle.area.proofs.Held.{Holds, held-numbers}
 use Rattle.choices.specs.declared.Found.the-variants.{At, Nothing}
 use Rattle.choices.specs.declared.Best.{Best}
 use Prim.Native.Nat.{ℕ, _*_, _+_, _/_, _<_, _≤_}
@@ -13,7 +14,7 @@ use lib.Dec.{T, eqb}
 use lib.IntN.{ℤ}
 use lib.ListN.{getD}
 use lib.Signed.{leZ}
-use Rattle.area.specs.Numbers.{numberAt}
+use Rattle.area.specs.Numbers.{premiumAt}
 use Rattle.area.specs.Stages.{Stands}
 use Rattle.area.proofs.Cells.{cell-below}
 use Rattle.choices.specs.Picks.{foundFirst}
@@ -23,7 +24,6 @@ use Rattle.game.specs.Grid.{Grid, cells, safe, size}
 use Rattle.game.specs.Lists.{has, keep, range}
 use Rattle.game.specs.Position.{Position, opened, premium}
 use Rattle.game.specs.Rounds.{highest, leastChosen, looked, same, topCells}
-use Rattle.marks.proofs.Held.{Holds, held-numbers}
 use Rattle.choices.proofs.Columns.{Leading, Led, cell-bound, column-has, led-all, top→looked}
 use Rattle.choices.proofs.Held.{looked→, premium→raised, raised→premium, raised→safe, reaches→, →looked, →reaches}
 use Rattle.choices.proofs.Passing.{first-there, found-at, none-there}
@@ -33,14 +33,14 @@ use Rattle.game.proofs.Orders.{ordered-same, ordered-keep, ordered-range}
 use Rattle.game.proofs.Squares.{cells→, →cells}
 use Rattle.game.proofs.Truth.{and-both, eqb-yes}
 
-looked→top : (openedOnly : Bool) (m : ℕ) (w : List ℤ) (i : ℕ) → T (lookedAt openedOnly w i) → numberAt w (5 * i + 2) ≡ m → T (topAt openedOnly m w i)
+looked→top : (openedOnly : Bool) (m : ℕ) (w : List ℤ) (i : ℕ) → T (lookedAt openedOnly w i) → premiumAt w i ≡ m → T (topAt openedOnly m w i)
 looked→top openedOnly m w i t e =
-    and-both (lookedAt openedOnly w i) (eqb (numberAt w (5 * i + 2)) m) t (subst T (sym (eqb-yes (numberAt w (5 * i + 2)) m e)) tt)
+    and-both (lookedAt openedOnly w i) (eqb (premiumAt w i) m) t (subst T (sym (eqb-yes (premiumAt w i) m e)) tt)
 
 -- ---- none that is looked at has more
 
 module _ (openedOnly : Bool) (g : Grid) (s : Position) (w : List ℤ) (r : Holds g s w) (m : ℕ)
-    (bound : (j : ℕ) → j < size g → T (lookedAt openedOnly w j) → numberAt w (5 * j + 2) ≤ m) where
+    (bound : (j : ℕ) → j < size g → T (lookedAt openedOnly w j) → premiumAt w j ≤ m) where
   -- no premium reaches 0
   tops-none : m < 10 → topCells openedOnly g s ≡ []
   tops-none h = none-there (topCells openedOnly g s) none
@@ -54,7 +54,7 @@ module _ (openedOnly : Bool) (g : Grid) (s : Position) (w : List ℤ) (r : Holds
   -- one has as much, and that is 0 or more
   module _ (h : 10 ≤ m) (x : ℕ) (hx : x < size g) (tx : T (topAt openedOnly m w x)) where
     -- a cell that is looked at and has it is safe
-    safe-top : (y : ℕ) → y < size g → numberAt w (5 * y + 2) ≡ m → T (safe g y)
+    safe-top : (y : ℕ) → y < size g → premiumAt w y ≡ m → T (safe g y)
     safe-top y hy e = raised→safe g s y (omega (arith, r .premiums y hy))
 
     tops→ : (y : ℕ) → T (has y (topCells openedOnly g s)) → T (has y (keep (topAt openedOnly m w) (range 0 (size g))))
@@ -110,7 +110,7 @@ module _ (openedOnly : Bool) (rows columns : ℕ) (g : Grid) (s : Position) (old
   led = led-all openedOnly w rows columns
 
   -- no cell that is looked at has more
-  below : (j : ℕ) → j < size g → T (lookedAt openedOnly w j) → numberAt w (5 * j + 2) ≤ best .top
+  below : (j : ℕ) → j < size g → T (lookedAt openedOnly w j) → premiumAt w j ≤ best .top
   below j h t =
       let k = cell-bound openedOnly w rows columns j (st .shape .some-rows) (rw (mul-comm columns rows) (omega (arith, all-cells))) in
       omega (arith, k .1 t, led .bound (j / rows) (k .0))
@@ -163,7 +163,7 @@ module _ (openedOnly : Bool) (rows columns : ℕ) (g : Grid) (s : Position) (old
         ∙ sym (ap foundFirst tops-there)
 
   -- where no premium reaches 0, each that is looked at is lower
-  pub none-reaches : topCells openedOnly g s ≡ [] → (j : ℕ) → j < size g → T (lookedAt openedOnly w j) → numberAt w (5 * j + 2) ≤ 9
+  pub none-reaches : topCells openedOnly g s ≡ [] → (j : ℕ) → j < size g → T (lookedAt openedOnly w j) → premiumAt w j ≤ 9
   none-reaches q j h u =
       ⊎-elim (λ v. omega (arith, below j h u, v .0)) (λ l. absurd (subst (λ (xs : List ℕ). T (has (top-there l .0) xs)) q (top-there l .1))) (led .which)
 

@@ -7,13 +7,13 @@ use lib.Dec.{ltb}
 use lib.IntN.{ℤ}
 use lib.ListN.{getD, length}
 use Rattle.game.specs.Lists.{count, fold, range}
-use Rattle.area.specs.Numbers.{numberAt}
+use Rattle.area.specs.Numbers.{premiumAt}
 use Rattle.choices.specs.Tests.{lookedAt, unitAt}
 use Rattle.choices.specs.declared.Best.{Best}
 
 -- the higher raised premium so far, once a cell has been looked at
 abbrev pub topWith : Bool → List ℤ → ℕ → ℕ → ℕ
-topWith openedOnly w top i = cond (ltb top (numberAt w (5 * i + 2)) && lookedAt openedOnly w i) (numberAt w (5 * i + 2)) top
+topWith openedOnly w top i = cond (ltb top (premiumAt w i) && lookedAt openedOnly w i) (premiumAt w i) top
 
 -- the highest raised premium of 10 or more in a column, 9 if there is none
 abbrev pub columnTop : Bool → List ℤ → ℕ → ℕ → ℕ

@@ -1,28 +1,28 @@
 // The highest premium of 0 or more in a column.
 ghost use mathlib.Core.Path.{_≡_};
-ghost use Prim.Native.Nat.{_+_, _*_, _<_, _≤_};
-ghost use lib.ListN.{length};
+ghost use Prim.Native.Nat.{_*_, _<_};
+ghost use Rattle.area.specs.Numbers.{HasCell, HasCells};
 ghost use Rattle.area.specs.Stages.{Shape};
 ghost use Rattle.choices.specs.Tests.{lookedAt};
 ghost use Rattle.choices.specs.Tops.{columnTop, topWith};
 
 // Whether a step may look at the cell.
 pub fn looked(work: &[i32], index: usize, opened_only: bool) -> bool
-    requires { ⌜ 5 * index + 5 ≤ length (now work) ⌝ }
+    requires { ⌜ HasCell (now work) index ⌝ }
     ensures { λ r. ⌜ r ≡ lookedAt «opened_only» (now (work .entry)) index ⌝ }
 {
     if opened_only {
-        return area::get(work, 5 * index + 3) == 1;
+        return area::state(work, index) == 1;
     }
     true
 }
 
 // The higher raised premium so far, once the cell has been looked at.
 pub fn better(work: &[i32], index: usize, opened_only: bool, top: usize) -> usize
-    requires { ⌜ 5 * index + 5 ≤ length (now work) ⌝ }
+    requires { ⌜ HasCell (now work) index ⌝ }
     ensures { λ r. ⌜ r ≡ topWith «opened_only» (now (work .entry)) top index ⌝ }
 {
-    let premium = area::get(work, 5 * index + 2);
+    let premium = area::premium(work, index);
     if premium <= top {
         return top;
     }
@@ -41,7 +41,7 @@ pub fn scan_column(
     opened_only: bool,
 ) -> usize
     requires { ⌜ Shape rows columns ⌝ }
-    requires { ⌜ (5 * (rows * columns) ≤ length (now work)) × (column < columns) ⌝ }
+    requires { ⌜ HasCells (now work) (rows * columns) × (column < columns) ⌝ }
     ensures { λ r. ⌜ r ≡ columnTop «opened_only» (now (work .entry)) rows column ⌝ }
 {
     let mut top: usize = 9;

@@ -4,9 +4,10 @@ use crate::Found;
 use crate::highest;
 ghost use mathlib.Core.Path.{_≡_};
 ghost use mathlib.Core.List.{List};
-ghost use Prim.Native.Nat.{_+_, _*_, _<_, _≤_};
+ghost use Prim.Native.Nat.{_+_, _*_, _<_};
 ghost use lib.IntN.{ℤ};
 ghost use lib.ListN.{getD, length};
+ghost use Rattle.area.specs.Numbers.{HasCell, HasCells};
 ghost use Rattle.game.specs.Grid.{Grid};
 ghost use Rattle.game.specs.Lists.{keep, range};
 ghost use Rattle.game.specs.Position.{Position};
@@ -56,7 +57,7 @@ fn top_of(
     column: usize,
 ) -> usize
     requires { ⌜ Shape rows columns ⌝ }
-    requires { ⌜ (5 * (rows * columns) ≤ length (now work)) × (column < columns) × Kept «opened_only» (now work) rows columns (now tops) ⌝ }
+    requires { ⌜ HasCells (now work) (rows * columns) × (column < columns) × Kept «opened_only» (now work) rows columns (now tops) ⌝ }
     ensures { λ r. ⌜ r ≡ columnTop «opened_only» (now (work .entry)) rows column ⌝ }
     ensures { λ _. ⌜ (length (now (tops .exit)) ≡ length (now (tops .entry))) × Kept «opened_only» (now (work .entry)) rows columns (now (tops .exit)) ⌝ }
 {
@@ -78,7 +79,7 @@ pub fn first_column(
     opened_only: bool,
 ) -> Best
     requires { ⌜ Shape rows columns ⌝ }
-    requires { ⌜ (5 * (rows * columns) ≤ length (now work)) × Kept «opened_only» (now work) rows columns (now tops) ⌝ }
+    requires { ⌜ HasCells (now work) (rows * columns) × Kept «opened_only» (now work) rows columns (now tops) ⌝ }
     ensures { λ r. ⌜ r ≡ firstOf «opened_only» (now (work .entry)) rows columns columns ⌝ }
     ensures { λ _. ⌜ (length (now (tops .exit)) ≡ length (now (tops .entry))) × Kept «opened_only» (now (work .entry)) rows columns (now (tops .exit)) ⌝ }
 {
@@ -95,10 +96,10 @@ pub fn first_column(
 
 // Whether a step may look at the cell, and it has the premium.
 fn has_top(work: &[i32], index: usize, opened_only: bool, top: usize) -> bool
-    requires { ⌜ 5 * index + 5 ≤ length (now work) ⌝ }
+    requires { ⌜ HasCell (now work) index ⌝ }
     ensures { λ r. ⌜ r ≡ topAt «opened_only» top (now (work .entry)) index ⌝ }
 {
-    if area::get(work, 5 * index + 2) != top {
+    if area::premium(work, index) != top {
         return false;
     }
     highest::looked(work, index, opened_only)
@@ -114,7 +115,7 @@ fn first_row(
     top: usize,
 ) -> usize
     requires { ⌜ Shape rows columns ⌝ }
-    requires { ⌜ (5 * (rows * columns) ≤ length (now work)) × (column < columns) ⌝ }
+    requires { ⌜ HasCells (now work) (rows * columns) × (column < columns) ⌝ }
     ensures { λ r. ⌜ r ≡ getD (keep (topAt «opened_only» top (now (work .entry))) (range (column * rows) (column * rows + rows))) 0 0 ⌝ }
 {
     for row in 0..rows {
@@ -129,7 +130,7 @@ fn first_row(
 // The lowest of the cells of highest premium, if that is 0 or more: only its column is looked at again, and those marked.
 pub fn best(work: &[i32], rows: usize, columns: usize, tops: &mut [u8], opened_only: bool) -> Found
     requires { ⌜ Shape rows columns ⌝ }
-    requires { ⌜ (5 * (rows * columns) ≤ length (now work)) × Kept «opened_only» (now work) rows columns (now tops) ⌝ }
+    requires { ⌜ HasCells (now work) (rows * columns) × Kept «opened_only» (now work) rows columns (now tops) ⌝ }
     ensures { λ _. ⌜ (length (now (tops .exit)) ≡ length (now (tops .entry))) × Kept «opened_only» (now (work .entry)) rows columns (now (tops .exit)) ⌝ }
     ensures { λ r. ⌜ ((g : Grid) (s : Position) (old : List ℤ) → Stands rows columns g s old (now (work .entry)) → r ≡ foundFirst (topCells «opened_only» g s)) ⌝ }
 {

@@ -5,7 +5,7 @@ ghost use mathlib.Core.Path.{_≡_};
 ghost use mathlib.Core.List.{List};
 ghost use Prim.Native.Nat.{_+_, _*_, _<_, _≤_};
 ghost use lib.IntN.{ℤ};
-ghost use lib.ListN.{length};
+ghost use Rattle.area.specs.Numbers.{HasCell, HasCells};
 ghost use Rattle.game.specs.Grid.{Grid};
 ghost use Rattle.game.specs.Position.{Position};
 ghost use Rattle.game.specs.Rounds.{unitCells};
@@ -15,26 +15,26 @@ ghost use Rattle.choices.specs.Picks.{foundColumn, foundFirst};
 
 // Whether there is a closed safe cell of number 0 or without label.
 pub fn unit(work: &[i32], index: usize) -> bool
-    requires { ⌜ 5 * index + 5 ≤ length (now work) ⌝ }
+    requires { ⌜ HasCell (now work) index ⌝ }
     ensures { λ r. ⌜ r ≡ unitAt (now (work .entry)) index ⌝ }
 {
-    if area::get(work, 5 * index + 3) != 0 {
+    if area::state(work, index) != 0 {
         return false;
     }
-    let kind = area::get(work, 5 * index + 4);
+    let kind = area::kind(work, index);
     if kind == 0 {
         return false;
     }
     if kind == 1 {
         return true;
     }
-    area::get(work, 5 * index) == 0
+    area::first_label(work, index) == 0
 }
 
 // The lowest of them, where there is none in the columns before from: the search leaves both loops at the first that qualifies.
 pub fn lowest(work: &[i32], rows: usize, columns: usize, from: usize) -> Lowest
     requires { ⌜ Shape rows columns ⌝ }
-    requires { ⌜ (5 * (rows * columns) ≤ length (now work)) × (from ≤ columns) × NoUnitBelow (now work) (from * rows) ⌝ }
+    requires { ⌜ HasCells (now work) (rows * columns) × (from ≤ columns) × NoUnitBelow (now work) (from * rows) ⌝ }
     ensures { λ r. ⌜ ((g : Grid) (s : Position) (old : List ℤ) → Stands rows columns g s old (now (work .entry))
         → (r .found ≡ foundFirst (unitCells g s)) × (r .column ≡ foundColumn g (r .found))) ⌝ }
 {

@@ -8,7 +8,7 @@ use mathlib.Core.List.{List}
 use borrow.Author.Tests.{eq-eqb, ne-eqb}
 use lib.Dec.{T, eqb}
 use lib.IntN.{ℤ}
-use Rattle.area.specs.Numbers.{numberAt}
+use Rattle.area.specs.Numbers.{firstAt, secondAt}
 use Rattle.game.specs.Lists.{range, some-of}
 use Rattle.game.proofs.Members.{has-range, range-has, some-yes, yes-some}
 use Rattle.game.proofs.Truth.{T→true, no→false}
@@ -32,14 +32,14 @@ module _ (first second label : ℕ) where
 
 -- ---- a cell
 
-module _ (w : List ℤ) (first second i k : ℕ) (r : Bool) (o : r ≡ oneOf first second k) (e : k ≡ numberAt w (5 * i)) where
-  by-first : (b : Bool) → r ≡ b → (b || oneOf first second (numberAt w (5 * i + 1))) ≡ sharesAt w first second i
-  by-first b t = ap (λ (x : Bool). x || oneOf first second (numberAt w (5 * i + 1))) (sym t ∙ o ∙ ap (oneOf first second) e)
+module _ (w : List ℤ) (first second i k : ℕ) (r : Bool) (o : r ≡ oneOf first second k) (e : k ≡ firstAt w i) where
+  by-first : (b : Bool) → r ≡ b → (b || oneOf first second (secondAt w i)) ≡ sharesAt w first second i
+  by-first b t = ap (λ (x : Bool). x || oneOf first second (secondAt w i)) (sym t ∙ o ∙ ap (oneOf first second) e)
 
   pub first-shares : r ≡ true → true ≡ sharesAt w first second i
   first-shares t = by-first true t
 
-  pub second-shares : (l : ℕ) (q : Bool) → r ≡ false → q ≡ oneOf first second l → l ≡ numberAt w (5 * i + 1) → q ≡ sharesAt w first second i
+  pub second-shares : (l : ℕ) (q : Bool) → r ≡ false → q ≡ oneOf first second l → l ≡ secondAt w i → q ≡ sharesAt w first second i
   second-shares l q t p f = p ∙ ap (oneOf first second) f ∙ by-first false t
 
 -- ---- a column

@@ -8,6 +8,7 @@ use mathlib.Core.List.{List}
 use lib.Dec.{T, eqb, eqb→eq, not-T}
 use lib.IntN.{ℤ}
 use lib.ListN.{length}
+use Rattle.area.proofs.Held.{held-numbers}
 use Rattle.game.specs.Grid.{Grid, columnOf, mine, rowOf, safe, size, square, zeroCell}
 use Rattle.game.specs.Lists.{has, range}
 use Rattle.game.specs.Openings.{firstLabel, holds, itself, joinedTo, secondLabel, unlabelled}
@@ -16,15 +17,16 @@ use Rattle.game.proofs.Labels.{first-label, first-seat}
 use Rattle.game.proofs.Members.{range-has, some-yes, yes-some}
 use Rattle.game.proofs.Openings.{→joinedTo}
 use Rattle.game.proofs.Reveal.{no-zero-near}
-use Rattle.game.proofs.Squares.{close-sym, column-lt, index-of, row-lt, square→}
+use Rattle.game.proofs.Squares.{close-sym, column-lt, row-lt, square→}
 use Rattle.game.proofs.Truth.{and-both, and-left, eqb-yes, no→false, or-cases, or-left, or-right}
 use Rattle.game.proofs.Zeros.{Zero, zero→}
-use Rattle.area.specs.Numbers.{numberAt}
+use Rattle.area.specs.Numbers.{firstAt, kindAt, secondAt}
 use Rattle.area.specs.Stages.{Stands}
 use Rattle.area.proofs.Marks.{marked-held}
+use Rattle.area.proofs.Cells.{placed}
 use Rattle.area.proofs.Spans.{Within, held-spans}
-use Rattle.marks.specs.Marks.{Clicked, Far, Forgotten, MarkedOr, Parted, Still, bordersClosed, columnShares, oneOf, sharesAt}
-use Rattle.marks.proofs.Held.{held-numbers, other-kind}
+use Rattle.marks.specs.Marks.{Clicked, Far, Marked, MarkedOr, Parted, Quiet, bordersClosed, columnShares, oneOf, sharesAt}
+use Rattle.marks.proofs.Held.{other-kind}
 use Rattle.marks.proofs.Marks.{marked-also, marked-both}
 
 -- a label that is some k is one of two, of which one is k
@@ -47,10 +49,6 @@ module _ (rows columns : ℕ) (g : Grid) (s : Position) (old w : List ℤ) (i : 
 
   own-column : columnOf g i ≡ i / rows
   own-column = ap (λ (k : ℕ). i / k) (st .rows-are)
-
-  -- a cell by its column
-  placed : (y q : ℕ) → columnOf g y ≡ q → q * rows + rowOf g y ≡ y
-  placed y q e = rw (← e, ← st .rows-are) (index-of g y)
 
   -- a 0-cell in the square
   zero-there : (z : ℕ) → T (has z (square g i)) → T (zeroCell g z) → Zero g z
@@ -75,15 +73,15 @@ module _ (rows columns : ℕ) (g : Grid) (s : Position) (old w : List ℤ) (i : 
       → columnShares w rows (firstLabel g i) (secondLabel g i) q ≡ false → ⊥
   unreached j z q k t n u b e =
       let y = held-spans g z j q (zero-there z t n) k u b in
-      let p = placed (y .0) q (y .3) in
+      let p = placed g rows (y .0) q (st .rows-are) (y .3) in
       subst T e (some-yes (λ row. sharesAt w (firstLabel g i) (secondLabel g i) (q * rows + row)) (rowOf g (y .0)) (range 0 rows)
       (range-has 0 rows (rowOf g (y .0)) (omega arith) (omega (arith, row-lt g (y .0) (y .1), st .rows-are)))
       (subst (λ (x : ℕ). T (sharesAt w (firstLabel g i) (secondLabel g i) x)) (sym p) (labelled-so z (y .0) t n (y .1) (y .2))))
 
   -- a column past one without them, from two before or three after the cell's own
-  still-past : (from to c : ℕ) → from ≡ i / rows - 2 → to ≡ i / rows + 3 → Far c (i / rows) → (c < from → Parted w rows (firstLabel g i) (secondLabel g i) c from)
-      → (to ≤ c → c < columns → Parted w rows (firstLabel g i) (secondLabel g i) to c) → Still g s i c
-  still-past from to c e f far left right =
+  quiet-past : (from to c : ℕ) → from ≡ i / rows - 2 → to ≡ i / rows + 3 → Far c (i / rows) → (c < from → Parted w rows (firstLabel g i) (secondLabel g i) c from)
+      → (to ≤ c → c < columns → Parted w rows (firstLabel g i) (secondLabel g i) to c) → Quiet g s i c
+  quiet-past from to c e f far left right =
       record {
         far = rw own-column far;
         apart = λ j z k q t n _ u.
@@ -98,8 +96,8 @@ module _ (rows columns : ℕ) (g : Grid) (s : Position) (old w : List ℤ) (i : 
       }
 
   -- a column more than two away, if no closed 0-cell is bordered
-  still-far : (c : ℕ) → false ≡ bordersClosed g s i → Far c (i / rows) → Still g s i c
-  still-far c e far =
+  quiet-far : (c : ℕ) → false ≡ bordersClosed g s i → Far c (i / rows) → Quiet g s i c
+  quiet-far c e far =
       record {
         far = rw own-column far;
         apart = λ j z k q t n v u. subst T (sym e) (some-yes (λ x. zeroCell g x && closed s x) z (square g i) t (and-both (zeroCell g z) (closed s z) n v));
@@ -107,15 +105,15 @@ module _ (rows columns : ℕ) (g : Grid) (s : Position) (old w : List ℤ) (i : 
 
   -- ---- what is marked
 
-  pub forgotten-near : (tops tops′ : List ℕ) → false ≡ bordersClosed g s i → length tops′ ≡ length tops → ((c : ℕ) → MarkedOr (Far c (i / rows)) tops tops′ c) → Forgotten g s i tops tops′
-  forgotten-near tops tops′ e l m = record { long = l; marks = λ c. marked-also tops tops′ c (still-far c e) (m c) }
+  pub marks-near : (tops tops′ : List ℕ) → false ≡ bordersClosed g s i → length tops′ ≡ length tops → ((c : ℕ) → MarkedOr (Far c (i / rows)) tops tops′ c) → Marked g s i tops tops′
+  marks-near tops tops′ e l m = record { long = l; marks = λ c. marked-also tops tops′ c (quiet-far c e) (m c) }
 
-  pub forgotten-spanned : (first second from to : ℕ) (tops near left right : List ℕ) → first ≡ numberAt w (5 * i) → second ≡ numberAt w (5 * i + 1)
+  pub marks-spanned : (first second from to : ℕ) (tops near left right : List ℕ) → first ≡ firstAt w i → second ≡ secondAt w i
       → (length near ≡ length tops) × ((c : ℕ) → MarkedOr (Far c (i / rows)) tops near c)
       → (length left ≡ length near) × ((c : ℕ) → MarkedOr (c < from → Parted w rows first second c from) near left c)
       → (length right ≡ length left) × ((c : ℕ) → MarkedOr (to ≤ c → c < columns → Parted w rows first second to c) left right c) → from ≡ i / rows - 2 → to ≡ i / rows + 3
-      → Forgotten g s i tops right
-  forgotten-spanned first second from to tops near left right e f a b d x y =
+      → Marked g s i tops right
+  marks-spanned first second from to tops near left right e f a b d x y =
       let v = held-numbers rows columns g s old w st in
       let p : first ≡ firstLabel g i = e ∙ v .firsts i inside in
       let q : second ≡ secondLabel g i = f ∙ v .seconds i inside in
@@ -124,12 +122,12 @@ module _ (rows columns : ℕ) (g : Grid) (s : Position) (old w : List ℤ) (i : 
       record {
         long = d .0 ∙ b .0 ∙ a .0;
         marks = λ c.
-            marked-also tops right c (λ r. still-past from to c x y (r .0 .0) (λ k. labels c from (r .0 .1 k)) (λ k l. labels to c (r .1 k l)))
+            marked-also tops right c (λ r. quiet-past from to c x y (r .0 .0) (λ k. labels c from (r .0 .1 k)) (λ k l. labels to c (r .1 k l)))
             (marked-both tops left right c (marked-both tops near left c (a .1 c) (b .1 c)) (d .1 c));
       }
 
   -- no opening has a cell without label
-  pub none-borders : 0 ≡ numberAt w (5 * i) → false ≡ bordersClosed g s i
+  pub none-borders : 0 ≡ firstAt w i → false ≡ bordersClosed g s i
   none-borders e = sym (no→false (bordersClosed g s i) none)
     where
       bare : safe g i ≡ true → T (unlabelled g i)
@@ -148,18 +146,18 @@ module _ (rows columns : ℕ) (g : Grid) (s : Position) (old w : List ℤ) (i : 
 
   -- ---- what one L marks
 
-  pub clicked-opening : (tops tops′ : List ℕ) → Forgotten g s i tops tops′ → Clicked g s i tops tops′
+  pub clicked-opening : (tops tops′ : List ℕ) → Marked g s i tops tops′ → Clicked g s i tops tops′
   clicked-opening tops tops′ f =
-      record { long = f .long; marks = λ c. marked-also tops tops′ c (λ k. record { other = away c (k .far); still = λ _. k }) (f .marks c) }
+      record { long = f .long; marks = λ c. marked-also tops tops′ c (λ k. record { other = away c (k .far); quiet = λ _. k }) (f .marks c) }
     where
       away : (c : ℕ) → Far c (columnOf g i) → c ≡ columnOf g i → ⊥
       away c k e = ⊎-elim (λ l. omega arith) (λ l. omega arith) k
 
-  pub clicked-one : (tops tops′ : List ℕ) → (numberAt w (5 * i + 4) ≡ 1 → ⊥) → length tops′ ≡ length tops → ((c : ℕ) → MarkedOr (c ≡ i / rows → ⊥) tops tops′ c) → Clicked g s i tops tops′
+  pub clicked-one : (tops tops′ : List ℕ) → (kindAt w i ≡ 1 → ⊥) → length tops′ ≡ length tops → ((c : ℕ) → MarkedOr (c ≡ i / rows → ⊥) tops tops′ c) → Clicked g s i tops tops′
   clicked-one tops tops′ n l m =
       record {
         long = l;
         marks = λ c.
             marked-also tops tops′ c
-            (λ k. record { other = λ e. k (e ∙ own-column); still = λ z. absurd (other-kind g s w (held-numbers rows columns g s old w st) i inside n z) }) (m c);
+            (λ k. record { other = λ e. k (e ∙ own-column); quiet = λ z. absurd (other-kind g s w (held-numbers rows columns g s old w st) i inside n z) }) (m c);
       }

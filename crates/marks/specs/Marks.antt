@@ -11,7 +11,7 @@ use Rattle.game.specs.Grid.{Grid, columnOf, size, square, zeroCell}
 use Rattle.game.specs.Lists.{has, range, some-of}
 use Rattle.game.specs.Openings.{holds, joinedTo}
 use Rattle.game.specs.Position.{Position, closed}
-use Rattle.area.specs.Numbers.{numberAt}
+use Rattle.area.specs.Numbers.{firstAt, kindAt, secondAt, stateAt}
 
 -- ---- what moves at a cell may change
 
@@ -21,7 +21,7 @@ bordersClosed g s i = some-of (λ j. zeroCell g j && closed s j) (square g i)
 
 -- the same of one cell, by what the work area holds
 abbrev pub closedZeroAt : List ℤ → ℕ → Bool
-closedZeroAt w i = eqb (numberAt w (5 * i + 4)) 1 && eqb (numberAt w (5 * i + 3)) 0
+closedZeroAt w i = eqb (kindAt w i) 1 && eqb (stateAt w i) 0
 
 -- a column more than two from another
 abbrev pub Far : ℕ → ℕ → Type 0
@@ -32,19 +32,19 @@ abbrev pub MarkedOr : Type 0 → List ℕ → List ℕ → ℕ → Type 0
 MarkedOr P tops tops′ c = (getD tops′ c 0 ≡ 0) ⊎ ((getD tops′ c 0 ≡ getD tops c 0) × P)
 
 -- moves at the cell leave the column as it is: it is more than two from the cell's, and no cell of it is held by an opening that a closed 0-cell in the cell's square is of
-pub record Still (g : Grid) (s : Position) (i c : ℕ) : Type 0 where
+pub record Quiet (g : Grid) (s : Position) (i c : ℕ) : Type 0 where
   pub far : Far c (columnOf g i)
   pub apart : (j z : ℕ) → j < size g → columnOf g j ≡ c → T (has z (square g i)) → T (zeroCell g z) → T (closed s z) → T (holds g j (joinedTo g z)) → ⊥
 
 -- marked at a cell: the columns that moves there may change
-pub record Forgotten (g : Grid) (s : Position) (index : ℕ) (tops tops′ : List ℕ) : Type 0 where
+pub record Marked (g : Grid) (s : Position) (index : ℕ) (tops tops′ : List ℕ) : Type 0 where
   pub long : length tops′ ≡ length tops
-  pub marks : (c : ℕ) → MarkedOr (Still g s index c) tops tops′ c
+  pub marks : (c : ℕ) → MarkedOr (Quiet g s index c) tops tops′ c
 
 -- one L at the cell leaves a column its closed units, and no premium in it rises: it is not the cell's own, and if the cell is a 0-cell, moves there leave it as it is
 pub record Beside (g : Grid) (s : Position) (i c : ℕ) : Type 0 where
   pub other : c ≡ columnOf g i → ⊥
-  pub still : T (zeroCell g i) → Still g s i c
+  pub quiet : T (zeroCell g i) → Quiet g s i c
 
 -- marked at a cell that one L opens: the columns that it may change, where no premium reaches 0
 pub record Clicked (g : Grid) (s : Position) (index : ℕ) (tops tops′ : List ℕ) : Type 0 where
@@ -59,7 +59,7 @@ oneOf first second label = not (eqb label 0) && (eqb label first || eqb label se
 
 -- the cell has one of two labels
 abbrev pub sharesAt : List ℤ → ℕ → ℕ → ℕ → Bool
-sharesAt w first second i = oneOf first second (numberAt w (5 * i)) || oneOf first second (numberAt w (5 * i + 1))
+sharesAt w first second i = oneOf first second (firstAt w i) || oneOf first second (secondAt w i)
 
 -- a cell of the column has one of two labels
 abbrev pub columnShares : List ℤ → ℕ → ℕ → ℕ → ℕ → Bool

@@ -4,51 +4,52 @@ ghost use mathlib.Core.List.{List};
 ghost use Prim.Native.Nat.{ℕ, _+_, _*_, _<_, _≤_, min};
 ghost use lib.IntN.{ℤ};
 ghost use lib.ListN.{length};
+ghost use Rattle.area.specs.Numbers.{HasCell, HasCells};
 ghost use Rattle.game.specs.Grid.{Grid};
 ghost use Rattle.game.specs.Lists.{some-of};
 ghost use Rattle.game.specs.Position.{Position};
 ghost use Rattle.area.specs.Squares.{onGrid};
 ghost use Rattle.area.specs.Stages.{Shape, Stands};
-ghost use Rattle.marks.specs.Marks.{Clicked, Far, Forgotten, MarkedOr, Parted, bordersClosed, closedZeroAt, columnShares, oneOf, sharesAt};
+ghost use Rattle.marks.specs.Marks.{Clicked, Far, Marked, MarkedOr, Parted, bordersClosed, closedZeroAt, columnShares, oneOf, sharesAt};
 
 // The place so many on from another, at most n.
 fn onward(from: usize, steps: usize, n: usize) -> usize
     ensures { λ r. ⌜ r ≡ min (from + steps) n ⌝ }
 {
-    if from < area::less(n, steps) {
+    if from < area::take_away(n, steps) {
         return from + steps;
     }
     n
 }
 
 // Marks the columns up to two from a column.
-fn forget_near(tops: &mut [u8], column: usize)
+fn mark_near(tops: &mut [u8], column: usize)
     ensures { λ _. ⌜ (length (now (tops .exit)) ≡ length (now (tops .entry))) × ((c : ℕ) → MarkedOr (Far c column) (now (tops .entry)) (now (tops .exit)) c) ⌝ }
 {
     let last = onward(column, 3, tops.len());
-    for near in area::less(column, 2)..last {
+    for near in area::take_away(column, 2)..last {
         tops[near] = 0;
     }
 }
 
 // Whether there is a closed 0-cell; past the grid there is none.
 fn closed_zero(work: &[i32], cells: usize, index: usize) -> bool
-    requires { ⌜ 5 * cells ≤ length (now work) ⌝ }
+    requires { ⌜ HasCells (now work) cells ⌝ }
     ensures { λ r. ⌜ r ≡ some-of (closedZeroAt (now (work .entry))) (onGrid cells index) ⌝ }
 {
     if index >= cells {
         return false;
     }
-    if area::get(work, 5 * index + 4) != 1 {
+    if area::kind(work, index) != 1 {
         return false;
     }
-    area::get(work, 5 * index + 3) == 0
+    area::state(work, index) == 0
 }
 
 // Whether a closed 0-cell stands in the square of the cell.
 fn borders_closed(work: &[i32], rows: usize, columns: usize, index: usize) -> bool
     requires { ⌜ Shape rows columns ⌝ }
-    requires { ⌜ (5 * (rows * columns) ≤ length (now work)) × (index < rows * columns) ⌝ }
+    requires { ⌜ HasCells (now work) (rows * columns) × (index < rows * columns) ⌝ }
     ensures { λ r. ⌜ ((g : Grid) (s : Position) (old : List ℤ) → Stands rows columns g s old (now (work .entry)) → r ≡ bordersClosed g s index) ⌝ }
 {
     let cells = rows * columns;
@@ -62,7 +63,7 @@ fn borders_closed(work: &[i32], rows: usize, columns: usize, index: usize) -> bo
 }
 
 // Marks one column.
-fn forget_one(tops: &mut [u8], column: usize)
+fn mark_one(tops: &mut [u8], column: usize)
     ensures { λ _. ⌜ (length (now (tops .exit)) ≡ length (now (tops .entry))) × ((c : ℕ) → MarkedOr (c ≡ column → ⊥) (now (tops .entry)) (now (tops .exit)) c) ⌝ }
 {
     if column >= tops.len() {
@@ -86,13 +87,13 @@ fn one_of(label: usize, first: usize, second: usize) -> bool
 
 // Whether the cell has one of two labels.
 fn shares(work: &[i32], index: usize, first: usize, second: usize) -> bool
-    requires { ⌜ 5 * index + 5 ≤ length (now work) ⌝ }
+    requires { ⌜ HasCell (now work) index ⌝ }
     ensures { λ r. ⌜ r ≡ sharesAt (now (work .entry)) first second index ⌝ }
 {
-    if one_of(area::get(work, 5 * index), first, second) {
+    if one_of(area::first_label(work, index), first, second) {
         return true;
     }
-    one_of(area::get(work, 5 * index + 1), first, second)
+    one_of(area::second_label(work, index), first, second)
 }
 
 // Whether a cell of the column has one of two labels.
@@ -105,7 +106,7 @@ fn has_label(
     second: usize,
 ) -> bool
     requires { ⌜ Shape rows columns ⌝ }
-    requires { ⌜ (5 * (rows * columns) ≤ length (now work)) × (column < columns) ⌝ }
+    requires { ⌜ HasCells (now work) (rows * columns) × (column < columns) ⌝ }
     ensures { λ r. ⌜ r ≡ columnShares (now (work .entry)) rows first second column ⌝ }
 {
     for row in 0..rows {
@@ -118,7 +119,7 @@ fn has_label(
 }
 
 // Marks the columns before a column, from there to the left until one has no cell with one of two labels.
-fn forget_left(
+fn mark_left(
     work: &[i32],
     rows: usize,
     columns: usize,
@@ -128,7 +129,7 @@ fn forget_left(
     second: usize,
 )
     requires { ⌜ Shape rows columns ⌝ }
-    requires { ⌜ (5 * (rows * columns) ≤ length (now work)) × (column ≤ columns) ⌝ }
+    requires { ⌜ HasCells (now work) (rows * columns) × (column ≤ columns) ⌝ }
     ensures { λ _. ⌜ (length (now (tops .exit)) ≡ length (now (tops .entry)))
         × ((c : ℕ) → MarkedOr (c < column → Parted (now (work .entry)) rows first second c column) (now (tops .entry)) (now (tops .exit)) c) ⌝ }
 {
@@ -138,12 +139,12 @@ fn forget_left(
         if !has_label(work, rows, columns, left, first, second) {
             return;
         }
-        forget_one(tops, left);
+        mark_one(tops, left);
     }
 }
 
 // Marks the columns from a column on to the right until one has no cell with one of two labels.
-fn forget_right(
+fn mark_right(
     work: &[i32],
     rows: usize,
     columns: usize,
@@ -153,7 +154,7 @@ fn forget_right(
     second: usize,
 )
     requires { ⌜ Shape rows columns ⌝ }
-    requires { ⌜ 5 * (rows * columns) ≤ length (now work) ⌝ }
+    requires { ⌜ HasCells (now work) (rows * columns) ⌝ }
     ensures { λ _. ⌜ (length (now (tops .exit)) ≡ length (now (tops .entry)))
         × ((c : ℕ) → MarkedOr (column ≤ c → c < columns → Parted (now (work .entry)) rows first second column c) (now (tops .entry)) (now (tops .exit)) c) ⌝ }
 {
@@ -161,18 +162,18 @@ fn forget_right(
         if !has_label(work, rows, columns, right, first, second) {
             return;
         }
-        forget_one(tops, right);
+        mark_one(tops, right);
     }
 }
 
 // Marks the columns whose highest premium the moves at a cell may change: those up to two from its own, and those of its openings if it borders a closed 0-cell.
-pub fn forget(work: &[i32], rows: usize, columns: usize, tops: &mut [u8], index: usize)
+pub fn mark(work: &[i32], rows: usize, columns: usize, tops: &mut [u8], index: usize)
     requires { ⌜ Shape rows columns ⌝ }
-    requires { ⌜ (5 * (rows * columns) ≤ length (now work)) × (index < rows * columns) ⌝ }
-    ensures { λ _. ⌜ ((g : Grid) (s : Position) (old : List ℤ) → Stands rows columns g s old (now (work .entry)) → Forgotten g s index (now (tops .entry)) (now (tops .exit))) ⌝ }
+    requires { ⌜ HasCells (now work) (rows * columns) × (index < rows * columns) ⌝ }
+    ensures { λ _. ⌜ ((g : Grid) (s : Position) (old : List ℤ) → Stands rows columns g s old (now (work .entry)) → Marked g s index (now (tops .entry)) (now (tops .exit))) ⌝ }
 {
-    forget_near(tops, index / rows);
-    let first = area::get(work, 5 * index);
+    mark_near(tops, index / rows);
+    let first = area::first_label(work, index);
     if first == 0 {
         return;
     }
@@ -180,28 +181,28 @@ pub fn forget(work: &[i32], rows: usize, columns: usize, tops: &mut [u8], index:
         return;
     }
     let column = index / rows;
-    let second = area::get(work, 5 * index + 1);
-    forget_left(
+    let second = area::second_label(work, index);
+    mark_left(
         work,
         rows,
         columns,
         tops,
-        area::less(column, 2),
+        area::take_away(column, 2),
         first,
         second,
     );
-    forget_right(work, rows, columns, tops, column + 3, first, second);
+    mark_right(work, rows, columns, tops, column + 3, first, second);
 }
 
 // Marks the columns that one L at a cell may change, where no premium reaches 0: its own, and for a 0-cell those of its opening too.
-pub fn forget_click(work: &[i32], rows: usize, columns: usize, tops: &mut [u8], index: usize)
+pub fn mark_click(work: &[i32], rows: usize, columns: usize, tops: &mut [u8], index: usize)
     requires { ⌜ Shape rows columns ⌝ }
-    requires { ⌜ (5 * (rows * columns) ≤ length (now work)) × (index < rows * columns) ⌝ }
+    requires { ⌜ HasCells (now work) (rows * columns) × (index < rows * columns) ⌝ }
     ensures { λ _. ⌜ ((g : Grid) (s : Position) (old : List ℤ) → Stands rows columns g s old (now (work .entry)) → Clicked g s index (now (tops .entry)) (now (tops .exit))) ⌝ }
 {
-    if area::get(work, 5 * index + 4) == 1 {
-        forget(work, rows, columns, tops, index);
+    if area::kind(work, index) == 1 {
+        mark(work, rows, columns, tops, index);
         return;
     }
-    forget_one(tops, index / rows);
+    mark_one(tops, index / rows);
 }

@@ -8,6 +8,7 @@ use lib.Dec.{T, T-not, eqb}
 use lib.IntN.{ℤ}
 use lib.ListN.{set}
 use lib.Seq.{getD-set-other}
+use Rattle.area.specs.Numbers.{stateAt}
 use Rattle.moves.specs.declared.State.{State}
 use Rattle.area.specs.Stages.{Stands}
 use Rattle.game.specs.Grid.{Grid, mine, safe, square, zeroCell}
@@ -15,7 +16,6 @@ use Rattle.game.specs.Lists.{keep}
 use Rattle.game.specs.Moves.{after, chord, flag, left, play, reveal}
 use Rattle.game.specs.Position.{Position, Tidy, closed, closedSafe, flagged, unflagged}
 use Rattle.game.specs.Rounds.{movesAt}
-use Rattle.play.specs.Walks.{stateAt}
 use Rattle.moves.specs.Promises.{Made}
 use Rattle.game.proofs.Members.{keep-ext}
 use Rattle.game.proofs.Reveal.{Revealed, opens, revealed, stays, sweeps}

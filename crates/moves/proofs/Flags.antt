@@ -8,13 +8,14 @@ use lib.Dec.{T, T-not, eqb}
 use lib.IntN.{ℤ}
 use lib.ListN.{getD, set}
 use lib.Seq.{getD-set-other}
+use Rattle.area.specs.Squares.{squareOf}
+use Rattle.area.specs.Numbers.{kindAt, stateAt}
 use Rattle.moves.specs.declared.State.{State}
 use Rattle.area.specs.Stages.{Stands}
 use Rattle.game.specs.Grid.{Grid, mine, square}
 use Rattle.game.specs.Lists.{has, keep}
 use Rattle.game.specs.Moves.{Move, after, flag, play}
 use Rattle.game.specs.Position.{Position, Tidy, closed, closedSafe, flagged, unflagged}
-use Rattle.play.specs.Walks.{kindAt, squareOf, stateAt}
 use Rattle.moves.specs.Promises.{Carried, Made}
 use Rattle.moves.specs.Walks.{Over, flagsFrom}
 use Rattle.game.proofs.Members.{keep-ext}

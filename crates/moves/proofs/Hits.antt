@@ -6,6 +6,7 @@ use mathlib.Core.Bool.{Bool, _&&_, cond, false, true}
 use mathlib.Core.List.{List, [], _++_, _∷_}
 use lib.Dec.{T, eqb→eq}
 use lib.IntN.{ℤ}
+use Rattle.area.specs.Numbers.{kindAt}
 use Rattle.moves.specs.declared.State.{State}
 use Rattle.area.specs.Stages.{Stands}
 use Rattle.game.specs.Grid.{Grid, cells, safe, zeroCell}
@@ -13,7 +14,6 @@ use Rattle.game.specs.Lists.{range}
 use Rattle.game.specs.Moves.{Move, after, left, play}
 use Rattle.game.specs.Position.{Position, Tidy, closed, closedSafe}
 use Rattle.game.specs.Rounds.{afterStep, clickStep, movesOf, openingClicks}
-use Rattle.play.specs.Walks.{kindAt}
 use Rattle.moves.specs.Promises.{Made}
 use Rattle.moves.specs.Walks.{Over, hitsFrom}
 use Rattle.game.proofs.Truth.{and-left, eqb-yes, no→false}

@@ -5,7 +5,7 @@ ghost use mathlib.Core.Path.{_≡_};
 ghost use mathlib.Core.List.{List, [], _∷_};
 ghost use Prim.Native.Nat.{_+_, _*_, _^_, _<_, _≤_};
 ghost use lib.IntN.{ℤ};
-ghost use lib.ListN.{length};
+ghost use Rattle.area.specs.Numbers.{HasCells};
 ghost use Rattle.game.specs.Grid.{Grid, cells};
 ghost use Rattle.game.specs.Position.{Position, Tidy, closedSafe};
 ghost use Rattle.game.specs.Rounds.{movesOf, openingClicks};
@@ -23,11 +23,11 @@ pub fn hit(
     index: usize,
 ) -> State
     requires { ⌜ Shape rows columns ⌝ }
-    requires { ⌜ (5 * (rows * columns) ≤ length (now work)) × (index < rows * columns) × (state .moves ≤ 2 ^ 45) ⌝ }
+    requires { ⌜ HasCells (now work) (rows * columns) × (index < rows * columns) × (state .moves ≤ 2 ^ 45) ⌝ }
     ensures { λ r. ⌜ r .moves ≤ state .moves + 1 ⌝ }
     ensures { λ r. ⌜ Over hitsFrom (index ∷ []) rows columns (now (work .entry)) (now (list .entry)) state (now (work .exit)) (now (list .exit)) r ⌝ }
 {
-    if area::get(work, 5 * index + 4) != 1 {
+    if area::kind(work, index) != 1 {
         return state;
     }
     single::click_closed(work, rows, columns, list, state, index)
@@ -42,7 +42,7 @@ pub fn hit_openings(
     state: State,
 ) -> State
     requires { ⌜ Shape rows columns ⌝ }
-    requires { ⌜ (5 * (rows * columns) ≤ length (now work)) × (state .moves ≤ 2 ^ 32) ⌝ }
+    requires { ⌜ HasCells (now work) (rows * columns) × (state .moves ≤ 2 ^ 32) ⌝ }
     ensures { λ r. ⌜ r .moves ≤ state .moves + rows * columns ⌝ }
     ensures { λ r. ⌜ ((g : Grid) (s : Position) (old : List ℤ) → Stands rows columns g s old (now (work .entry)) → Tidy g s → state .closed ≡ closedSafe g s
         → Made rows columns g s old (movesOf (openingClicks g s (cells g))) (now (list .entry)) state (now (work .exit)) (now (list .exit)) r) ⌝ }

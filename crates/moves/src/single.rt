@@ -7,14 +7,15 @@ ghost use mathlib.Core.List.{List, [], _∷_, map};
 ghost use Prim.Native.Nat.{_+_, _-_, _*_, _^_, _<_, _≤_};
 ghost use lib.Dec.{T};
 ghost use lib.IntN.{ℤ};
-ghost use lib.ListN.{length, set};
+ghost use lib.ListN.{set};
+ghost use Rattle.area.specs.Squares.{rowCells};
+ghost use Rattle.area.specs.Numbers.{HasCells};
 ghost use Rattle.game.specs.Lists.{keep};
 ghost use Rattle.game.specs.Grid.{Grid, safe, square, zeroCell};
 ghost use Rattle.game.specs.Position.{Position, Tidy, closed as isClosed, closedSafe, unflagged};
 ghost use Rattle.game.specs.Moves.{left, flag, chord};
 ghost use Rattle.game.specs.Rounds.{movesAt};
 ghost use Rattle.area.specs.Stages.{Shape, Stands};
-ghost use Rattle.play.specs.Walks.{rowCells};
 ghost use Rattle.moves.specs.Promises.{Carried, Made};
 ghost use Rattle.moves.specs.Walks.{Over, flagsFrom};
 
@@ -37,7 +38,7 @@ pub fn carry_on(list: &mut [u32], state: State, kind: u32, index: usize, opened:
     note(list, state.moves, kind, index);
     State {
         moves: state.moves + 1,
-        closed: area::less(state.closed, opened.cells),
+        closed: area::take_away(state.closed, opened.cells),
     }
 }
 
@@ -51,7 +52,7 @@ pub fn click(
     index: usize,
 ) -> State
     requires { ⌜ Shape rows columns ⌝ }
-    requires { ⌜ (5 * (rows * columns) ≤ length (now work)) × (index < rows * columns) × (state .moves ≤ 2 ^ 48) ⌝ }
+    requires { ⌜ HasCells (now work) (rows * columns) × (index < rows * columns) × (state .moves ≤ 2 ^ 48) ⌝ }
     ensures { λ r. ⌜ r .moves ≤ state .moves + 1 ⌝ }
     ensures { λ r. ⌜ ((g : Grid) (s : Position) (old : List ℤ) → Stands rows columns g s old (now (work .entry)) → Tidy g s
         → T (safe g index) → T (isClosed s index) → state .closed ≡ closedSafe g s
@@ -71,13 +72,13 @@ pub fn click_closed(
     index: usize,
 ) -> State
     requires { ⌜ Shape rows columns ⌝ }
-    requires { ⌜ (5 * (rows * columns) ≤ length (now work)) × (index < rows * columns) × (state .moves ≤ 2 ^ 48) ⌝ }
+    requires { ⌜ HasCells (now work) (rows * columns) × (index < rows * columns) × (state .moves ≤ 2 ^ 48) ⌝ }
     ensures { λ r. ⌜ r .moves ≤ state .moves + 1 ⌝ }
     ensures { λ r. ⌜ ((g : Grid) (s : Position) (old : List ℤ) → Stands rows columns g s old (now (work .entry)) → Tidy g s
         → T (safe g index) → state .closed ≡ closedSafe g s
         → Made rows columns g s old (cond (isClosed s index) (left index ∷ []) []) (now (list .entry)) state (now (work .exit)) (now (list .exit)) r) ⌝ }
 {
-    if area::get(work, 5 * index + 3) != 0 {
+    if area::state(work, index) != 0 {
         return state;
     }
     click(work, rows, columns, list, state, index)
@@ -93,14 +94,14 @@ pub fn flag_mine(
     index: usize,
 ) -> State
     requires { ⌜ Shape rows columns ⌝ }
-    requires { ⌜ (5 * (rows * columns) ≤ length (now work)) × (index < rows * columns) × (state .moves ≤ 2 ^ 48) ⌝ }
+    requires { ⌜ HasCells (now work) (rows * columns) × (index < rows * columns) × (state .moves ≤ 2 ^ 48) ⌝ }
     ensures { λ r. ⌜ r .moves ≤ state .moves + 1 ⌝ }
     ensures { λ r. ⌜ Over flagsFrom (index ∷ []) rows columns (now (work .entry)) (now (list .entry)) state (now (work .exit)) (now (list .exit)) r ⌝ }
 {
-    if area::get(work, 5 * index + 4) != 0 {
+    if area::kind(work, index) != 0 {
         return state;
     }
-    if area::get(work, 5 * index + 3) == 2 {
+    if area::state(work, index) == 2 {
         return state;
     }
     play::flag(work, rows, columns, index);
@@ -119,7 +120,7 @@ fn flag_row(
     to: usize,
 ) -> State
     requires { ⌜ Shape rows columns ⌝ }
-    requires { ⌜ (5 * (rows * columns) ≤ length (now work)) × (row < rows) × (from ≤ to) × (to ≤ columns) × (state .moves ≤ 2 ^ 47) ⌝ }
+    requires { ⌜ HasCells (now work) (rows * columns) × (row < rows) × (from ≤ to) × (to ≤ columns) × (state .moves ≤ 2 ^ 47) ⌝ }
     ensures { λ r. ⌜ r .moves ≤ state .moves + (to - from) ⌝ }
     ensures { λ r. ⌜ Over flagsFrom (rowCells rows row from to) rows columns (now (work .entry)) (now (list .entry)) state (now (work .exit)) (now (list .exit)) r ⌝ }
 {
@@ -140,19 +141,19 @@ pub fn flag_around(
     index: usize,
 ) -> State
     requires { ⌜ Shape rows columns ⌝ }
-    requires { ⌜ (5 * (rows * columns) ≤ length (now work)) × (index < rows * columns) × (state .moves ≤ 2 ^ 46) ⌝ }
+    requires { ⌜ HasCells (now work) (rows * columns) × (index < rows * columns) × (state .moves ≤ 2 ^ 46) ⌝ }
     ensures { λ r. ⌜ r .moves ≤ state .moves + 9 ⌝ }
     ensures { λ r. ⌜ ((g : Grid) (s : Position) (old : List ℤ) → Stands rows columns g s old (now (work .entry)) → Tidy g s → state .closed ≡ closedSafe g s
         → Made rows columns g s old (map flag (keep (unflagged g s) (square g index))) (now (list .entry)) state (now (work .exit)) (now (list .exit)) r) ⌝ }
 {
-    let row = index % rows;
-    let column = index / rows;
-    let from = area::lower(column);
-    let to = area::upper(column, columns);
-    let last = area::upper(row, rows);
+    let sides = area::around(rows, columns, index);
+    let first = sides.first;
+    let last = sides.last;
+    let from = sides.from;
+    let to = sides.to;
     let mut flagged = state;
-    for r in area::lower(row)..last {
-        flagged = flag_row(work, rows, columns, list, flagged, r, from, to);
+    for row in first..last {
+        flagged = flag_row(work, rows, columns, list, flagged, row, from, to);
     }
     flagged
 }
@@ -167,7 +168,7 @@ pub fn chord_on(
     index: usize,
 ) -> State
     requires { ⌜ Shape rows columns ⌝ }
-    requires { ⌜ (5 * (rows * columns) ≤ length (now work)) × (index < rows * columns) × (state .moves ≤ 2 ^ 48) ⌝ }
+    requires { ⌜ HasCells (now work) (rows * columns) × (index < rows * columns) × (state .moves ≤ 2 ^ 48) ⌝ }
     ensures { λ r. ⌜ ((g : Grid) (s : Position) (old : List ℤ) → Stands rows columns g s old (now (work .entry)) → Tidy g s → state .closed ≡ closedSafe g s
         → Made rows columns g s old (chord index ∷ []) (now (list .entry)) state (now (work .exit)) (now (list .exit)) r) ⌝ }
 {
@@ -185,7 +186,7 @@ pub fn act(
     index: usize,
 ) -> State
     requires { ⌜ Shape rows columns ⌝ }
-    requires { ⌜ (5 * (rows * columns) ≤ length (now work)) × (index < rows * columns) × (state .moves ≤ 2 ^ 45) ⌝ }
+    requires { ⌜ HasCells (now work) (rows * columns) × (index < rows * columns) × (state .moves ≤ 2 ^ 45) ⌝ }
     ensures { λ r. ⌜ ((g : Grid) (s : Position) (old : List ℤ) → Stands rows columns g s old (now (work .entry)) → Tidy g s
         → T (safe g index) → (T (zeroCell g index) → ⊥) → state .closed ≡ closedSafe g s
         → Made rows columns g s old (movesAt g s index) (now (list .entry)) state (now (work .exit)) (now (list .exit)) r) ⌝ }

@@ -1,5 +1,5 @@
 -- Changes of the work area while an opening is labelled: how they follow one another, and that fewer 0-cells are left. Assumes nothing.
-use Prim.Native.Nat.{ℕ, _*_, _+_, _<_, _≤_}
+use Prim.Native.Nat.{ℕ, _<_, _≤_}
 use native.Mathlib.Omega.{arith}
 use native.Mathlib.Decide.{ℕ-discrete, decLe}
 use mathlib.Core.Path.{_∙_, _≡_, ap, fun-ext, refl, sym}
@@ -7,14 +7,13 @@ use mathlib.Core.Logic.{inl, inr, ⊎-elim}
 use mathlib.Core.List.{List}
 use lib.Dec.{T}
 use lib.IntN.{pos, ℤ}
-use lib.ListN.{length}
-use Rattle.area.specs.Numbers.{natural}
+use Rattle.area.specs.Numbers.{HasCell, HasCells, firstAt, firstPlace, kindAt, kindPlace, natural, secondAt, secondPlace, statePlace}
 use Rattle.game.specs.Grid.{Grid, size, square}
 use Rattle.game.specs.Lists.{has}
-use Rattle.openings.specs.Marks.{edgeFirst, edgeSecond, firstOf, kindOf, marked, secondOf}
+use Rattle.openings.specs.Labels.{edgeFirst, edgeSecond, putLabel}
 use Rattle.openings.specs.Spread.{Change, Closed, Edge, Reach, Same, Side, here, next}
 use Rattle.game.proofs.Squares.{square→}
-use Rattle.openings.proofs.Edges.{first-some, first-twice, marked-first, marked-long, marked-other, marked-second, second-twice}
+use Rattle.openings.proofs.Edges.{first-some, first-twice, labelled-first, labelled-long, labelled-other, labelled-second, second-twice}
 
 module _ (g : Grid) (k : ℕ → ℕ) where
   pub reach-first : {a b : ℕ} → Reach g k a b → (a < size g) × (k a ≡ 1)
@@ -43,24 +42,24 @@ module _ (op : ℕ) (o : 1 ≤ op) (w w1 w2 : List ℤ) (i : ℕ) where
 
   edge-edge : Edge op w w1 i → Edge op w1 w2 i → Edge op w w2 i
   edge-edge s t =
-      let p : firstOf w1 i ≡ edgeFirst op (firstOf w i) = ap natural (s .one) in
-      let q : secondOf w1 i ≡ edgeSecond op (firstOf w i) (secondOf w i) = ap natural (s .two) in
+      let p : firstAt w1 i ≡ edgeFirst op (firstAt w i) = ap natural (s .one) in
+      let q : secondAt w1 i ≡ edgeSecond op (firstAt w i) (secondAt w i) = ap natural (s .two) in
       record {
-        one = t .one ∙ ap (λ (a : ℕ). pos (edgeFirst op a)) p ∙ ap pos (first-twice op o (firstOf w i));
-        two = t .two ∙ ap (λ (a : ℕ). pos (edgeSecond op a (secondOf w1 i))) p ∙ ap (λ (b : ℕ). pos (edgeSecond op (edgeFirst op (firstOf w i)) b)) q
-            ∙ ap pos (second-twice op o (firstOf w i) (secondOf w i));
+        one = t .one ∙ ap (λ (a : ℕ). pos (edgeFirst op a)) p ∙ ap pos (first-twice op o (firstAt w i));
+        two = t .two ∙ ap (λ (a : ℕ). pos (edgeSecond op a (secondAt w1 i))) p ∙ ap (λ (b : ℕ). pos (edgeSecond op (edgeFirst op (firstAt w i)) b)) q
+            ∙ ap pos (second-twice op o (firstAt w i) (secondAt w i));
       }
 
-  pub edge-some : Edge op w w1 i → 1 ≤ firstOf w1 i
-  edge-some s = let p : firstOf w1 i ≡ edgeFirst op (firstOf w i) = ap natural (s .one) in omega (arith, first-some op o (firstOf w i))
+  pub edge-some : Edge op w w1 i → 1 ≤ firstAt w1 i
+  edge-some s = let p : firstAt w1 i ≡ edgeFirst op (firstAt w i) = ap natural (s .one) in omega (arith, first-some op o (firstAt w i))
 
-same-first : (w w1 : List ℤ) (i : ℕ) → Same w w1 i → firstOf w1 i ≡ firstOf w i
+same-first : (w w1 : List ℤ) (i : ℕ) → Same w w1 i → firstAt w1 i ≡ firstAt w i
 same-first w w1 i s = ap natural (s .one)
 
 module _ (g : Grid) (k : ℕ → ℕ) (op : ℕ) (o : 1 ≤ op) where
   pub refl-change : (from : ℕ) (w : List ℤ) → Change g k op from w w
   refl-change from w =
-      record { long = refl; cells = λ i h. inl (record { one = refl; two = refl }); others = λ i s h a b. refl; past = λ x h. refl }
+      record { long = refl; cells = λ i h. inl (record { one = refl; two = refl }); states = λ i h. refl; kinds = λ i h. refl; past = λ x h. refl }
 
   -- a change from a cell is one from each cell that reaches it
   pub change-from : {a b : ℕ} (w w1 : List ℤ) → (b < size g → k b ≡ 1 → Reach g k a b) → Change g k op b w w1 → Change g k op a w w1
@@ -74,7 +73,8 @@ module _ (g : Grid) (k : ℕ → ℕ) (op : ℕ) (o : 1 ≤ op) where
           reached = let f = reach-first g k (t .reached) in reach-trans g k (r (f .0) (f .1)) (t .reached);
           beside = t .beside;
         })) (c .cells i h);
-        others = c .others;
+        states = c .states;
+        kinds = c .kinds;
         past = c .past;
       }
 
@@ -98,24 +98,25 @@ module _ (g : Grid) (k : ℕ → ℕ) (op : ℕ) (o : 1 ≤ op) where
             let e : Edge op w w2 i = ⊎-elim (λ t. edge-same op o w w1 w2 i (s .edge) t) (λ t. edge-edge op o w w1 w2 i (s .edge) (t .edge)) (d .cells i h) in
             inr (record { edge = e; fresh = s .fresh; source = s .source; reached = s .reached; beside = s .beside }))
             (c .cells i h);
-        others = λ i s h a b. d .others i s h a b ∙ c .others i s h a b;
+        states = λ i h. d .states i h ∙ c .states i h;
+        kinds = λ i h. d .kinds i h ∙ c .kinds i h;
         past = λ x h. d .past x h ∙ c .past x h;
       }
 
   -- a label stays
-  pub stays : (from : ℕ) (w w1 : List ℤ) → Change g k op from w w1 → (i : ℕ) → i < size g → 1 ≤ firstOf w i → 1 ≤ firstOf w1 i
+  pub stays : (from : ℕ) (w w1 : List ℤ) → Change g k op from w w1 → (i : ℕ) → i < size g → 1 ≤ firstAt w i → 1 ≤ firstAt w1 i
   stays from w w1 c i h e =
       ⊎-elim (λ s. let q = same-first w w1 i s in omega arith) (λ s. edge-some op o w w1 w1 i (s .edge)) (c .cells i h)
 
   -- kinds stay
-  pub kind-stays : (from : ℕ) (w w1 : List ℤ) → Change g k op from w w1 → (i : ℕ) → kindOf w1 i ≡ kindOf w i
+  pub kind-stays : (from : ℕ) (w w1 : List ℤ) → Change g k op from w w1 → (i : ℕ) → kindAt w1 i ≡ kindAt w i
   kind-stays from w w1 c i =
       elim (decLe (size g) i) [
-        | yes h ↦ ap natural (c .past (5 * i + 2) (omega arith))
-        | no h ↦ ap natural (c .others i 2 (omega arith) (omega arith) (omega arith))
+        | yes h ↦ ap natural (c .past (kindPlace i) (omega arith))
+        | no h ↦ ap natural (c .kinds i (omega arith))
       ]
 
-  pub kinds-stay : (from : ℕ) (w w1 : List ℤ) → Change g k op from w w1 → kindOf w1 ≡ kindOf w
+  pub kinds-stay : (from : ℕ) (w w1 : List ℤ) → Change g k op from w w1 → kindAt w1 ≡ kindAt w
   kinds-stay from w w1 c = fun-ext (kind-stays from w w1 c)
 
   -- ---- a side, before and after a change
@@ -141,35 +142,36 @@ module _ (g : Grid) (k : ℕ → ℕ) (op : ℕ) (o : 1 ≤ op) where
   pub closed-then : (a b : ℕ) (w w1 w2 : List ℤ) → Change g k op a w w1 → Closed g k op w w1 → Change g k op b w1 w2 → Closed g k op w1 w2 → Closed g k op w w2
   closed-then a b w w1 w2 c p d q x h e f l y t =
       let hy = square→ g x y h t .0 in
-      elim (ℕ-discrete (firstOf w1 x) 0) [
+      elim (ℕ-discrete (firstAt w1 x) 0) [
         | yes r ↦ then-side a w w1 w2 y hy c (q x h e r l y t)
         | no r ↦ side-then b w w1 w2 y hy (p x h e f (omega arith) y t) d
       ]
 
   -- ---- one label put
 
-  pub mark-change : (from source : ℕ) (w : List ℤ) (at : ℕ) → at < size g → 5 * size g ≤ length w → (k at ≡ 1 → firstOf w at ≡ 0)
-      → Reach g k from source → T (has at (square g source)) → Change g k op from w (marked w at op)
-  mark-change from source w at h room f r t =
+  pub label-change : (from source : ℕ) (w : List ℤ) (at : ℕ) → at < size g → HasCells w (size g) → (k at ≡ 1 → firstAt w at ≡ 0)
+      → Reach g k from source → T (has at (square g source)) → Change g k op from w (putLabel w at op)
+  label-change from source w at h room f r t =
       record {
-        long = marked-long w at op;
+        long = labelled-long w at op;
         cells = λ i l.
             elim (ℕ-discrete i at) [
               | yes e ↦ inr (rw e (record {
-                edge = mark-edge w at (omega arith);
+                edge = label-edge w at (omega arith);
                 fresh = f;
                 source = source;
                 reached = r;
                 beside = t;
               }))
               | no n ↦ inl (record {
-                one = marked-other w at op (5 * i) (λ e. n (omega arith)) (λ e. omega arith);
-                two = marked-other w at op (5 * i + 1) (λ e. omega arith) (λ e. n (omega arith));
+                one = labelled-other w at op (firstPlace i) (λ e. n (omega arith)) (λ e. omega arith);
+                two = labelled-other w at op (secondPlace i) (λ e. omega arith) (λ e. n (omega arith));
               })
             ];
-        others = λ i s l a b. marked-other w at op (5 * i + s) (λ e. omega arith) (λ e. omega arith);
-        past = λ x l. marked-other w at op x (λ e. omega arith) (λ e. omega arith);
+        states = λ i l. labelled-other w at op (statePlace i) (λ e. omega arith) (λ e. omega arith);
+        kinds = λ i l. labelled-other w at op (kindPlace i) (λ e. omega arith) (λ e. omega arith);
+        past = λ x l. labelled-other w at op x (λ e. omega arith) (λ e. omega arith);
       }
     where
-      mark-edge : (w : List ℤ) (at : ℕ) → 5 * at + 5 ≤ length w → Edge op w (marked w at op) at
-      mark-edge w at h = record { one = marked-first w at op h; two = marked-second w at op h }
+      label-edge : (w : List ℤ) (at : ℕ) → HasCell w at → Edge op w (putLabel w at op) at
+      label-edge w at h = record { one = labelled-first w at op h; two = labelled-second w at op h }

@@ -1,5 +1,5 @@
 -- One more label at a cell: what it makes of the labels, and that all else stays. Putting it twice is putting it once. Assumes nothing.
-use Prim.Native.Nat.{ℕ, _%_, _*_, _+_, _<_, _≤_}
+use Prim.Native.Nat.{ℕ, _%_, _<_, _≤_}
 use native.Mathlib.Omega.{arith}
 use mathlib.Core.Path.{_∙_, _≡_, ap, refl, sym}
 use mathlib.Core.Bool.{Bool, _&&_, cond, false, not, true}
@@ -9,8 +9,8 @@ use lib.Dec.{eqb, ltb}
 use lib.IntN.{pos, ℤ}
 use lib.ListN.{getD, length, length-set, set}
 use lib.Seq.{getD-set-other, getD-set-same}
-use Rattle.area.specs.Numbers.{natural, putAt}
-use Rattle.openings.specs.Marks.{Fresh, bordered, edgeFirst, edgeSecond, firstOf, freshCell, kindOf, marked, numberedOf, secondOf}
+use Rattle.area.specs.Numbers.{HasCell, firstAt, firstPlace, kindAt, kindPlace, natural, putAt, secondAt, secondPlace}
+use Rattle.openings.specs.Labels.{Fresh, bordered, edgeFirst, edgeSecond, freshCell, putLabel, numberedOf}
 
 -- a test decides
 pub split : {A : Type 0} (b : Bool) → (b ≡ true → A) → (b ≡ false → A) → A
@@ -52,49 +52,49 @@ module _ (op a b : ℕ) (fit : op < 2147483648) (h : a < 2147483648) where
       split (eqb a op) (λ f. simp (e, f) (omega arith)) (λ f.
       split (eqb b 0) (λ d. simp (e, f, d) (omega arith)) (λ d. simp (e, f, d) (omega arith))))
 
-pub marked-by : (w w1 w2 : List ℤ) (i op a b x y : ℕ) → op < 2147483648 → (a ≡ firstOf w i) × (a < 2147483648) → (b ≡ secondOf w i) × (b < 2147483648)
-    → x ≡ edgeFirst op a → y ≡ edgeSecond op a b → w1 ≡ putAt w (5 * i) x → w2 ≡ putAt w1 (5 * i + 1) y → w2 ≡ marked w i op
-unfolding marked
-marked-by w w1 w2 i op a b x y fit ea eb ex ey e1 e2 =
-    let px : x % 2147483648 ≡ edgeFirst op (firstOf w i) = ap (λ (n : ℕ). n % 2147483648) ex ∙ first-fits op a b fit (ea .1) ∙ ap (edgeFirst op) (ea .0) in
-    let py : y % 2147483648 ≡ edgeSecond op (firstOf w i) (secondOf w i) =
+pub labelled-by : (w w1 w2 : List ℤ) (i op a b x y : ℕ) → op < 2147483648 → (a ≡ firstAt w i) × (a < 2147483648) → (b ≡ secondAt w i) × (b < 2147483648)
+    → x ≡ edgeFirst op a → y ≡ edgeSecond op a b → w1 ≡ putAt w (firstPlace i) x → w2 ≡ putAt w1 (secondPlace i) y → w2 ≡ putLabel w i op
+unfolding putLabel
+labelled-by w w1 w2 i op a b x y fit ea eb ex ey e1 e2 =
+    let px : x % 2147483648 ≡ edgeFirst op (firstAt w i) = ap (λ (n : ℕ). n % 2147483648) ex ∙ first-fits op a b fit (ea .1) ∙ ap (edgeFirst op) (ea .0) in
+    let py : y % 2147483648 ≡ edgeSecond op (firstAt w i) (secondAt w i) =
     ap (λ (n : ℕ). n % 2147483648) ey ∙ second-fits op a b fit (ea .1) (eb .1) ∙ cc (ea .0, eb .0) in
-    e2 ∙ ap (λ (n : ℕ). set w1 (5 * i + 1) (pos n)) py
-    ∙ ap (λ (l : List ℤ). set l (5 * i + 1) (pos (edgeSecond op (firstOf w i) (secondOf w i)))) (e1 ∙ ap (λ (n : ℕ). set w (5 * i) (pos n)) px)
+    e2 ∙ ap (λ (n : ℕ). set w1 (secondPlace i) (pos n)) py
+    ∙ ap (λ (l : List ℤ). set l (secondPlace i) (pos (edgeSecond op (firstAt w i) (secondAt w i)))) (e1 ∙ ap (λ (n : ℕ). set w (firstPlace i) (pos n)) px)
 
 -- what two stores at a cell's labels do at each place
 module _ (w : List ℤ) (i : ℕ) (a b : ℤ) where
-  two-first : 5 * i + 5 ≤ length w → getD (set (set w (5 * i) a) (5 * i + 1) b) (5 * i) (pos 0) ≡ a
-  two-first h = getD-set-other (set w (5 * i) a) (5 * i + 1) (5 * i) b (pos 0) (λ e. omega arith) ∙ getD-set-same w (5 * i) a (pos 0) (omega arith)
+  two-first : HasCell w i → getD (set (set w (firstPlace i) a) (secondPlace i) b) (firstPlace i) (pos 0) ≡ a
+  two-first h = getD-set-other (set w (firstPlace i) a) (secondPlace i) (firstPlace i) b (pos 0) (λ e. omega arith) ∙ getD-set-same w (firstPlace i) a (pos 0) (omega arith)
 
-  two-second : 5 * i + 5 ≤ length w → getD (set (set w (5 * i) a) (5 * i + 1) b) (5 * i + 1) (pos 0) ≡ b
-  two-second h = getD-set-same (set w (5 * i) a) (5 * i + 1) b (pos 0) (omega (arith, length-set w (5 * i) a))
+  two-second : HasCell w i → getD (set (set w (firstPlace i) a) (secondPlace i) b) (secondPlace i) (pos 0) ≡ b
+  two-second h = getD-set-same (set w (firstPlace i) a) (secondPlace i) b (pos 0) (omega (arith, length-set w (firstPlace i) a))
 
-  two-other : (x : ℕ) → (x ≡ 5 * i → ⊥) → (x ≡ 5 * i + 1 → ⊥) → getD (set (set w (5 * i) a) (5 * i + 1) b) x (pos 0) ≡ getD w x (pos 0)
-  two-other x f h = getD-set-other (set w (5 * i) a) (5 * i + 1) x b (pos 0) h ∙ getD-set-other w (5 * i) x a (pos 0) f
+  two-other : (x : ℕ) → (x ≡ firstPlace i → ⊥) → (x ≡ secondPlace i → ⊥) → getD (set (set w (firstPlace i) a) (secondPlace i) b) x (pos 0) ≡ getD w x (pos 0)
+  two-other x f h = getD-set-other (set w (firstPlace i) a) (secondPlace i) x b (pos 0) h ∙ getD-set-other w (firstPlace i) x a (pos 0) f
 
-  two-long : length (set (set w (5 * i) a) (5 * i + 1) b) ≡ length w
-  two-long = length-set (set w (5 * i) a) (5 * i + 1) b ∙ length-set w (5 * i) a
+  two-long : length (set (set w (firstPlace i) a) (secondPlace i) b) ≡ length w
+  two-long = length-set (set w (firstPlace i) a) (secondPlace i) b ∙ length-set w (firstPlace i) a
 
 module _ (w : List ℤ) (i op : ℕ) where
-  pub marked-first : 5 * i + 5 ≤ length w → getD (marked w i op) (5 * i) (pos 0) ≡ pos (edgeFirst op (firstOf w i))
-  unfolding marked
-  marked-first h = two-first w i (pos (edgeFirst op (firstOf w i))) (pos (edgeSecond op (firstOf w i) (secondOf w i))) h
+  pub labelled-first : HasCell w i → getD (putLabel w i op) (firstPlace i) (pos 0) ≡ pos (edgeFirst op (firstAt w i))
+  unfolding putLabel
+  labelled-first h = two-first w i (pos (edgeFirst op (firstAt w i))) (pos (edgeSecond op (firstAt w i) (secondAt w i))) h
 
-  pub marked-second : 5 * i + 5 ≤ length w → getD (marked w i op) (5 * i + 1) (pos 0) ≡ pos (edgeSecond op (firstOf w i) (secondOf w i))
-  unfolding marked
-  marked-second h = two-second w i (pos (edgeFirst op (firstOf w i))) (pos (edgeSecond op (firstOf w i) (secondOf w i))) h
+  pub labelled-second : HasCell w i → getD (putLabel w i op) (secondPlace i) (pos 0) ≡ pos (edgeSecond op (firstAt w i) (secondAt w i))
+  unfolding putLabel
+  labelled-second h = two-second w i (pos (edgeFirst op (firstAt w i))) (pos (edgeSecond op (firstAt w i) (secondAt w i))) h
 
-  pub marked-other : (x : ℕ) → (x ≡ 5 * i → ⊥) → (x ≡ 5 * i + 1 → ⊥) → getD (marked w i op) x (pos 0) ≡ getD w x (pos 0)
-  unfolding marked
-  marked-other x f h = two-other w i (pos (edgeFirst op (firstOf w i))) (pos (edgeSecond op (firstOf w i) (secondOf w i))) x f h
+  pub labelled-other : (x : ℕ) → (x ≡ firstPlace i → ⊥) → (x ≡ secondPlace i → ⊥) → getD (putLabel w i op) x (pos 0) ≡ getD w x (pos 0)
+  unfolding putLabel
+  labelled-other x f h = two-other w i (pos (edgeFirst op (firstAt w i))) (pos (edgeSecond op (firstAt w i) (secondAt w i))) x f h
 
-  pub marked-kind : kindOf (marked w i op) i ≡ kindOf w i
-  marked-kind = ap natural (marked-other (5 * i + 2) (λ e. omega arith) (λ e. omega arith))
+  pub labelled-kind : kindAt (putLabel w i op) i ≡ kindAt w i
+  labelled-kind = ap natural (labelled-other (kindPlace i) (λ e. omega arith) (λ e. omega arith))
 
-  pub marked-long : length (marked w i op) ≡ length w
-  unfolding marked
-  marked-long = two-long w i (pos (edgeFirst op (firstOf w i))) (pos (edgeSecond op (firstOf w i) (secondOf w i)))
+  pub labelled-long : length (putLabel w i op) ≡ length w
+  unfolding putLabel
+  labelled-long = two-long w i (pos (edgeFirst op (firstAt w i))) (pos (edgeSecond op (firstAt w i) (secondAt w i)))
 
 -- ---- what the tests tell
 
@@ -116,20 +116,20 @@ both false b e = absurd (clash e)
 module _ (n : ℕ) (w : List ℤ) (i : ℕ) (r : Bool) where
   pub fresh-yes : r ≡ freshCell n w i → not r ≡ false → Fresh n w i
   fresh-yes e t =
-      let a = both (ltb i n) (eqb (kindOf w i) 1 && eqb (firstOf w i) 0) (sym e ∙ not-false r t) in
-      let b = both (eqb (kindOf w i) 1) (eqb (firstOf w i) 0) (a .1) in
-      record { inside = ltb-true i n (a .0); zero-cell = eqb-true (kindOf w i) 1 (b .0); unlabelled = eqb-true (firstOf w i) 0 (b .1) }
+      let a = both (ltb i n) (eqb (kindAt w i) 1 && eqb (firstAt w i) 0) (sym e ∙ not-false r t) in
+      let b = both (eqb (kindAt w i) 1) (eqb (firstAt w i) 0) (a .1) in
+      record { inside = ltb-true i n (a .0); zero-cell = eqb-true (kindAt w i) 1 (b .0); unlabelled = eqb-true (firstAt w i) 0 (b .1) }
 
   pub fresh-no : r ≡ freshCell n w i → not r ≡ true → Fresh n w i → ⊥
   fresh-no e t f =
-      let z : true ≡ freshCell n w i = simp (lt-ltb i n (f .inside), eq-eqb (kindOf w i) 1 (f .zero-cell), eq-eqb (firstOf w i) 0 (f .unlabelled)) in
+      let z : true ≡ freshCell n w i = simp (lt-ltb i n (f .inside), eq-eqb (kindAt w i) 1 (f .zero-cell), eq-eqb (firstAt w i) 0 (f .unlabelled)) in
       clash (sym (not-true r t) ∙ e ∙ sym z)
 
   pub numbered-inside : r ≡ numberedOf n w i → not r ≡ false → i < n
-  numbered-inside e t = ltb-true i n (both (ltb i n) (not (eqb (kindOf w i) 1)) (sym e ∙ not-false r t) .0)
+  numbered-inside e t = ltb-true i n (both (ltb i n) (not (eqb (kindAt w i) 1)) (sym e ∙ not-false r t) .0)
 
   pub bordered-not : (op : ℕ) → r ≡ numberedOf n w i → not r ≡ true → w ≡ bordered n w i op
-  bordered-not op e t = ap (λ (b : Bool). cond b (marked w i op) w) (sym (not-true r t) ∙ e)
+  bordered-not op e t = ap (λ (b : Bool). cond b (putLabel w i op) w) (sym (not-true r t) ∙ e)
 
-  pub bordered-by : (op : ℕ) (w1 : List ℤ) → r ≡ numberedOf n w i → not r ≡ false → w1 ≡ marked w i op → w1 ≡ bordered n w i op
-  bordered-by op w1 e t q = q ∙ ap (λ (b : Bool). cond b (marked w i op) w) (sym (not-false r t) ∙ e)
+  pub bordered-by : (op : ℕ) (w1 : List ℤ) → r ≡ numberedOf n w i → not r ≡ false → w1 ≡ putLabel w i op → w1 ≡ bordered n w i op
+  bordered-by op w1 e t q = q ∙ ap (λ (b : Bool). cond b (putLabel w i op) w) (sym (not-false r t) ∙ e)

@@ -1,61 +1,44 @@
 -- Labelling from a 0-cell without label gives its number to exactly the cells that its opening holds. Assumes nothing.
-use Prim.Native.Nat.{ℕ, _+_, _<_, _≤_}
+use Prim.Native.Nat.{ℕ, _<_, _≤_}
 use native.Mathlib.Omega.{arith}
 use native.Mathlib.Decide.{ℕ-discrete}
-use mathlib.Core.Path.{_∙_, _≡_, ap, refl, sym}
+use mathlib.Core.Path.{_∙_, _≡_, ap, subst, sym}
 use mathlib.Core.Logic.{⊎-elim}
-use mathlib.Core.Bool.{Bool, cond, false, true}
 use mathlib.Core.List.{List}
 use lib.Dec.{T, eqb→eq}
 use lib.IntN.{ℤ}
-use Rattle.area.specs.Numbers.{natural}
+use Rattle.area.specs.Numbers.{firstAt, natural}
 use Rattle.area.specs.Stages.{kind}
-use Rattle.game.specs.Grid.{Grid, mine, number, size, square}
+use Rattle.area.proofs.Held.{kind-zero}
+use Rattle.area.proofs.Rows.{same-square}
+use Rattle.game.specs.Grid.{Grid, size, square}
 use Rattle.game.specs.Lists.{has}
 use Rattle.game.specs.Openings.{Joined, holds, itself, joinedTo, onward}
-use Rattle.openings.specs.Marks.{firstOf, shaped}
+use Rattle.openings.specs.Labels.{shaped}
 use Rattle.openings.specs.Spread.{Edge, Opened, Reach, Same, here, next}
 use Rattle.game.proofs.Chains.{joined-last}
 use Rattle.game.proofs.Members.{some-yes, yes-some}
 use Rattle.game.proofs.Openings.{joinedTo→, →joinedTo}
-use Rattle.game.proofs.Squares.{close-sym, self-close, square→, →square}
-use Rattle.game.proofs.Truth.{no→false}
-use Rattle.game.proofs.Zeros.{Zero, zero→}
+use Rattle.game.proofs.Squares.{close-sym, square→, →square}
+use Rattle.game.proofs.Zeros.{Zero}
 
 -- ---- kinds tell the 0-cells
 
-pub kind-zero : (g : Grid) (i : ℕ) → i < size g → kind g i ≡ 1 → Zero g i
-unfolding kind
-kind-zero g i h e = go (mine g i) e
-  where
-    go : (b : Bool) → cond b 0 (1 + number g i) ≡ 1 → Zero g i
-    go true q = absurd (omega arith)
-    go false q = record { inside = h; none = rw (number-none q) tt }
-      where
-        number-none : 1 + number g i ≡ 1 → number g i ≡ 0
-        number-none q = omega arith
+pub one→zero : (g : Grid) (i : ℕ) → i < size g → kind g i ≡ 1 → Zero g i
+one→zero g i h e = record { inside = h; none = rw (← kind-zero g i h, e) tt }
 
-pub zero-kind : (g : Grid) (i : ℕ) → Zero g i → kind g i ≡ 1
-unfolding kind
-zero-kind g i z =
-    let s = no→false (mine g i) (zero→ g i i z (z .inside) (self-close g i)) in
-    let n = eqb→eq (number g i) 0 (z .none) in
-    ap (λ (b : Bool). cond b 0 (1 + number g i)) s ∙ omega arith
-
--- squares by the shape alone
-pub same-square : (g : Grid) (i : ℕ) → square (shaped (g .rows) (g .columns)) i ≡ square g i
-unfolding square
-same-square g i = refl
+pub zero→one : (g : Grid) (i : ℕ) → Zero g i → kind g i ≡ 1
+zero→one g i z = eqb→eq (kind g i) 1 (subst T (sym (kind-zero g i (z .inside))) (z .none))
 
 -- ---- one opening
 
 module _ (g : Grid) (k : ℕ → ℕ) (kinds : (j : ℕ) → j < size g → k j ≡ kind g j) (op i : ℕ) (w w′ : List ℤ)
-    (r : Opened (shaped (g .rows) (g .columns)) k op i w w′) (z : Zero g i) (free : (x : ℕ) → Joined g i x → firstOf w x ≡ 0) where
+    (r : Opened (shaped (g .rows) (g .columns)) k op i w w′) (z : Zero g i) (free : (x : ℕ) → Joined g i x → firstAt w x ≡ 0) where
   zero-at : (x : ℕ) → x < size g → k x ≡ 1 → Zero g x
-  zero-at x h e = kind-zero g x h (sym (kinds x h) ∙ e)
+  zero-at x h e = one→zero g x h (sym (kinds x h) ∙ e)
 
   one-at : (x : ℕ) → Zero g x → k x ≡ 1
-  one-at x zx = kinds x (zx .inside) ∙ zero-kind g x zx
+  one-at x zx = kinds x (zx .inside) ∙ zero→one g x zx
 
   chain : (x : ℕ) → Reach (shaped (g .rows) (g .columns)) k i x → Joined g i x
   chain x (here h e) = itself h (zero-at i h e .none)
@@ -65,7 +48,7 @@ module _ (g : Grid) (k : ℕ → ℕ) (kinds : (j : ℕ) → j < size g → k j 
       onward j s (zero-at x (square→ g b x (joined-last g i b j .inside) s .0) e .none)
 
   -- the cells of the opening have a label
-  reached : (x : ℕ) → Joined g i x → 1 ≤ firstOf w′ x
+  reached : (x : ℕ) → Joined g i x → 1 ≤ firstAt w′ x
   reached x (itself h e) = r .self h (one-at i z)
   reached x (onward {b = b} j t e) =
       let zb = joined-last g i b j in
@@ -82,7 +65,7 @@ module _ (g : Grid) (k : ℕ → ℕ) (kinds : (j : ℕ) → j < size g → k j 
       let d = r .closed x (zx .inside) (one-at x zx) (free x p) (reached x p) j (rw (same-square g x) b) in
       elim (ℕ-discrete (k j) 1) [
         | yes e ↦ ⊎-elim
-            (λ u. absurd (let q : firstOf w′ j ≡ firstOf w j = ap natural (u .one) in
+            (λ u. absurd (let q : firstAt w′ j ≡ firstAt w j = ap natural (u .one) in
             omega (arith, q, free j (onward p b (zero-at j h e .none)), d .zero-cell e)))
             (λ u. u .edge) (r .change .cells j h)
         | no f ↦ d .edge f

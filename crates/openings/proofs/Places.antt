@@ -11,7 +11,7 @@ use lib.ListN.{getD, length}
 use Rattle.game.specs.Grid.{Grid}
 use Rattle.game.specs.Lists.{Each, has, some-of}
 use Rattle.game.specs.Openings.{holds, places}
-use Rattle.openings.specs.Marks.{edgeFirst, edgeSecond}
+use Rattle.openings.specs.Labels.{edgeFirst, edgeSecond}
 use Rattle.game.proofs.Labels.{holds-zero}
 use Rattle.game.proofs.Members.{first-of, has-cases, rest-of}
 use Rattle.game.proofs.Openings.{Full}

@@ -1,4 +1,4 @@
 -- What labelling the openings promises.
-pub mod Marks
+pub mod Labels
 pub mod Spread
 pub mod Waits

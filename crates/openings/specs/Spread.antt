@@ -2,16 +2,17 @@
 use Prim.Native.Nat.{ℕ, _+_, _-_, _*_, _<_, _≤_}
 use mathlib.Core.Path.{_≡_}
 use mathlib.Core.Logic.{_⊎_}
-use mathlib.Core.List.{List, [], _∷_}
+use mathlib.Core.List.{List, []}
 use lib.Dec.{T}
 use lib.IntN.{ℤ, pos}
 use lib.ListN.{getD, length}
+use Rattle.area.specs.Numbers.{HasCells, firstAt, firstPlace, five, kindPlace, secondAt, secondPlace, statePlace, waitingPlace}
 use Rattle.game.specs.Grid.{Grid, columnOf, rowOf, size, square}
 use Rattle.game.specs.Lists.{fold, has, range}
 use Rattle.game.specs.Openings.{gather, openings, places}
 use Rattle.game.specs.Area.{laid}
 use Rattle.area.specs.Stages.{kind, labelledFive, loadedFive}
-use Rattle.openings.specs.Marks.{edgeFirst, edgeSecond, firstOf, secondOf}
+use Rattle.openings.specs.Labels.{edgeFirst, edgeSecond}
 
 -- a chain of 0-cells from a on, each in the square of the one before
 pub data Reach (g : Grid) (k : ℕ → ℕ) (a : ℕ) : ℕ → Type 0 where
@@ -20,18 +21,18 @@ pub data Reach (g : Grid) (k : ℕ → ℕ) (a : ℕ) : ℕ → Type 0 where
 
 -- the cell's labels stay
 pub record Same (w w′ : List ℤ) (i : ℕ) : Type 0 where
-  pub one : getD w′ (5 * i) (pos 0) ≡ getD w (5 * i) (pos 0)
-  pub two : getD w′ (5 * i + 1) (pos 0) ≡ getD w (5 * i + 1) (pos 0)
+  pub one : getD w′ (firstPlace i) (pos 0) ≡ getD w (firstPlace i) (pos 0)
+  pub two : getD w′ (secondPlace i) (pos 0) ≡ getD w (secondPlace i) (pos 0)
 
 -- the cell has got the label op
 pub record Edge (op : ℕ) (w w′ : List ℤ) (i : ℕ) : Type 0 where
-  pub one : getD w′ (5 * i) (pos 0) ≡ pos (edgeFirst op (firstOf w i))
-  pub two : getD w′ (5 * i + 1) (pos 0) ≡ pos (edgeSecond op (firstOf w i) (secondOf w i))
+  pub one : getD w′ (firstPlace i) (pos 0) ≡ pos (edgeFirst op (firstAt w i))
+  pub two : getD w′ (secondPlace i) (pos 0) ≡ pos (edgeSecond op (firstAt w i) (secondAt w i))
 
 -- it had to: it stands in the square of a 0-cell joined to `from`, and if it is a 0-cell it had none
 pub record Touch (g : Grid) (k : ℕ → ℕ) (op from : ℕ) (w w′ : List ℤ) (i : ℕ) : Type 0 where
   pub edge : Edge op w w′ i
-  pub fresh : k i ≡ 1 → firstOf w i ≡ 0
+  pub fresh : k i ≡ 1 → firstAt w i ≡ 0
   pub source : ℕ
   pub reached : Reach g k from source
   pub beside : T (has i (square g source))
@@ -40,12 +41,13 @@ pub record Touch (g : Grid) (k : ℕ → ℕ) (op from : ℕ) (w w′ : List ℤ
 pub record Change (g : Grid) (k : ℕ → ℕ) (op from : ℕ) (w w′ : List ℤ) : Type 0 where
   pub long : length w′ ≡ length w
   pub cells : (i : ℕ) → i < size g → Same w w′ i ⊎ Touch g k op from w w′ i
-  pub others : (i s : ℕ) → i < size g → 2 ≤ s → s < 4 → getD w′ (5 * i + s) (pos 0) ≡ getD w (5 * i + s) (pos 0)
-  pub past : (x : ℕ) → 5 * size g ≤ x → getD w′ x (pos 0) ≡ getD w x (pos 0)
+  pub states : (i : ℕ) → i < size g → getD w′ (statePlace i) (pos 0) ≡ getD w (statePlace i) (pos 0)
+  pub kinds : (i : ℕ) → i < size g → getD w′ (kindPlace i) (pos 0) ≡ getD w (kindPlace i) (pos 0)
+  pub past : (x : ℕ) → firstPlace (size g) ≤ x → getD w′ x (pos 0) ≡ getD w x (pos 0)
 
 -- the cell y, beside a 0-cell with the label op, carries op; a 0-cell carries some label
 pub record Side (k : ℕ → ℕ) (op : ℕ) (w w′ : List ℤ) (y : ℕ) : Type 0 where
-  pub zero-cell : k y ≡ 1 → 1 ≤ firstOf w′ y
+  pub zero-cell : k y ≡ 1 → 1 ≤ firstAt w′ y
   pub edge : (k y ≡ 1 → ⊥) → Edge op w w′ y
 
 -- each cell beside x does
@@ -55,17 +57,17 @@ Shut g k op w w′ x = (y : ℕ) → T (has y (square g x)) → Side k op w w′
 -- each cell beside a newly labelled 0-cell does
 abbrev pub Closed : Grid → (ℕ → ℕ) → ℕ → List ℤ → List ℤ → Type 0
 Closed g k op w w′ =
-    (x : ℕ) → x < size g → k x ≡ 1 → firstOf w x ≡ 0 → 1 ≤ firstOf w′ x → Shut g k op w w′ x
+    (x : ℕ) → x < size g → k x ≡ 1 → firstAt w x ≡ 0 → 1 ≤ firstAt w′ x → Shut g k op w w′ x
 
 -- no cell waits at the places from t on
 abbrev pub ClearFrom : Grid → ℕ → List ℤ → Type 0
-ClearFrom g t w = (i : ℕ) → t ≤ i → i < size g → getD w (5 * i + 4) (pos 0) ≡ pos 0
+ClearFrom g t w = (i : ℕ) → t ≤ i → i < size g → getD w (waitingPlace i) (pos 0) ≡ pos 0
 
 -- after labelling from the cell i on: a whole opening, if i is a 0-cell without label
 pub record Opened (g : Grid) (k : ℕ → ℕ) (op i : ℕ) (w w′ : List ℤ) : Type 0 where
   pub change : Change g k op i w w′
   pub closed : Closed g k op w w′
-  pub self : i < size g → k i ≡ 1 → 1 ≤ firstOf w′ i
+  pub self : i < size g → k i ≡ 1 → 1 ≤ firstAt w′ i
   pub clear : ClearFrom g 0 w → ClearFrom g 0 w′
 
 -- the number, of nine, of the neighbour y of i
@@ -81,20 +83,20 @@ pub record Visited (g : Grid) (k : ℕ → ℕ) (op i n : ℕ) (w w′ : List �
 
 -- after a cell was looked at as the lowest of the next opening: r openings in place of n
 pub record Begun (g : Grid) (k : ℕ → ℕ) (n i : ℕ) (w : List ℤ) (r : ℕ) (w′ : List ℤ) : Type 0 where
-  pub fresh : k i ≡ 1 → firstOf w i ≡ 0 → (r ≡ n + 1) × Opened g k (n + 1) i w w′
-  pub none : (k i ≡ 1 → firstOf w i ≡ 0 → ⊥) → (r ≡ n) × (w′ ≡ w)
+  pub fresh : k i ≡ 1 → firstAt w i ≡ 0 → (r ≡ n + 1) × Opened g k (n + 1) i w w′
+  pub none : (k i ≡ 1 → firstAt w i ≡ 0 → ⊥) → (r ≡ n) × (w′ ≡ w)
   pub few : r ≤ n + 1
   pub long : length w′ ≡ length w
 
 -- after `label`: as many openings as the grid has, and each cell's labels
 abbrev pub Labelling : ℕ → ℕ → List ℤ → ℕ → List ℤ → Type 0
 Labelling rows columns w r w′ =
-    (g : Grid) (old : List ℤ) → g .rows ≡ rows → g .columns ≡ columns → 5 * size g ≤ length old
+    (g : Grid) (old : List ℤ) → g .rows ≡ rows → g .columns ≡ columns → HasCells old (size g)
     → w ≡ laid (loadedFive g) (size g) old → (r ≡ length (openings g)) × (w′ ≡ laid (labelledFive g) (size g) old)
 
 -- a cell's five numbers while the openings os are labelled
 unfoldable pub partFive : Grid → List (List ℕ) → ℕ → List ℤ
-partFive g os i = pos (getD (places g i 1 os) 0 0) ∷ pos (getD (places g i 1 os) 1 0) ∷ pos (kind g i) ∷ pos 0 ∷ pos 0 ∷ []
+partFive g os i = five (getD (places g i 1 os) 0 0) (getD (places g i 1 os) 1 0) 0 0 (kind g i)
 
 -- the openings whose lowest 0-cells are below i
 abbrev pub upto : Grid → ℕ → List (List ℕ)
@@ -105,5 +107,5 @@ pub record Numbered (rows columns : ℕ) (w₀ : List ℤ) (i count : ℕ) (w : 
   pub inside : i ≤ rows * columns
   pub few : count ≤ i
   pub long : length w ≡ length w₀
-  pub parts : (g : Grid) (old : List ℤ) → g .rows ≡ rows → g .columns ≡ columns → 5 * size g ≤ length old → w₀ ≡ laid (loadedFive g) (size g) old
+  pub parts : (g : Grid) (old : List ℤ) → g .rows ≡ rows → g .columns ≡ columns → HasCells old (size g) → w₀ ≡ laid (loadedFive g) (size g) old
       → (count ≡ length (upto g i)) × (w ≡ laid (partFive g (upto g i)) (size g) old)

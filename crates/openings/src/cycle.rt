@@ -1,23 +1,24 @@
 // Up to 512 cells: a cell function and a neighbour function that call each other.
-ghost use Prim.Native.Nat.{_+_, _*_, _<_, _≤_};
+ghost use Prim.Native.Nat.{_*_, _<_, _≤_};
 ghost use mathlib.Core.Path.{_≡_};
-ghost use Rattle.openings.specs.Marks.{Ready, kindOf, shaped};
+ghost use Rattle.area.specs.Numbers.{kindAt};
+ghost use Rattle.openings.specs.Labels.{Ready, shaped};
 ghost use Rattle.openings.specs.Spread.{Opened, Visited};
-use super::marks::border;
-use super::marks::fresh;
-use super::marks::mark;
+use super::labels::border;
+use super::labels::fresh;
+use super::labels::put_label;
 
 // Labels the opening of a 0-cell without label; any other cell stays as it is.
 pub fn label_cell(work: &mut [i32], rows: usize, columns: usize, op: usize, index: usize)
     requires { ⌜ Ready rows columns op (now work) ⌝ }
     requires { ⌜ rows * columns ≤ 512 ⌝ }
-    ensures { λ _. ⌜ Opened (shaped rows columns) (kindOf (now (work .entry))) op index
+    ensures { λ _. ⌜ Opened (shaped rows columns) (kindAt (now (work .entry))) op index
         (now (work .entry)) (now (work .exit)) ⌝ }
 {
     if !fresh(work, rows * columns, index) {
         return;
     }
-    mark(work, index, op);
+    put_label(work, index, op);
     visit(work, rows, columns, op, index);
 }
 
@@ -25,9 +26,9 @@ pub fn label_cell(work: &mut [i32], rows: usize, columns: usize, op: usize, inde
 pub fn visit(work: &mut [i32], rows: usize, columns: usize, op: usize, index: usize)
     requires { ⌜ Ready rows columns op (now work) ⌝ }
     requires { ⌜ index < rows * columns ⌝ }
-    requires { ⌜ kindOf (now work) index ≡ 1 ⌝ }
+    requires { ⌜ kindAt (now work) index ≡ 1 ⌝ }
     requires { ⌜ rows * columns ≤ 512 ⌝ }
-    ensures { λ _. ⌜ Visited (shaped rows columns) (kindOf (now (work .entry))) op index 9
+    ensures { λ _. ⌜ Visited (shaped rows columns) (kindAt (now (work .entry))) op index 9
         (now (work .entry)) (now (work .exit)) ⌝ }
 {
     for k in 0..9 {

@@ -4,21 +4,22 @@ ghost use lib.ListN.{length};
 ghost use lib.IntN.{ℤ};
 ghost use mathlib.Core.Path.{_≡_};
 ghost use mathlib.Core.List.{List};
+ghost use Rattle.area.specs.Numbers.{HasCells, kindAt};
 ghost use Rattle.area.specs.Stages.{Shape};
-ghost use Rattle.openings.specs.Marks.{Ready, kindOf, shaped};
+ghost use Rattle.openings.specs.Labels.{Ready, shaped};
 ghost use Rattle.openings.specs.Spread.{Begun, Labelling, Numbered, Opened};
 use cycle::label_cell;
-use marks::fresh;
+use labels::fresh;
 use waiting::spread;
 
 mod cycle;
-mod marks;
+mod labels;
 mod waiting;
 
 // Labels the opening of a 0-cell without label, by the form for so many cells.
 fn label_opening(work: &mut [i32], rows: usize, columns: usize, op: usize, index: usize)
     requires { ⌜ Ready rows columns op (now work) ⌝ }
-    ensures { λ _. ⌜ Opened (shaped rows columns) (kindOf (now (work .entry))) op index
+    ensures { λ _. ⌜ Opened (shaped rows columns) (kindAt (now (work .entry))) op index
         (now (work .entry)) (now (work .exit)) ⌝ }
 {
     if rows * columns > 512 {
@@ -32,7 +33,7 @@ fn label_opening(work: &mut [i32], rows: usize, columns: usize, op: usize, index
 fn begin(work: &mut [i32], rows: usize, columns: usize, count: usize, index: usize) -> usize
     requires { ⌜ Ready rows columns (count + 1) (now work) ⌝ }
     requires { ⌜ index < rows * columns ⌝ }
-    ensures { λ r. ⌜ Begun (shaped rows columns) (kindOf (now (work .entry))) count index
+    ensures { λ r. ⌜ Begun (shaped rows columns) (kindAt (now (work .entry))) count index
         (now (work .entry)) r (now (work .exit)) ⌝ }
 {
     if !fresh(work, rows * columns, index) {
@@ -45,7 +46,7 @@ fn begin(work: &mut [i32], rows: usize, columns: usize, count: usize, index: usi
 // Labels the openings whose lowest 0-cells are in a column, after those of the columns before it. Answers how many there are now.
 fn label_column(work: &mut [i32], rows: usize, columns: usize, count: usize, column: usize) -> usize
     requires { ⌜ Shape rows columns ⌝ }
-    requires { ⌜ (5 * (rows * columns) ≤ length (now work)) × (column < columns) × (count ≤ column * rows) ⌝ }
+    requires { ⌜ HasCells (now work) (rows * columns) × (column < columns) × (count ≤ column * rows) ⌝ }
     ensures { λ r. ⌜ (length (now (work .exit)) ≡ length (now (work .entry))) × (r ≤ count + rows) ⌝ }
     ensures { λ r. ⌜ ((w₀ : List ℤ) → Numbered rows columns w₀ (column * rows) count (now (work .entry)) → Numbered rows columns w₀ (column * rows + rows) r (now (work .exit))) ⌝ }
 {
@@ -60,7 +61,7 @@ fn label_column(work: &mut [i32], rows: usize, columns: usize, count: usize, col
 // Labels every opening, numbered from 1 by its lowest 0-cell. Answers how many there are.
 pub fn label(work: &mut [i32], rows: usize, columns: usize) -> usize
     requires { ⌜ Shape rows columns ⌝ }
-    requires { ⌜ 5 * (rows * columns) ≤ length (now work) ⌝ }
+    requires { ⌜ HasCells (now work) (rows * columns) ⌝ }
     ensures { λ r. ⌜ Labelling rows columns (now (work .entry)) r (now (work .exit)) ⌝ }
 {
     let mut count: usize = 0;

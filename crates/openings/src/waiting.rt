@@ -1,16 +1,16 @@
-// Above 512 cells: cells wait in the fifth number until their squares are visited. No function calls itself.
+// Above 512 cells: cells wait in the work area until their squares are visited. No function calls itself.
 ghost use Prim.Native.Nat.{_+_, _*_, _<_, _≤_, _%_};
-ghost use lib.ListN.{length};
-ghost use Rattle.openings.specs.Marks.{Ready, freeOf, kindOf, shaped};
+ghost use Rattle.area.specs.Numbers.{HasCells, kindAt};
+ghost use Rattle.openings.specs.Labels.{Ready, freeOf, shaped};
 ghost use Rattle.openings.specs.Spread.{Opened};
 ghost use Rattle.openings.specs.Waits.{InRow, InSquare, Pushed, Visitable, Waited};
-use super::marks::border;
-use super::marks::fresh;
-use super::marks::mark;
+use super::labels::border;
+use super::labels::fresh;
+use super::labels::put_label;
 
 // Labels a 0-cell without label and puts it to wait; any other cell stays as it is. Answers how many wait.
 pub fn wait(work: &mut [i32], cells: usize, op: usize, index: usize, top: usize) -> usize
-    requires { ⌜ 5 * cells ≤ length (now work) ⌝ }
+    requires { ⌜ HasCells (now work) cells ⌝ }
     requires { ⌜ cells < 2147483648 ⌝ }
     requires { ⌜ (1 ≤ op) × (op < 2147483648) ⌝ }
     requires { ⌜ top + freeOf cells (now work) ≤ cells ⌝ }
@@ -19,8 +19,8 @@ pub fn wait(work: &mut [i32], cells: usize, op: usize, index: usize, top: usize)
     if !fresh(work, cells, index) {
         return top;
     }
-    mark(work, index, op);
-    area::put(work, 5 * top + 4, index);
+    put_label(work, index, op);
+    area::put_waiting(work, top, index);
     top + 1
 }
 
@@ -35,9 +35,9 @@ pub fn visit_row(
     top: usize,
 ) -> usize
     requires { ⌜ Ready rows columns op (now work) ⌝ }
-    requires { ⌜ Visitable (rows * columns) (kindOf (now work)) index top (now work) ⌝ }
+    requires { ⌜ Visitable (rows * columns) (kindAt (now work)) index top (now work) ⌝ }
     requires { ⌜ (row < rows) × (row ≤ index % rows + 1) × (index % rows ≤ row + 1) ⌝ }
-    ensures { λ r. ⌜ Pushed (shaped rows columns) (kindOf (now (work .entry))) op index
+    ensures { λ r. ⌜ Pushed (shaped rows columns) (kindAt (now (work .entry))) op index
         (InRow (shaped rows columns) index row) (now (work .entry)) top (now (work .exit)) r ⌝ }
 {
     let mut column = area::lower(index / rows);
@@ -62,8 +62,8 @@ pub fn visit_square(
     top: usize,
 ) -> usize
     requires { ⌜ Ready rows columns op (now work) ⌝ }
-    requires { ⌜ Visitable (rows * columns) (kindOf (now work)) index top (now work) ⌝ }
-    ensures { λ r. ⌜ Pushed (shaped rows columns) (kindOf (now (work .entry))) op index
+    requires { ⌜ Visitable (rows * columns) (kindAt (now work)) index top (now work) ⌝ }
+    ensures { λ r. ⌜ Pushed (shaped rows columns) (kindAt (now (work .entry))) op index
         (InSquare (shaped rows columns) index) (now (work .entry)) top (now (work .exit)) r ⌝ }
 {
     let mut row = area::lower(index % rows);
@@ -80,14 +80,14 @@ pub fn visit_square(
 pub fn spread(work: &mut [i32], rows: usize, columns: usize, op: usize, index: usize)
     requires { ⌜ Ready rows columns op (now work) ⌝ }
     requires { ⌜ 512 < rows * columns ⌝ }
-    ensures { λ _. ⌜ Opened (shaped rows columns) (kindOf (now (work .entry))) op index
+    ensures { λ _. ⌜ Opened (shaped rows columns) (kindAt (now (work .entry))) op index
         (now (work .entry)) (now (work .exit)) ⌝ }
 {
     let mut top = wait(work, rows * columns, op, index, 0);
     while 0 < top {
         top -= 1;
-        let at = area::get(work, 5 * top + 4);
-        area::put(work, 5 * top + 4, 0);
+        let at = area::waiting(work, top);
+        area::put_waiting(work, top, 0);
         top = visit_square(work, rows, columns, op, at, top);
     }
 }

@@ -1,5 +1,5 @@
 -- One cell opened, one mine flagged, one opening swept: the work area then stands for the position after it. Assumes nothing.
-use Prim.Native.Nat.{ℕ, _*_, _+_, _-_, _<_, _≤_}
+use Prim.Native.Nat.{ℕ, _+_, _-_, _<_, _≤_}
 use native.Mathlib.Omega.{arith}
 use native.Mathlib.Decide.{ℕ-discrete}
 use mathlib.Core.Path.{_∙_, _≡_, ap, refl, sym}
@@ -9,6 +9,9 @@ use lib.Dec.{T, T-not, not-T, eqb, eqb→eq}
 use lib.IntN.{ℤ}
 use lib.ListN.{getD, length, set}
 use lib.Seq.{getD-set-other, getD-set-same}
+use Rattle.area.proofs.Held.{held-cells, heldCell, kind-mine, raised-small}
+use Rattle.area.proofs.CellByCell.{Cell, at, at-again, at-here, at-other, cellArea, fold-acts, made, priced, put-area, read-first, same-area, shift-acts, shiftCell}
+use Rattle.area.specs.Squares.{shifted, squareOf}
 use Rattle.game.specs.Grid.{Grid, cells, mine, safe, size, square, zeroCell}
 use Rattle.game.specs.Lists.{bit, count, fold, has}
 use Rattle.game.specs.Moves.{reveal}
@@ -22,11 +25,11 @@ use Rattle.game.proofs.Reveal.{getD-sweep, mine-off}
 use Rattle.game.proofs.Squares.{cells→, close-sym, in-own-square, once-cells, once-square, square→, →cells, →square}
 use Rattle.game.proofs.Truth.{T→false, T→true, and-both, and-false, and-true, and-under, eqb-no, eqb-yes, iff}
 use Rattle.game.proofs.Zeros.{Zero}
-use Rattle.area.specs.Numbers.{putAt}
-use Rattle.area.specs.Stages.{held, kind, raised}
-use Rattle.play.specs.Walks.{Swept, openedOne, shifted, squareOf, sweptOn}
-use Rattle.play.proofs.Cells.{Cell, at, at-here, at-other, cellArea, fold-acts, fold-sweep, labelledCell, made, marked, opensCell, priced, put-area, read-first, same-area, shift-acts, shiftCell, sweepCell}
-use Rattle.play.proofs.Held.{heldCell, held-cells, kind-mine, level, moved, raised-small, restated, up-down}
+use Rattle.area.specs.Numbers.{HasCells, putState}
+use Rattle.area.specs.Stages.{held, raised}
+use Rattle.play.specs.Walks.{Swept, openedOne, sweptOn}
+use Rattle.play.proofs.Cells.{fold-sweep, labelledCell, opensCell, stated, sweepCell}
+use Rattle.play.proofs.Held.{level, moved, restated, up-down}
 use Rattle.area.proofs.Marks.{marked-held}
 
 -- two cells are in each other's squares, or not
@@ -35,15 +38,7 @@ near-sym g i x h k =
     iff (has i (square g x)) (has x (square g i)) (λ t. →square g i x h k (close-sym g x i (square→ g x i k t .1)))
     (λ t. →square g x i k h (close-sym g i x (square→ g i x h t .1)))
 
--- two changes of one cell: the later stands
-at-again : (C : ℕ → Cell) (i : ℕ) (c d : Cell) (x : ℕ) → at (at C i c) i d x ≡ at C i d x
-at-again C i c d x = go (eqb x i)
-  where
-    go : (b : Bool) → cond b d (cond b c (C x)) ≡ cond b d (C x)
-    go true = refl
-    go false = refl
-
-module _ (g : Grid) (s : Position) (old : List ℤ) (i : ℕ) (room : 5 * size g ≤ length old) (inside : i < size g) (long : length s ≡ size g) where
+module _ (g : Grid) (s : Position) (old : List ℤ) (i : ℕ) (room : HasCells old (size g)) (inside : i < size g) (long : length s ≡ size g) where
   -- a cell that keeps its state
   stays : (t : Position) (x : ℕ) → getD t x 0 ≡ getD s x 0 → restated (getD t x 0) (heldCell g s x) ≡ heldCell g s x
   stays t x e = ap (λ (k : ℕ). restated k (heldCell g s x)) e
@@ -56,7 +51,7 @@ module _ (g : Grid) (s : Position) (old : List ℤ) (i : ℕ) (room : 5 * size g
 
   module _ (is-safe : T (safe g i)) (shut : T (closed s i)) (nonzero : T (zeroCell g i) → ⊥) where
     open-cell : Cell
-    open-cell = shiftCell 1 0 (marked 1 (heldCell g s i))
+    open-cell = shiftCell 1 0 (stated 1 (heldCell g s i))
 
     -- whether it has no label
     abbrev bare : Bool
@@ -102,44 +97,44 @@ module _ (g : Grid) (s : Position) (old : List ℤ) (i : ℕ) (room : 5 * size g
         one : bit (eqb i i) ≡ 1
         one = ap bit (eqb-yes i i refl)
 
-        by : (p : ℕ) → bit bare ≡ p → p ≤ 1 → shiftCell 1 p (marked 1 (heldCell g s i)) ≡ heldCell g (set s i 1) i
+        by : (p : ℕ) → bit bare ≡ p → p ≤ 1 → shiftCell 1 p (stated 1 (heldCell g s i)) ≡ heldCell g (set s i 1) i
         by p q l =
             ap (λ (k : ℕ). shiftCell 1 p (restated k (heldCell g s i))) (sym now-open)
             ∙ moved g s (set s i 1) i p 1 inside l (omega arith)
             (λ u. omega (arith, gain-falls i inside, ap (λ (b : Bool). bit (b && bare)) (T→true (has i (square g i)) (in-own-square g i inside))))
             (λ u. omega (arith, cost-falls i, one))
 
-        go : (b : Bool) → bare ≡ b → cond b (shiftCell 0 1 (shiftCell 1 0 (marked 1 (heldCell g s i)))) (shiftCell 1 0 (marked 1 (heldCell g s i))) ≡ heldCell g (set s i 1) i
+        go : (b : Bool) → bare ≡ b → cond b (shiftCell 0 1 (shiftCell 1 0 (stated 1 (heldCell g s i)))) (shiftCell 1 0 (stated 1 (heldCell g s i))) ≡ heldCell g (set s i 1) i
         go true q =
-            up-down (marked 1 (heldCell g s i)) (omega (arith, raised-small g s i inside))
+            up-down (stated 1 (heldCell g s i)) (omega (arith, raised-small g s i inside))
             ∙ sym (even-cell 1 i 1 (omega arith) inside) ∙ by 1 (ap bit q) (omega arith)
         go false q = by 0 (ap bit q) (omega arith)
 
-    -- the work area with the cell marked and its premium up
-    open-marked : shifted 1 0 (putAt (held g s old) (5 * i + 3) 1) i ≡ cellArea (at (heldCell g s) i open-cell) (size g) old
+    -- the work area with the cell opened and its premium up
+    open-stated : shifted 1 0 (putState (held g s old) i 1) i ≡ cellArea (at (heldCell g s) i open-cell) (size g) old
     unfolding open-cell
-    open-marked =
-        ap (λ (w : List ℤ). shifted 1 0 (putAt w (5 * i + 3) 1) i) (held-cells g s old)
-        ∙ ap (λ (w : List ℤ). shifted 1 0 w i) (put-area (size g) old room (heldCell g s) i 3 1 (marked 1 (heldCell g s i)) inside (omega arith) refl)
-        ∙ shift-acts (size g) old room 1 0 (at (heldCell g s) i (marked 1 (heldCell g s i))) i inside
-        ∙ ap (λ (c : Cell). cellArea (at (at (heldCell g s) i (marked 1 (heldCell g s i))) i (shiftCell 1 0 c)) (size g) old)
-        (at-here (heldCell g s) i (marked 1 (heldCell g s i)) i refl)
-        ∙ same-area (size g) old room (at (at (heldCell g s) i (marked 1 (heldCell g s i))) i (shiftCell 1 0 (marked 1 (heldCell g s i))))
-        (at (heldCell g s) i (shiftCell 1 0 (marked 1 (heldCell g s i))))
-        (λ x _. at-again (heldCell g s) i (marked 1 (heldCell g s i)) (shiftCell 1 0 (marked 1 (heldCell g s i))) x)
+    open-stated =
+        ap (λ (w : List ℤ). shifted 1 0 (putState w i 1) i) (held-cells g s old)
+        ∙ ap (λ (w : List ℤ). shifted 1 0 w i) (put-area (size g) old room (heldCell g s) i 3 1 (stated 1 (heldCell g s i)) inside (omega arith) refl)
+        ∙ shift-acts (size g) old room 1 0 (at (heldCell g s) i (stated 1 (heldCell g s i))) i inside
+        ∙ ap (λ (c : Cell). cellArea (at (at (heldCell g s) i (stated 1 (heldCell g s i))) i (shiftCell 1 0 c)) (size g) old)
+        (at-here (heldCell g s) i (stated 1 (heldCell g s i)) i refl)
+        ∙ same-area (size g) old room (at (at (heldCell g s) i (stated 1 (heldCell g s i))) i (shiftCell 1 0 (stated 1 (heldCell g s i))))
+        (at (heldCell g s) i (shiftCell 1 0 (stated 1 (heldCell g s i))))
+        (λ x _. at-again (heldCell g s) i (stated 1 (heldCell g s i)) (shiftCell 1 0 (stated 1 (heldCell g s i))) x)
 
     own-label : at (heldCell g s) i open-cell i .first ≡ firstLabel g i
     unfolding open-cell
-    own-label = ap (λ (c : Cell). c .first) (at-here (heldCell g s) i open-cell i refl) ∙ go (eqb (marked 1 (heldCell g s i) .kind) 0)
+    own-label = ap (λ (c : Cell). c .first) (at-here (heldCell g s) i open-cell i refl) ∙ go (eqb (stated 1 (heldCell g s i) .kind) 0)
       where
-        go : (b : Bool) → cond b (marked 1 (heldCell g s i)) (priced (raised g s i + 1 - 0) (marked 1 (heldCell g s i))) .first ≡ firstLabel g i
+        go : (b : Bool) → cond b (stated 1 (heldCell g s i)) (priced (raised g s i + 1 - 0) (stated 1 (heldCell g s i))) .first ≡ firstLabel g i
         go true = refl
         go false = refl
 
     pub open-area : openedOne (g .rows) (g .columns) (held g s old) i ≡ held g (set s i 1) old
     unfolding openedOne square
     open-area =
-        rw (open-marked, read-first (size g) old room (at (heldCell g s) i open-cell) i inside, own-label) (go bare refl)
+        rw (open-stated, read-first (size g) old room (at (heldCell g s) i open-cell) i inside, own-label) (go bare refl)
         ∙ sym (held-cells g (set s i 1) old)
       where
         E : ℕ → Cell
@@ -191,28 +186,28 @@ module _ (g : Grid) (s : Position) (old : List ℤ) (i : ℕ) (room : 5 * size g
         go true r = by 1 r (omega arith)
         go false r = sym (even-cell 0 x (getD s x 0) (omega arith) h) ∙ by 0 r (omega arith)
 
-    flag-own : shiftCell 1 0 (marked 2 (heldCell g s i)) ≡ heldCell g (set s i 2) i
+    flag-own : shiftCell 1 0 (stated 2 (heldCell g s i)) ≡ heldCell g (set s i 2) i
     flag-own =
         ap (λ (k : ℕ). shiftCell 1 0 (restated k (heldCell g s i))) (sym (getD-set-same s i 2 0 (omega (arith, long))))
         ∙ moved g s (set s i 2) i 0 1 inside (omega arith) (omega arith) (λ u. absurd (T-not (mine g i) u is-mine)) (λ u. absurd (T-not (mine g i) u is-mine))
 
-    pub flag-area : fold (shifted 1 0) (putAt (held g s old) (5 * i + 3) 2) (squareOf (g .rows) (g .columns) i) ≡ held g (set s i 2) old
+    pub flag-area : fold (shifted 1 0) (putState (held g s old) i 2) (squareOf (g .rows) (g .columns) i) ≡ held g (set s i 2) old
     unfolding square
     flag-area =
-        ap (λ (w : List ℤ). fold (shifted 1 0) (putAt w (5 * i + 3) 2) (square g i)) (held-cells g s old)
-        ∙ ap (λ (w : List ℤ). fold (shifted 1 0) w (square g i)) (put-area (size g) old room (heldCell g s) i 3 2 (marked 2 (heldCell g s i)) inside (omega arith) refl)
+        ap (λ (w : List ℤ). fold (shifted 1 0) (putState w i 2) (square g i)) (held-cells g s old)
+        ∙ ap (λ (w : List ℤ). fold (shifted 1 0) w (square g i)) (put-area (size g) old room (heldCell g s) i 3 2 (stated 2 (heldCell g s i)) inside (omega arith) refl)
         ∙ fold-acts (size g) old room (shifted 1 0) (shiftCell 1 0) (λ D j h. shift-acts (size g) old room 1 0 D j h) (square g i) E (once-square g i) (λ x t. square→ g i x inside t .0)
         ∙ same-area (size g) old room (made (shiftCell 1 0) (square g i) E) (heldCell g (set s i 2)) each
         ∙ sym (held-cells g (set s i 2) old)
       where
         E : ℕ → Cell
-        E = at (heldCell g s) i (marked 2 (heldCell g s i))
+        E = at (heldCell g s) i (stated 2 (heldCell g s i))
 
         each : (x : ℕ) → x < size g → made (shiftCell 1 0) (square g i) E x ≡ heldCell g (set s i 2) x
         each x h =
             elim (ℕ-discrete x i) [
-              | yes q ↦ rw (q, T→true (has i (square g i)) (in-own-square g i inside), at-here (heldCell g s) i (marked 2 (heldCell g s i)) i refl) flag-own
-              | no n ↦ rw (at-other (heldCell g s) i (marked 2 (heldCell g s i)) x n) (flag-other x h n (has x (square g i)) refl)
+              | yes q ↦ rw (q, T→true (has i (square g i)) (in-own-square g i inside), at-here (heldCell g s) i (stated 2 (heldCell g s i)) i refl) flag-own
+              | no n ↦ rw (at-other (heldCell g s) i (stated 2 (heldCell g s i)) x n) (flag-other x h n (has x (square g i)) refl)
             ]
 
     pub flag-count : closedSafe g (set s i 2) ≡ closedSafe g s
@@ -240,7 +235,7 @@ module _ (g : Grid) (s : Position) (old : List ℤ) (i : ℕ) (room : 5 * size g
 
     sweep-each : (x : ℕ) → x < size g → sweepCell (firstLabel g i) (heldCell g s x) ≡ heldCell g (reveal g s i) x
     sweep-each x h =
-        ap (λ (b : Bool). cond b (cond (closed s x) (marked 1 (heldCell g s x)) (priced (raised g s x - 1) (heldCell g s x))) (heldCell g s x)) (marks x h)
+        ap (λ (b : Bool). cond b (cond (closed s x) (stated 1 (heldCell g s x)) (priced (raised g s x - 1) (heldCell g s x))) (heldCell g s x)) (marks x h)
         ∙ go (in-it x) refl (closed s x) refl
       where
         by : (p q : ℕ) → bit (in-it x) ≡ p → bit (in-it x && closed s x) ≡ q → p ≤ 1 → q ≤ 1 → (k : ℕ) → getD (reveal g s i) x 0 ≡ k
@@ -253,7 +248,7 @@ module _ (g : Grid) (s : Position) (old : List ℤ) (i : ℕ) (room : 5 * size g
         down = omega arith
 
         go : (b : Bool) → in-it x ≡ b → (c : Bool) → closed s x ≡ c
-            → cond b (cond c (marked 1 (heldCell g s x)) (priced (raised g s x - 1) (heldCell g s x))) (heldCell g s x) ≡ heldCell g (reveal g s i) x
+            → cond b (cond c (stated 1 (heldCell g s x)) (priced (raised g s x - 1) (heldCell g s x))) (heldCell g s x) ≡ heldCell g (reveal g s i) x
         go true e true d =
             sym (even-cell 1 x 1 (omega arith) h)
             ∙ by 1 1 (ap bit e) (rw (e, d)) (omega arith) (omega arith) 1 (after-state x h ∙ ap (λ (b : Bool). cond b 1 (getD s x 0)) e)

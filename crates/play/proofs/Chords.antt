@@ -1,9 +1,10 @@
 -- Reveals one after the other: nothing, one cell, two lists; a chord is the reveals of its square. Assumes nothing.
-use Prim.Native.Nat.{ℕ, _+_}
+use Prim.Native.Nat.{ℕ}
 use native.Mathlib.Omega.{arith}
 use mathlib.Core.Path.{_≡_, ap}
 use mathlib.Core.List.{List, [], _∷_, _++_}
 use lib.IntN.{ℤ}
+use Rattle.area.specs.Squares.{squareOf}
 use Rattle.game.specs.Grid.{Grid, square}
 use Rattle.game.specs.Lists.{fold}
 use Rattle.game.specs.Moves.{play, reveal}
@@ -12,7 +13,6 @@ use Rattle.game.proofs.Members.{fold-append}
 use Rattle.area.specs.Stages.{Stands}
 use Rattle.play.specs.Promises.{Chording, Opens, Revealing, RevealingAll, together}
 use Rattle.play.specs.declared.Opened.{Opened}
-use Rattle.play.specs.Walks.{squareOf}
 
 pub opens-none : (rows columns : ℕ) (w : List ℤ) → Opens rows columns w [] (record { cells = 0 }) w
 opens-none rows columns w = record { revealing = λ g s old t f. record { stands = t; tidy = f; opened-cells = omega arith } }

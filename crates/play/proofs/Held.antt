@@ -3,47 +3,20 @@ use Prim.Native.Nat.{ℕ, _%_, _+_, _-_, _<_, _≤_}
 use native.Mathlib.Omega.{arith}
 use mathlib.Core.Path.{_∙_, _≡_, ap, refl}
 use mathlib.Core.Bool.{Bool, cond, false, true}
-use mathlib.Core.List.{List}
 use lib.Dec.{T, eqb}
-use lib.IntN.{ℤ}
 use lib.ListN.{getD}
+use Rattle.area.proofs.CellByCell.{Cell, priced, shiftCell}
 use Rattle.game.specs.Grid.{Grid, mine, number, safe, size}
 use Rattle.game.specs.Openings.{firstLabel, secondLabel}
 use Rattle.game.specs.Position.{Position, cost, gain}
 use Rattle.game.proofs.Ranges.{cost-range, gain-range}
 use Rattle.game.proofs.Truth.{eqb-no}
-use Rattle.area.specs.Stages.{held, heldFive, kind, raised}
-use Rattle.play.proofs.Cells.{Cell, cellArea, priced, shiftCell}
-
--- a cell of a position
-abbrev pub heldCell : Grid → Position → ℕ → Cell
-heldCell g s x =
-    record { first = firstLabel g x; second = secondLabel g x; premium = raised g s x; state = getD s x 0; kind = kind g x }
-
-pub held-cells : (g : Grid) (s : Position) (old : List ℤ) → held g s old ≡ cellArea (heldCell g s) (size g) old
-unfolding heldFive
-held-cells g s old = refl
-
--- kind 0 is a mine
-pub kind-mine : (g : Grid) (x : ℕ) → eqb (kind g x) 0 ≡ mine g x
-unfolding kind
-kind-mine g x = go (mine g x)
-  where
-    go : (b : Bool) → eqb (cond b 0 (1 + number g x)) 0 ≡ b
-    go true = refl
-    go false = eqb-no (1 + number g x) 0 (λ e. absurd (omega arith))
+use Rattle.area.proofs.Held.{heldCell}
+use Rattle.area.specs.Stages.{kind, raised}
 
 -- a cell with another state
 abbrev pub restated : ℕ → Cell → Cell
 restated k c = record { first = c .first; second = c .second; premium = c .premium; state = k; kind = c .kind }
-
-pub raised-small : (g : Grid) (s : Position) (x : ℕ) → x < size g → raised g s x ≤ 20
-unfolding raised
-raised-small g s x h = go (mine g x)
-  where
-    go : (b : Bool) → cond b 0 (10 + gain g s x - cost g s x) ≤ 20
-    go true = omega arith
-    go false = omega (arith, gain-range g s x h)
 
 -- as much up as down
 pub level : (k : ℕ) (c : Cell) → c .premium + k < 2147483648 → shiftCell k k c ≡ c

@@ -1,4 +1,3 @@
-pub mod Rows
 pub mod Steps
 pub mod Cells
 pub mod Held

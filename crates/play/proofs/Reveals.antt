@@ -2,27 +2,26 @@
 use Prim.Native.Nat.{ℕ, _*_, _+_, _<_}
 use native.Mathlib.Omega.{arith}
 use mathlib.Core.Path.{_∙_, _≡_, ap, ap₂, refl, subst, sym}
-use mathlib.Core.Bool.{Bool, cond, false, true}
 use mathlib.Core.List.{List}
 use lib.Dec.{T, T-not, eqb, eqb→eq, not-T}
 use lib.IntN.{ℤ}
 use lib.ListN.{getD, length-set, set}
-use Rattle.game.specs.Grid.{Grid, mine, number, safe, size, zeroCell}
+use Rattle.area.proofs.Held.{Holds, held-numbers, kind-mine, kind-zero}
+use Rattle.area.specs.Squares.{shifted, squareOf}
+use Rattle.game.specs.Grid.{Grid, mine, safe, size, zeroCell}
 use Rattle.game.specs.Lists.{fold}
 use Rattle.game.specs.Moves.{flag, play, reveal}
 use Rattle.game.specs.Openings.{firstLabel}
 use Rattle.game.specs.Position.{Position, Tidy, closed, closedSafe}
 use Rattle.game.proofs.Tidy.{reveal-tidy}
-use Rattle.game.proofs.Reveal.{Revealed, opens, reveal-length, revealed, stays, sweeps, zero-safe}
-use Rattle.game.proofs.Truth.{eqb-yes, iff, no→false}
-use Rattle.area.specs.Numbers.{putAt}
+use Rattle.game.proofs.Reveal.{Revealed, opens, reveal-length, revealed, stays, sweeps}
+use Rattle.game.proofs.Truth.{eqb-yes}
+use Rattle.area.specs.Numbers.{firstAt, kindAt, putState, stateAt}
 use Rattle.area.specs.Stages.{Stands, held, kind}
 use Rattle.play.specs.Promises.{Revealing}
 use Rattle.play.specs.declared.Opened.{Opened}
-use Rattle.play.specs.Walks.{SweptOver, firstAt, kindAt, openedOne, shifted, squareOf, stateAt}
-use Rattle.play.proofs.Cells.{read-first, read-kind, read-state}
+use Rattle.play.specs.Walks.{SweptOver, openedOne}
 use Rattle.play.proofs.Changes.{flag-area, open-area, open-count, sweep-area}
-use Rattle.play.proofs.Held.{heldCell, held-cells, kind-mine}
 
 -- a closed safe cell of number 1 or more
 reveal-one : (g : Grid) (s : Position) (i : ℕ) → T (safe g i) → T (closed s i) → (T (zeroCell g i) → ⊥) → reveal g s i ≡ set s i 1
@@ -42,11 +41,6 @@ reveal-none g s i n = go (reveal g s i) (revealed g s i)
     go p (opens a b m) = absurd (n a b)
     go p (sweeps a b z) = absurd (n a b)
 
-one-more : (n : ℕ) → eqb (1 + n) 1 ≡ eqb n 0
-one-more n =
-    iff (eqb (1 + n) 1) (eqb n 0) (λ t. rw (eqb-yes n 0 (omega (arith, eqb→eq (1 + n) 1 t))) tt)
-    (λ t. rw (eqb-yes (1 + n) 1 (omega (arith, eqb→eq n 0 t))) tt)
-
 module _ (rows columns : ℕ) (g : Grid) (s : Position) (old w : List ℤ) (i : ℕ) (h : i < rows * columns) (st : Stands rows columns g s old w) where
   pub size-is : size g ≡ rows * columns
   size-is = ap₂ _*_ (st .rows-are) (st .columns-are)
@@ -56,14 +50,17 @@ module _ (rows columns : ℕ) (g : Grid) (s : Position) (old w : List ℤ) (i : 
 
   -- ---- what is read
 
+  holds : Holds g s w
+  holds = held-numbers rows columns g s old w st
+
   pub kind-read : (k : ℕ) → k ≡ kindAt w i → k ≡ kind g i
-  kind-read k e = e ∙ ap (λ (v : List ℤ). kindAt v i) (st .holds-it ∙ held-cells g s old) ∙ read-kind (size g) old (st .room) (heldCell g s) i inside
+  kind-read k e = e ∙ holds .kinds i inside
 
   pub state-read : (k : ℕ) → k ≡ stateAt w i → k ≡ getD s i 0
-  state-read k e = e ∙ ap (λ (v : List ℤ). stateAt v i) (st .holds-it ∙ held-cells g s old) ∙ read-state (size g) old (st .room) (heldCell g s) i inside
+  state-read k e = e ∙ holds .states i inside
 
   pub label-read : (k : ℕ) → k ≡ firstAt w i → k ≡ firstLabel g i
-  label-read k e = e ∙ ap (λ (v : List ℤ). firstAt v i) (st .holds-it ∙ held-cells g s old) ∙ read-first (size g) old (st .room) (heldCell g s) i inside
+  label-read k e = e ∙ holds .firsts i inside
 
   -- the kind tells mines and 0-cells
   pub is-mine : (k : ℕ) → k ≡ kindAt w i → k ≡ 0 → T (mine g i)
@@ -73,12 +70,7 @@ module _ (rows columns : ℕ) (g : Grid) (s : Position) (old w : List ℤ) (i : 
   is-safe k e n = not-T (mine g i) (λ t. n (kind-read k e ∙ eqb→eq (kind g i) 0 (subst T (sym (kind-mine g i)) t)))
 
   pub is-zero : (k : ℕ) → k ≡ kindAt w i → eqb k 1 ≡ zeroCell g i
-  unfolding kind
-  is-zero k e = ap (λ (m : ℕ). eqb m 1) (kind-read k e) ∙ go (mine g i) refl
-    where
-      go : (b : Bool) → mine g i ≡ b → eqb (cond b 0 (1 + number g i)) 1 ≡ zeroCell g i
-      go true q = sym (no→false (zeroCell g i) (λ z. T-not (mine g i) (zero-safe g i (record { inside = inside; none = z })) (rw q tt)))
-      go false q = one-more (number g i)
+  is-zero k e = ap (λ (m : ℕ). eqb m 1) (kind-read k e) ∙ kind-zero g i inside
 
   pub is-closed : (k : ℕ) → k ≡ stateAt w i → k ≡ 0 → T (closed s i)
   is-closed k e z = subst T (sym (eqb-yes (getD s i 0) 0 (sym (state-read k e) ∙ z))) tt
@@ -146,7 +138,7 @@ module _ (rows columns : ℕ) (g : Grid) (s : Position) (old w : List ℤ) (i : 
 
   -- ---- a mine is flagged
 
-  pub flag-stands : (u v : List ℤ) → u ≡ putAt w (5 * i + 3) 2 → v ≡ fold (shifted 1 0) u (squareOf rows columns i) → T (mine g i) → T (closed s i)
+  pub flag-stands : (u v : List ℤ) → u ≡ putState w i 2 → v ≡ fold (shifted 1 0) u (squareOf rows columns i) → T (mine g i) → T (closed s i)
       → Stands rows columns g (play g s (flag i)) old v
   unfolding play
   flag-stands u v d e t k =

@@ -7,20 +7,21 @@ use mathlib.Core.Logic.{inl, inr}
 use mathlib.Core.List.{List}
 use lib.Dec.{T}
 use lib.IntN.{ℤ}
-use Rattle.game.specs.Grid.{Grid, columnOf, rowOf, size, zeroCell}
+use Rattle.area.proofs.Held.{held-cells, heldCell}
+use Rattle.area.proofs.CellByCell.{read-first, read-second}
+use Rattle.game.specs.Grid.{Grid, columnOf, size, zeroCell}
 use Rattle.game.specs.Lists.{range}
 use Rattle.game.specs.Openings.{firstLabel, holds, joinedTo}
 use Rattle.game.specs.Position.{Position}
 use Rattle.game.proofs.Counts.{none-counted}
 use Rattle.game.proofs.Members.{range-has}
-use Rattle.game.proofs.Squares.{column-lt, index-of, row-lt}
+use Rattle.game.proofs.Squares.{column-lt, row-lt}
 use Rattle.game.proofs.Zeros.{Zero}
 use Rattle.area.specs.Stages.{Stands}
 use Rattle.area.proofs.Marks.{marked-held}
+use Rattle.area.proofs.Cells.{placed}
 use Rattle.area.proofs.Spans.{Within, held-spans}
 use Rattle.play.specs.Walks.{LeftSwept, RightSwept, SweptOver, labelledAt, labelledIn}
-use Rattle.play.proofs.Cells.{read-first, read-second}
-use Rattle.play.proofs.Held.{heldCell, held-cells}
 use Rattle.play.proofs.Reveals.{inside, size-is}
 use Rattle.play.proofs.Sweeps.{labelled-stays, over-all, to-right}
 
@@ -41,16 +42,12 @@ module _ (rows columns : ℕ) (g : Grid) (s : Position) (old w : List ℤ) (i la
   some-rows : 0 < g .rows
   some-rows = omega (arith, st .rows-are, st .shape .some-rows)
 
-  -- a cell by its column
-  placed : (y q : ℕ) → columnOf g y ≡ q → q * rows + rowOf g y ≡ y
-  placed y q e = rw (← e, ← st .rows-are) (index-of g y)
-
   -- a cell of the label, and a column between: the column has one too
   column-labelled : (x q : ℕ) → x < size g → T (labelledAt label w x) → Within (columnOf g i) (columnOf g x) q
       → labelledIn label w (q * rows) (q * rows + rows) ≡ 0 → ⊥
   column-labelled x q k t b e =
       let y = held-spans g i x q z k (subst T (marks x k) t) b in
-      let p = placed (y .0) q (y .3) in
+      let p = placed g rows (y .0) q (st .rows-are) (y .3) in
       let low = row-lt g (y .0) (y .1) in
       none-counted (labelledAt label w) (range (q * rows) (q * rows + rows)) e (y .0)
       (range-has (q * rows) (q * rows + rows) (y .0) (omega (arith, p)) (omega (arith, p, low, st .rows-are)))

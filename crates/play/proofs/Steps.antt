@@ -1,27 +1,16 @@
 -- The small functions by their branches: each branch is what the definition gives where its tests hold. Assumes nothing.
-use Prim.Native.Nat.{ℕ, _*_, _+_, _-_, _≤_}
+use Prim.Native.Nat.{ℕ, _-_, _≤_}
 use mathlib.Core.Path.{_≡_, _∙_}
 use mathlib.Core.Bool.{Bool, false, true}
 use mathlib.Core.List.{List}
 use lib.Dec.{eqb}
 use lib.IntN.{ℤ}
+use Rattle.area.specs.Squares.{shifted, squareOf}
 use Rattle.game.specs.Lists.{bit, fold}
 use Rattle.game.proofs.Counts.{bit-le}
 use Rattle.game.proofs.Truth.{eqb-no, eqb-yes}
-use Rattle.area.specs.Numbers.{putAt}
-use Rattle.play.specs.Walks.{CellSwept, bareAt, firstAt, kindAt, labelledAt, openedOne, opensAt, premiumAt, secondAt, shifted, squareOf, stateAt, sweptCell}
-
--- ---- a premium shifts
-
-module _ (up down : ℕ) (w : List ℤ) (i k : ℕ) (e : k ≡ kindAt w i) where
-  pub shift-mine : k ≡ 0 → w ≡ shifted up down w i
-  unfolding shifted
-  shift-mine t = rw (← e, t)
-
-  pub shift-safe : (p q : ℕ) (v : List ℤ) → (k ≡ 0 → ⊥) → p ≡ premiumAt w i → q ≡ p + up - down → v ≡ putAt w (5 * i + 2) q
-      → v ≡ shifted up down w i
-  unfolding shifted
-  shift-safe p q v t f h s = s ∙ rw (← e, eqb-no k 0 t, ← f, ← h)
+use Rattle.area.specs.Numbers.{firstAt, kindAt, premiumAt, putPremium, putState, secondAt, stateAt}
+use Rattle.play.specs.Walks.{CellSwept, unflaggedAt, labelledAt, openedOne, opensAt, sweptCell}
 
 -- ---- a label is looked for
 
@@ -39,13 +28,13 @@ module _ (label : ℕ) (w : List ℤ) (i : ℕ) (b : Bool) (e : b ≡ labelledAt
   unfolding sweptCell opensAt
   sweep-other t = record { area = rw (← e, t); opened-it = rw (← e, t); found-it = rw (← e, t) }
 
-  pub sweep-closed : (k : ℕ) (v : List ℤ) → b ≡ true → k ≡ stateAt w i → k ≡ 0 → v ≡ putAt w (5 * i + 3) 1 → CellSwept label w i 1 1 v
+  pub sweep-closed : (k : ℕ) (v : List ℤ) → b ≡ true → k ≡ stateAt w i → k ≡ 0 → v ≡ putState w i 1 → CellSwept label w i 1 1 v
   unfolding sweptCell opensAt
   sweep-closed k v t f h s =
       record { area = s ∙ rw (← e, t, ← f, h); opened-it = rw (← e, t, ← f, h); found-it = rw (← e, t) }
 
   pub sweep-opened : (k p q : ℕ) (v : List ℤ) → b ≡ true → k ≡ stateAt w i → (k ≡ 0 → ⊥) → p ≡ premiumAt w i → q ≡ p - 1
-      → v ≡ putAt w (5 * i + 2) q → CellSwept label w i 0 1 v
+      → v ≡ putPremium w i q → CellSwept label w i 0 1 v
   unfolding sweptCell opensAt
   sweep-opened k p q v t f h g d s =
       record {
@@ -59,7 +48,7 @@ bit-small b = bit-le b true (λ t. tt)
 
 -- ---- a cell is opened
 
-module _ (rows columns : ℕ) (w u v : List ℤ) (i k : ℕ) (p : u ≡ putAt w (5 * i + 3) 1) (q : v ≡ shifted 1 0 u i) (e : k ≡ firstAt v i) where
+module _ (rows columns : ℕ) (w u v : List ℤ) (i k : ℕ) (p : u ≡ putState w i 1) (q : v ≡ shifted 1 0 u i) (e : k ≡ firstAt v i) where
   pub open-labelled : (k ≡ 0 → ⊥) → v ≡ openedOne rows columns w i
   unfolding openedOne
   open-labelled n = rw (← p, ← q, ← e, eqb-no k 0 n)
@@ -71,14 +60,14 @@ module _ (rows columns : ℕ) (w u v : List ℤ) (i k : ℕ) (p : u ≡ putAt w 
 -- ---- a mine without flag
 
 module _ (w : List ℤ) (i k : ℕ) (e : k ≡ kindAt w i) where
-  pub bare-safe : (k ≡ 0 → ⊥) → 0 ≡ bit (bareAt w i)
-  unfolding bareAt
-  bare-safe n = rw (← e, eqb-no k 0 n)
+  pub unflagged-safe : (k ≡ 0 → ⊥) → 0 ≡ bit (unflaggedAt w i)
+  unfolding unflaggedAt
+  unflagged-safe n = rw (← e, eqb-no k 0 n)
 
-  pub bare-flagged : (m : ℕ) → m ≡ stateAt w i → k ≡ 0 → m ≡ 2 → 0 ≡ bit (bareAt w i)
-  unfolding bareAt
-  bare-flagged m f z t = rw (← e, z, ← f, t)
+  pub unflagged-flagged : (m : ℕ) → m ≡ stateAt w i → k ≡ 0 → m ≡ 2 → 0 ≡ bit (unflaggedAt w i)
+  unfolding unflaggedAt
+  unflagged-flagged m f z t = rw (← e, z, ← f, t)
 
-  pub bare-mine : (m : ℕ) → m ≡ stateAt w i → k ≡ 0 → (m ≡ 2 → ⊥) → 1 ≡ bit (bareAt w i)
-  unfolding bareAt
-  bare-mine m f z n = rw (← e, z, ← f, eqb-no m 2 n)
+  pub unflagged-mine : (m : ℕ) → m ≡ stateAt w i → k ≡ 0 → (m ≡ 2 → ⊥) → 1 ≡ bit (unflaggedAt w i)
+  unfolding unflaggedAt
+  unflagged-mine m f z n = rw (← e, z, ← f, eqb-no m 2 n)

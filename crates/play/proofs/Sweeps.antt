@@ -12,39 +12,39 @@ use Rattle.game.specs.Lists.{bit, count, fold, has, range}
 use Rattle.game.proofs.Counts.{count-ext, count-more}
 use Rattle.game.proofs.Members.{first-of, fold-more, has-head, has-range, has-tail, range-none, rest-of}
 use Rattle.game.proofs.Truth.{no→false}
-use Rattle.area.specs.Numbers.{natural, numberAt, putAt}
-use Rattle.play.specs.Walks.{CellSwept, LeftSwept, RightSwept, RunSwept, Swept, SweptOver, labelledAt, labelledIn, opensAt, premiumAt, stateAt, sweptCell, sweptOn}
+use Rattle.area.specs.Numbers.{firstPlace, natural, numberAt, premiumAt, premiumPlace, putAt, putPremium, putState, secondPlace, stateAt, statePlace}
+use Rattle.play.specs.Walks.{CellSwept, LeftSwept, RightSwept, RunSwept, Swept, SweptOver, labelledAt, labelledIn, opensAt, sweptCell, sweptOn}
 use Rattle.play.proofs.Steps.{bit-small}
 
 -- ---- one cell: what is put in it is seen nowhere else
 
 -- what a sweep does with a cell that was read so
 abbrev act : Bool → Bool → ℕ → List ℤ → ℕ → List ℤ
-act a b p w i = cond a (cond b (putAt w (5 * i + 3) 1) (putAt w (5 * i + 2) (p - 1))) w
+act a b p w i = cond a (cond b (putState w i 1) (putPremium w i (p - 1))) w
 
 put-other : (w : List ℤ) (k q v : ℕ) → (q ≡ k → ⊥) → numberAt (putAt w k v) q ≡ numberAt w q
 put-other w k q v n = ap natural (getD-set-other w k q (pos (v % 2147483648)) (pos 0) n)
 
-kept : (label : ℕ) (w : List ℤ) (j q : ℕ) → (q ≡ 5 * j + 3 → ⊥) → (q ≡ 5 * j + 2 → ⊥) → numberAt (sweptCell label w j) q ≡ numberAt w q
+kept : (label : ℕ) (w : List ℤ) (j q : ℕ) → (q ≡ statePlace j → ⊥) → (q ≡ premiumPlace j → ⊥) → numberAt (sweptCell label w j) q ≡ numberAt w q
 unfolding sweptCell
 kept label w j q m n = go (labelledAt label w j) (eqb (stateAt w j) 0)
   where
     go : (a b : Bool) → numberAt (act a b (premiumAt w j) w j) q ≡ numberAt w q
-    go true true = put-other w (5 * j + 3) q 1 m
-    go true false = put-other w (5 * j + 2) q (premiumAt w j - 1) n
+    go true true = put-other w (statePlace j) q 1 m
+    go true false = put-other w (premiumPlace j) q (premiumAt w j - 1) n
     go false b = refl
 
 label-kept : (label : ℕ) (w : List ℤ) (j i : ℕ) → labelledAt label (sweptCell label w j) i ≡ labelledAt label w i
 label-kept label w j i =
-    ap₂ (λ (a b : ℕ). eqb a label || eqb b label) (kept label w j (5 * i) (λ e. omega arith) (λ e. omega arith))
-    (kept label w j (5 * i + 1) (λ e. omega arith) (λ e. omega arith))
+    ap₂ (λ (a b : ℕ). eqb a label || eqb b label) (kept label w j (firstPlace i) (λ e. omega arith) (λ e. omega arith))
+    (kept label w j (secondPlace i) (λ e. omega arith) (λ e. omega arith))
 
 module _ (label : ℕ) (w : List ℤ) (i j : ℕ) (n : i ≡ j → ⊥) where
   state-kept : stateAt (sweptCell label w j) i ≡ stateAt w i
-  state-kept = kept label w j (5 * i + 3) (λ e. n (omega arith)) (λ e. omega arith)
+  state-kept = kept label w j (statePlace i) (λ e. n (omega arith)) (λ e. omega arith)
 
   premium-kept : premiumAt (sweptCell label w j) i ≡ premiumAt w i
-  premium-kept = kept label w j (5 * i + 2) (λ e. omega arith) (λ e. n (omega arith))
+  premium-kept = kept label w j (premiumPlace i) (λ e. omega arith) (λ e. n (omega arith))
 
   opens-kept : opensAt label (sweptCell label w j) i ≡ opensAt label w i
   unfolding opensAt
@@ -52,10 +52,10 @@ module _ (label : ℕ) (w : List ℤ) (i j : ℕ) (n : i ≡ j → ⊥) where
 
   -- two cells in either order
   act-swap : (a b c d : Bool) (p q : ℕ) → act a b p (act c d q w j) i ≡ act c d q (act a b p w i) j
-  act-swap true true true true p q = set-comm w (5 * j + 3) (5 * i + 3) (pos (1 % 2147483648)) (pos (1 % 2147483648)) (λ e. n (omega arith))
-  act-swap true true true false p q = set-comm w (5 * j + 2) (5 * i + 3) (pos ((q - 1) % 2147483648)) (pos (1 % 2147483648)) (λ e. omega arith)
-  act-swap true false true true p q = set-comm w (5 * j + 3) (5 * i + 2) (pos (1 % 2147483648)) (pos ((p - 1) % 2147483648)) (λ e. omega arith)
-  act-swap true false true false p q = set-comm w (5 * j + 2) (5 * i + 2) (pos ((q - 1) % 2147483648)) (pos ((p - 1) % 2147483648)) (λ e. n (omega arith))
+  act-swap true true true true p q = set-comm w (statePlace j) (statePlace i) (pos (1 % 2147483648)) (pos (1 % 2147483648)) (λ e. n (omega arith))
+  act-swap true true true false p q = set-comm w (premiumPlace j) (statePlace i) (pos ((q - 1) % 2147483648)) (pos (1 % 2147483648)) (λ e. omega arith)
+  act-swap true false true true p q = set-comm w (statePlace j) (premiumPlace i) (pos (1 % 2147483648)) (pos ((p - 1) % 2147483648)) (λ e. omega arith)
+  act-swap true false true false p q = set-comm w (premiumPlace j) (premiumPlace i) (pos ((q - 1) % 2147483648)) (pos ((p - 1) % 2147483648)) (λ e. n (omega arith))
   act-swap true true false d p q = refl
   act-swap true false false d p q = refl
   act-swap false b c d p q = refl

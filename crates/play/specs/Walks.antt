@@ -2,61 +2,17 @@
 use Prim.Native.Nat.{ℕ, _+_, _-_, _*_, _<_, _≤_}
 use mathlib.Core.Path.{_≡_}
 use mathlib.Core.Bool.{Bool, cond, not, _&&_, _||_}
-use mathlib.Core.List.{List, [], map}
+use mathlib.Core.List.{List}
 use lib.Dec.{eqb}
 use lib.IntN.{ℤ}
-use Rattle.game.specs.Lists.{bit, concat-map, count, fold, range}
-use Rattle.game.specs.Grid.{square}
-use Rattle.area.specs.Numbers.{gridOf, numberAt, putAt}
-
--- a cell's first label
-abbrev pub firstAt : List ℤ → ℕ → ℕ
-firstAt w i = numberAt w (5 * i)
-
--- its second label
-abbrev pub secondAt : List ℤ → ℕ → ℕ
-secondAt w i = numberAt w (5 * i + 1)
-
--- its raised premium
-abbrev pub premiumAt : List ℤ → ℕ → ℕ
-premiumAt w i = numberAt w (5 * i + 2)
-
--- its state
-abbrev pub stateAt : List ℤ → ℕ → ℕ
-stateAt w i = numberAt w (5 * i + 3)
-
--- its kind
-abbrev pub kindAt : List ℤ → ℕ → ℕ
-kindAt w i = numberAt w (5 * i + 4)
-
--- a cell's square, by rows and columns alone
-abbrev pub squareOf : ℕ → ℕ → ℕ → List ℕ
-squareOf rows columns i = square (gridOf rows columns []) i
-
--- the cells of a row, in the columns from a on that are below b
-unfoldable pub rowCells : ℕ → ℕ → ℕ → ℕ → List ℕ
-rowCells rows row a b = map (λ column. column * rows + row) (range a b)
-
--- the cells of the rows from y on that are below z, each in the columns from a on that are below b
-unfoldable pub blockCells : ℕ → ℕ → ℕ → ℕ → ℕ → List ℕ
-blockCells rows y z a b = concat-map (λ row. rowCells rows row a b) (range y z)
-
--- the sides of a cell's square: its rows from first on below last, its columns from a on below b
-pub record Around (rows columns i first last a b : ℕ) : Type 0 where
-  pub cells : squareOf rows columns i ≡ blockCells rows first last a b
-  pub some-rows : first ≤ last
-  pub in-rows : last ≤ rows
-  pub some-columns : a ≤ b
-  pub in-columns : b ≤ columns
-
--- a safe cell's premium, so much up and so much down
-unfoldable pub shifted : ℕ → ℕ → List ℤ → ℕ → List ℤ
-shifted up down w i = cond (eqb (kindAt w i) 0) w (putAt w (5 * i + 2) (premiumAt w i + up - down))
+use Rattle.area.specs.Squares.{shifted, squareOf}
+use Rattle.game.specs.Lists.{bit, count, fold, range}
+use Rattle.area.specs.Numbers.{firstAt, kindAt, premiumAt, putPremium, putState, secondAt, stateAt}
 
 -- a cell of number 1 or more is opened; if it has no label, each safe cell of its square has one unit less
 unfoldable pub openedOne : ℕ → ℕ → List ℤ → ℕ → List ℤ
 openedOne rows columns w i =
-    let v = shifted 1 0 (putAt w (5 * i + 3) 1) i in
+    let v = shifted 1 0 (putState w i 1) i in
     cond (eqb (firstAt v i) 0) (fold (shifted 0 1) v (squareOf rows columns i)) v
 
 -- the cell has the label
@@ -67,7 +23,7 @@ labelledAt label w i = eqb (firstAt w i) label || eqb (secondAt w i) label
 unfoldable pub sweptCell : ℕ → List ℤ → ℕ → List ℤ
 sweptCell label w i =
     cond (labelledAt label w i)
-    (cond (eqb (stateAt w i) 0) (putAt w (5 * i + 3) 1) (putAt w (5 * i + 2) (premiumAt w i - 1))) w
+    (cond (eqb (stateAt w i) 0) (putState w i 1) (putPremium w i (premiumAt w i - 1))) w
 
 -- whether the sweep opens it
 unfoldable pub opensAt : ℕ → List ℤ → ℕ → Bool
@@ -119,5 +75,5 @@ pub record RightSwept (rows columns label column : ℕ) (w : List ℤ) (opened :
   pub ends : (last : ℕ) → end ≡ last + 1 → end < columns → labelledIn label w (last * rows) (last * rows + rows) ≡ 0
 
 -- a mine without flag
-unfoldable pub bareAt : List ℤ → ℕ → Bool
-bareAt w i = eqb (kindAt w i) 0 && not (eqb (stateAt w i) 2)
+unfoldable pub unflaggedAt : List ℤ → ℕ → Bool
+unflaggedAt w i = eqb (kindAt w i) 0 && not (eqb (stateAt w i) 2)

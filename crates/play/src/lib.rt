@@ -4,14 +4,14 @@ ghost use Prim.Native.Nat.{_+_, _*_, _-_, _^_, _<_, _≤_};
 ghost use mathlib.Core.List.{List};
 ghost use lib.Dec.{T};
 ghost use lib.IntN.{ℤ};
-ghost use lib.ListN.{length};
-ghost use Rattle.game.specs.Lists.{fold};
+ghost use Rattle.area.specs.Squares.{rowCells};
+ghost use Rattle.area.specs.Numbers.{HasCell, HasCells};
 ghost use Rattle.game.specs.Grid.{Grid, mine, zeroCell};
 ghost use Rattle.game.specs.Openings.{firstLabel};
 ghost use Rattle.game.specs.Position.{Position, Tidy, closed as isClosed};
 ghost use Rattle.game.specs.Moves.{play, flag as flagMove};
 ghost use Rattle.area.specs.Stages.{Shape, Stands};
-ghost use Rattle.play.specs.Walks.{Around, shifted, rowCells, squareOf, openedOne, labelledAt, CellSwept, SweptOver, RunSwept, LeftSwept, RightSwept};
+ghost use Rattle.play.specs.Walks.{openedOne, labelledAt, CellSwept, SweptOver, RunSwept, LeftSwept, RightSwept};
 ghost use Rattle.play.specs.Promises.{Revealing, Opens, Chording, together};
 
 // What moves opened: so many cells.
@@ -19,100 +19,30 @@ pub struct Opened {
     pub cells: usize,
 }
 
-// The sides of a square: its rows from `first` to before `last`, its columns from `from` to before `to`.
-pub struct Sides {
-    pub first: usize,
-    pub last: usize,
-    pub from: usize,
-    pub to: usize,
-}
-
-// The sides of a cell's square.
-pub fn around(rows: usize, columns: usize, index: usize) -> Sides
-    requires { ⌜ index < rows * columns ⌝ }
-    ensures { λ r. ⌜ Around rows columns index (r .first) (r .last) (r .from) (r .to) ⌝ }
-{
-    let row = index % rows;
-    let column = index / rows;
-    Sides {
-        first: area::lower(row),
-        last: area::upper(row, rows),
-        from: area::lower(column),
-        to: area::upper(column, columns),
-    }
-}
-
-// A safe cell's premium, so much up and so much down.
-fn shift(work: &mut [i32], index: usize, up: usize, down: usize)
-    requires { ⌜ (5 * index + 5 ≤ length (now work)) × (up ≤ 1) ⌝ }
-    ensures { λ _. ⌜ now (work .exit) ≡ shifted up down (now (work .entry)) index ⌝ }
-{
-    let kind = area::get(work, 5 * index + 4);
-    if kind == 0 {
-        return;
-    }
-    let premium = area::get(work, 5 * index + 2);
-    area::put(work, 5 * index + 2, area::less(premium + up, down));
-}
-
-// The safe cells of one row, in the columns given.
-fn shift_row(
-    work: &mut [i32],
-    rows: usize,
-    columns: usize,
-    row: usize,
-    from: usize,
-    to: usize,
-    up: usize,
-    down: usize,
-)
-    requires { ⌜ (5 * (rows * columns) ≤ length (now work)) × (row < rows) × (from ≤ to) × (to ≤ columns) × (up ≤ 1) ⌝ }
-    ensures { λ _. ⌜ now (work .exit) ≡ fold (shifted up down) (now (work .entry)) (rowCells rows row from to) ⌝ }
-{
-    for column in from..to {
-        shift(work, column * rows + row, up, down);
-    }
-}
-
-// The safe cells of a square.
-fn shift_square(work: &mut [i32], rows: usize, columns: usize, index: usize, up: usize, down: usize)
-    requires { ⌜ (5 * (rows * columns) ≤ length (now work)) × (index < rows * columns) × (up ≤ 1) ⌝ }
-    ensures { λ _. ⌜ now (work .exit) ≡ fold (shifted up down) (now (work .entry)) (squareOf rows columns index) ⌝ }
-{
-    let sides = around(rows, columns, index);
-    let first = sides.first;
-    let last = sides.last;
-    let from = sides.from;
-    let to = sides.to;
-    for row in first..last {
-        shift_row(work, rows, columns, row, from, to, up, down);
-    }
-}
-
 // Opens a closed cell of number 1 or more.
 fn open_one(work: &mut [i32], rows: usize, columns: usize, index: usize)
-    requires { ⌜ (5 * (rows * columns) ≤ length (now work)) × (index < rows * columns) ⌝ }
+    requires { ⌜ HasCells (now work) (rows * columns) × (index < rows * columns) ⌝ }
     ensures { λ _. ⌜ now (work .exit) ≡ openedOne rows columns (now (work .entry)) index ⌝ }
 {
-    area::put(work, 5 * index + 3, 1);
-    shift(work, index, 1, 0);
-    let label = area::get(work, 5 * index);
+    area::put_state(work, index, 1);
+    area::shift(work, index, 1, 0);
+    let label = area::first_label(work, index);
     if label != 0 {
         return;
     }
-    shift_square(work, rows, columns, index, 0, 1);
+    area::shift_square(work, rows, columns, index, 0, 1);
 }
 
 // Whether the cell has the label.
 fn labelled(work: &[i32], index: usize, label: usize) -> bool
-    requires { ⌜ 5 * index + 5 ≤ length (now work) ⌝ }
+    requires { ⌜ HasCell (now work) index ⌝ }
     ensures { λ r. ⌜ r ≡ labelledAt label (now (work .entry)) index ⌝ }
 {
-    let first = area::get(work, 5 * index);
+    let first = area::first_label(work, index);
     if first == label {
         return true;
     }
-    let second = area::get(work, 5 * index + 1);
+    let second = area::second_label(work, index);
     second == label
 }
 
@@ -124,7 +54,7 @@ struct Tally {
 
 // One cell of a sweep: opened, or one opening less.
 fn sweep_cell(work: &mut [i32], index: usize, label: usize) -> Tally
-    requires { ⌜ 5 * index + 5 ≤ length (now work) ⌝ }
+    requires { ⌜ HasCell (now work) index ⌝ }
     ensures { λ r. ⌜ CellSwept label (now (work .entry)) index (r .opened) (r .found) (now (work .exit)) ⌝ }
 {
     if !labelled(work, index, label) {
@@ -133,16 +63,16 @@ fn sweep_cell(work: &mut [i32], index: usize, label: usize) -> Tally
             found: 0,
         };
     }
-    let state = area::get(work, 5 * index + 3);
+    let state = area::state(work, index);
     if state == 0 {
-        area::put(work, 5 * index + 3, 1);
+        area::put_state(work, index, 1);
         return Tally {
             opened: 1,
             found: 1,
         };
     }
-    let premium = area::get(work, 5 * index + 2);
-    area::put(work, 5 * index + 2, area::less(premium, 1));
+    let premium = area::premium(work, index);
+    area::put_premium(work, index, area::take_away(premium, 1));
     Tally {
         opened: 0,
         found: 1,
@@ -151,7 +81,7 @@ fn sweep_cell(work: &mut [i32], index: usize, label: usize) -> Tally
 
 // Every cell of the label from `first` to before `last`.
 fn sweep(work: &mut [i32], first: usize, last: usize, label: usize) -> Tally
-    requires { ⌜ (first ≤ last) × (5 * last ≤ length (now work)) ⌝ }
+    requires { ⌜ (first ≤ last) × HasCells (now work) last ⌝ }
     ensures { λ r. ⌜ (r .opened ≤ last - first) × RunSwept label first last (now (work .entry)) (r .opened) (r .found) (now (work .exit)) ⌝ }
 {
     let mut opened: usize = 0;
@@ -167,7 +97,7 @@ fn sweep(work: &mut [i32], first: usize, last: usize, label: usize) -> Tally
 // The given column, then those to its left until one has no cell of the label. Answers how many cells were opened.
 fn sweep_left(work: &mut [i32], rows: usize, columns: usize, column: usize, label: usize) -> usize
     requires { ⌜ Shape rows columns ⌝ }
-    requires { ⌜ (5 * (rows * columns) ≤ length (now work)) × (column < columns) ⌝ }
+    requires { ⌜ HasCells (now work) (rows * columns) × (column < columns) ⌝ }
     ensures { λ r. ⌜ (r ≤ 255 * (column + 1)) × LeftSwept rows label column (now (work .entry)) r (now (work .exit)) ⌝ }
 {
     let mut opened: usize = 0;
@@ -187,7 +117,7 @@ fn sweep_left(work: &mut [i32], rows: usize, columns: usize, column: usize, labe
 // The columns from the given one on to the right until one has no cell of the label. Answers how many cells were opened.
 fn sweep_right(work: &mut [i32], rows: usize, columns: usize, column: usize, label: usize) -> usize
     requires { ⌜ Shape rows columns ⌝ }
-    requires { ⌜ (5 * (rows * columns) ≤ length (now work)) × (column ≤ columns) ⌝ }
+    requires { ⌜ HasCells (now work) (rows * columns) × (column ≤ columns) ⌝ }
     ensures { λ r. ⌜ (r ≤ 255 * (columns - column)) × RightSwept rows columns label column (now (work .entry)) r (now (work .exit)) ⌝ }
 {
     let mut opened: usize = 0;
@@ -205,7 +135,7 @@ fn sweep_right(work: &mut [i32], rows: usize, columns: usize, column: usize, lab
 // Every cell of the opening of a 0-cell: its columns are without gap. Answers how many were opened.
 fn sweep_opening(work: &mut [i32], rows: usize, columns: usize, index: usize, label: usize) -> usize
     requires { ⌜ Shape rows columns ⌝ }
-    requires { ⌜ (5 * (rows * columns) ≤ length (now work)) × (index < rows * columns) ⌝ }
+    requires { ⌜ HasCells (now work) (rows * columns) × (index < rows * columns) ⌝ }
     ensures { λ r. ⌜ (r ≤ 65025) × ((g : Grid) (s : Position) (old : List ℤ) → Stands rows columns g s old (now (work .entry))
         → T (zeroCell g index) → label ≡ firstLabel g index → SweptOver label 0 (rows * columns) (now (work .entry)) r (now (work .exit))) ⌝ }
 {
@@ -228,20 +158,20 @@ fn both(first: Opened, second: Opened) -> Opened
 // A reveal, with how many cells it can open at most.
 fn uncover(work: &mut [i32], rows: usize, columns: usize, index: usize) -> Opened
     requires { ⌜ Shape rows columns ⌝ }
-    requires { ⌜ (5 * (rows * columns) ≤ length (now work)) × (index < rows * columns) ⌝ }
+    requires { ⌜ HasCells (now work) (rows * columns) × (index < rows * columns) ⌝ }
     ensures { λ r. ⌜ (r .cells ≤ 65025) × ((g : Grid) (s : Position) (old : List ℤ) → Stands rows columns g s old (now (work .entry)) → Tidy g s
         → Revealing rows columns g s old index r (now (work .exit))) ⌝ }
 {
-    let kind = area::get(work, 5 * index + 4);
+    let kind = area::kind(work, index);
     if kind == 0 {
         return Opened { cells: 0 };
     }
-    let state = area::get(work, 5 * index + 3);
+    let state = area::state(work, index);
     if state != 0 {
         return Opened { cells: 0 };
     }
     if kind == 1 {
-        let label = area::get(work, 5 * index);
+        let label = area::first_label(work, index);
         let cells = sweep_opening(work, rows, columns, index, label);
         return Opened { cells };
     }
@@ -252,7 +182,7 @@ fn uncover(work: &mut [i32], rows: usize, columns: usize, index: usize) -> Opene
 // L, or nothing unless the cell is closed and safe. Answers what was opened.
 pub fn reveal(work: &mut [i32], rows: usize, columns: usize, index: usize) -> Opened
     requires { ⌜ Shape rows columns ⌝ }
-    requires { ⌜ (5 * (rows * columns) ≤ length (now work)) × (index < rows * columns) ⌝ }
+    requires { ⌜ HasCells (now work) (rows * columns) × (index < rows * columns) ⌝ }
     ensures { λ r. ⌜ ((g : Grid) (s : Position) (old : List ℤ) → Stands rows columns g s old (now (work .entry)) → Tidy g s
         → Revealing rows columns g s old index r (now (work .exit))) ⌝ }
 {
@@ -262,12 +192,12 @@ pub fn reveal(work: &mut [i32], rows: usize, columns: usize, index: usize) -> Op
 // F on a closed mine.
 pub fn flag(work: &mut [i32], rows: usize, columns: usize, index: usize)
     requires { ⌜ Shape rows columns ⌝ }
-    requires { ⌜ (5 * (rows * columns) ≤ length (now work)) × (index < rows * columns) ⌝ }
+    requires { ⌜ HasCells (now work) (rows * columns) × (index < rows * columns) ⌝ }
     ensures { λ _. ⌜ ((g : Grid) (s : Position) (old : List ℤ) → Stands rows columns g s old (now (work .entry))
         → T (mine g index) → T (isClosed s index) → Stands rows columns g (play g s (flagMove index)) old (now (work .exit))) ⌝ }
 {
-    area::put(work, 5 * index + 3, 2);
-    shift_square(work, rows, columns, index, 1, 0);
+    area::put_state(work, index, 2);
+    area::shift_square(work, rows, columns, index, 1, 0);
 }
 
 // A reveal of each cell of one row, in the columns given.
@@ -280,7 +210,7 @@ fn reveal_row(
     to: usize,
 ) -> Opened
     requires { ⌜ Shape rows columns ⌝ }
-    requires { ⌜ (5 * (rows * columns) ≤ length (now work)) × (row < rows) × (from ≤ to) × (to ≤ columns) ⌝ }
+    requires { ⌜ HasCells (now work) (rows * columns) × (row < rows) × (from ≤ to) × (to ≤ columns) ⌝ }
     ensures { λ r. ⌜ (r .cells ≤ 65025 * (to - from)) × Opens rows columns (now (work .entry)) (rowCells rows row from to) r (now (work .exit)) ⌝ }
 {
     let mut opened = Opened { cells: 0 };
@@ -294,11 +224,11 @@ fn reveal_row(
 // C: a reveal of each cell of the square, by row, then column. Answers what was opened.
 pub fn chord(work: &mut [i32], rows: usize, columns: usize, index: usize) -> Opened
     requires { ⌜ Shape rows columns ⌝ }
-    requires { ⌜ (5 * (rows * columns) ≤ length (now work)) × (index < rows * columns) ⌝ }
+    requires { ⌜ HasCells (now work) (rows * columns) × (index < rows * columns) ⌝ }
     ensures { λ r. ⌜ ((g : Grid) (s : Position) (old : List ℤ) → Stands rows columns g s old (now (work .entry)) → Tidy g s
         → Chording rows columns g s old index r (now (work .exit))) ⌝ }
 {
-    let sides = around(rows, columns, index);
+    let sides = area::around(rows, columns, index);
     let first = sides.first;
     let last = sides.last;
     let from = sides.from;

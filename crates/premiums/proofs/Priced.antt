@@ -1,64 +1,22 @@
--- Before any move: what is read off a labelled area, and the raised premium in two parts, one by labels and kind, one by the unlabelled cells near. Assumes nothing.
-use Prim.Native.Nat.{ℕ, _*_, _+_, _-_, _<_}
+-- Before any move: the raised premium in two parts, one by labels and kind, one by the unlabelled cells near. Assumes nothing.
+use Prim.Native.Nat.{ℕ, _+_, _-_, _<_}
 use native.Mathlib.Omega.{arith}
 use mathlib.Core.Path.{_∙_, _≡_, ap, refl, sym}
 use mathlib.Core.Bool.{Bool, _&&_, cond, false, not, true}
-use mathlib.Core.List.{List}
 use lib.Dec.{eqb}
-use lib.IntN.{ℤ}
-use Rattle.area.specs.Numbers.{numberAt}
 use Rattle.area.specs.Stages.{kind, raised}
 use Rattle.game.specs.Grid.{Grid, cells, mine, number, safe, size, square}
 use Rattle.game.specs.Lists.{bit, count, has}
-use Rattle.game.specs.Openings.{firstLabel, labels, secondLabel, unlabelled}
-use Rattle.game.specs.Position.{Position, cost, gain, untouched}
-use Rattle.premiums.specs.Laying.{alonePremium, bareAt, safeAt}
-use Rattle.game.proofs.Counts.{count-ext, count-le, count-none}
-use Rattle.game.proofs.Labels.{first-label, label-marks}
-use Rattle.game.proofs.Ranges.{cost-range, gain-range, length-square, untouched-cost, untouched-gain}
+use Rattle.game.specs.Openings.{firstLabel, secondLabel, unlabelled}
+use Rattle.game.specs.Position.{cost, gain, untouched}
+use Rattle.premiums.specs.Laying.{alonePremium}
+use Rattle.game.proofs.Counts.{count-ext, count-none}
+use Rattle.game.proofs.Labels.{label-marks}
+use Rattle.game.proofs.Ranges.{cost-range, untouched-cost, untouched-gain}
 use Rattle.game.proofs.Squares.{cells→, close-sym, count-square, square→, →square}
 use Rattle.game.proofs.Truth.{and-right, eqb-no, iff}
 
--- a kind is a small number
-pub kind-few : (g : Grid) (i : ℕ) → kind g i < 2147483648
-unfolding kind number
-kind-few g i = go (mine g i)
-  where
-    go : (b : Bool) → cond b 0 (1 + count (mine g) (square g i)) < 2147483648
-    go true = omega arith
-    go false = omega (arith, count-le (mine g) (square g i), length-square g i)
-
--- ---- what is read off a labelled area
-
--- a work area whose cells have first labels, and kinds in the number `slot`
-pub record Readable (slot : ℕ) (g : Grid) (w : List ℤ) : Type 0 where
-  pub firsts : (i : ℕ) → i < size g → numberAt w (5 * i) ≡ firstLabel g i
-  pub kinds : (i : ℕ) → i < size g → numberAt w (5 * i + slot) ≡ kind g i
-
-pub kind-zero : (g : Grid) (i : ℕ) → eqb (kind g i) 0 ≡ mine g i
-unfolding kind
-kind-zero g i = go (mine g i)
-  where
-    go : (b : Bool) → eqb (cond b 0 (1 + number g i)) 0 ≡ b
-    go true = refl
-    go false = eqb-no (1 + number g i) 0 (λ e. omega arith)
-
-pub safe-there : (slot : ℕ) (g : Grid) (w : List ℤ) (i : ℕ) → Readable slot g w → i < size g → safeAt slot w i ≡ safe g i
-safe-there slot g w i r h = ap (λ (k : ℕ). not (eqb k 0)) (r .kinds i h) ∙ ap not (kind-zero g i)
-
-pub bare-there : (slot : ℕ) (g : Grid) (w : List ℤ) (i : ℕ) → Readable slot g w → i < size g → bareAt slot w i ≡ unlabelled g i
-bare-there slot g w i r h =
-    ap (λ (b : Bool). b && eqb (numberAt w (5 * i)) 0) (safe-there slot g w i r h) ∙ ap (λ (k : ℕ). safe g i && eqb k 0) (r .firsts i h) ∙ sym (first-label g i)
-
 -- ---- the raised premium before any move, in two parts
-
-pub raised-few : (g : Grid) (s : Position) (i : ℕ) → i < size g → raised g s i < 2147483648
-unfolding raised
-raised-few g s i h = go (mine g i)
-  where
-    go : (b : Bool) → cond b 0 (10 + gain g s i - cost g s i) < 2147483648
-    go true = omega arith
-    go false = omega (arith, gain-range g s i h)
 
 -- by labels and kind alone
 unfoldable pub alone : Grid → ℕ → ℕ

@@ -8,6 +8,9 @@ use mathlib.Core.Option.{none, some}
 use lib.Dec.{T, T-not, eqb, eqb→eq, lt→ltb, ltb}
 use lib.IntN.{ℤ}
 use lib.ListN.{getD}
+use Rattle.area.proofs.Held.{kind-mine}
+use Rattle.area.specs.Squares.{squareOf}
+use Rattle.area.specs.Numbers.{kindAt, stateAt}
 use Rattle.game.specs.Grid.{Grid, mine, safe, size, square, zeroCell}
 use Rattle.game.specs.Lists.{all-of, bit, count}
 use Rattle.game.specs.Moves.{Move, cellOf, chord, chordable, flag, left, legal, legalRead, play, readMove}
@@ -20,13 +23,12 @@ use Rattle.game.proofs.Truth.{T→true, and-both, and-left, and-right, eqb-no, 
 use Rattle.area.specs.Stages.{Stands}
 use Rattle.play.specs.Promises.{Chording, Revealing}
 use Rattle.replay.specs.Replays.{Making}
-use Rattle.play.specs.Walks.{bareAt, kindAt, squareOf, stateAt}
+use Rattle.play.specs.Walks.{unflaggedAt}
 use Rattle.play.specs.declared.Opened.{Opened}
 use Rattle.replay.specs.declared.Made.{Made}
 use Rattle.replay.specs.declared.Made.the-variants.{Illegal, Played}
 use Rattle.play.proofs.Changes.{flag-count}
 use Rattle.play.proofs.Chords.{square-of}
-use Rattle.play.proofs.Held.{kind-mine}
 use Rattle.play.proofs.Reveals.{inside, is-closed, is-mine, is-safe, is-zero, kind-read, not-closed, size-is, state-read}
 
 -- ---- all pass a test where none passes its opposite
@@ -99,16 +101,16 @@ module _ (rows columns : ℕ) (g : Grid) (s : Position) (old w : List ℤ) (i : 
   -- ---- C
 
   -- a mine without flag, as it is read
-  bare-read : (j : ℕ) → j < rows * columns → bareAt w j ≡ unflagged g s j
-  unfolding bareAt
+  bare-read : (j : ℕ) → j < rows * columns → unflaggedAt w j ≡ unflagged g s j
+  unfolding unflaggedAt
   bare-read j b =
       rw (kind-read rows columns g s old w j b st (kindAt w j) refl, state-read rows columns g s old w j b st (stateAt w j) refl, kind-mine g j)
 
-  mines-counted : (n : ℕ) → n ≡ count (bareAt w) (squareOf rows columns i) → all-of (λ j. not (mine g j) || flagged s j) (square g i) ≡ eqb n 0
+  mines-counted : (n : ℕ) → n ≡ count (unflaggedAt w) (squareOf rows columns i) → all-of (λ j. not (mine g j) || flagged s j) (square g i) ≡ eqb n 0
   mines-counted n e =
       all-none (λ j. not (mine g j) || flagged s j) (unflagged g s) (square g i) (λ j. opposite (mine g j) (flagged s j))
-      ∙ ap (λ (k : ℕ). eqb k 0) (sym (e ∙ ap (count (bareAt w)) (square-of rows columns g i (st .rows-are) (st .columns-are))
-      ∙ count-ext (bareAt w) (unflagged g s) (square g i) (λ j t. bare-read j (omega (arith, square→ g i j at-i t .0, size-is rows columns g s old w i h st)))))
+      ∙ ap (λ (k : ℕ). eqb k 0) (sym (e ∙ ap (count (unflaggedAt w)) (square-of rows columns g i (st .rows-are) (st .columns-are))
+      ∙ count-ext (unflaggedAt w) (unflagged g s) (square g i) (λ j t. bare-read j (omega (arith, square→ g i j at-i t .0, size-is rows columns g s old w i h st)))))
     where
       opposite : (a b : Bool) → (not a || b) ≡ not (a && not b)
       opposite true true = refl
@@ -132,7 +134,7 @@ module _ (rows columns : ℕ) (g : Grid) (s : Position) (old w : List ℤ) (i : 
         (and-right (opened s i) (not (zeroCell g i)) (and-left (opened s i && not (zeroCell g i)) (all-of (λ j. not (mine g j) || flagged s j) (square g i)) t))
         (subst T (sym (eqb-yes k 1 o) ∙ is-zero rows columns g s old w i h st k e) tt)))
 
-    pub mines-decide : (k n : ℕ) → k ≡ kindAt w i → (k ≡ 1 → ⊥) → n ≡ count (bareAt w) (squareOf rows columns i) → eqb n 0 ≡ chordable g s i
+    pub mines-decide : (k n : ℕ) → k ≡ kindAt w i → (k ≡ 1 → ⊥) → n ≡ count (unflaggedAt w) (squareOf rows columns i) → eqb n 0 ≡ chordable g s i
     unfolding chordable
     mines-decide k n ek nk en =
         rw (mines-counted n en, state-one, ← is-zero rows columns g s old w i h st k ek, eqb-no k 1 nk)

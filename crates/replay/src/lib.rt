@@ -6,12 +6,14 @@ ghost use mathlib.Core.List.{List};
 ghost use mathlib.Core.Option.{some};
 ghost use lib.IntN.{ℤ};
 ghost use lib.ListN.{length, take};
+ghost use Rattle.area.specs.Squares.{rowCells, squareOf};
+ghost use Rattle.area.specs.Numbers.{HasCell, HasCells};
 ghost use Rattle.game.specs.Lists.{bit, count as countOf};
 ghost use Rattle.game.specs.Grid.{Grid};
 ghost use Rattle.game.specs.Position.{Position, Tidy, closedSafe};
 ghost use Rattle.game.specs.Moves.{legal, legalRead, readMove, replayFrom, chordable as mayChord, left as leftMove, flag as flagMove, chord as chordMove};
 ghost use Rattle.area.specs.Stages.{Shape, Stands};
-ghost use Rattle.play.specs.Walks.{rowCells, squareOf, bareAt};
+ghost use Rattle.play.specs.Walks.{unflaggedAt};
 ghost use Rattle.replay.specs.Replays.{Making, Replaying};
 
 // What a replayed move comes to: what it opened, or that it isn't legal.
@@ -28,14 +30,14 @@ pub enum Replay {
 
 // 1 for a mine without flag.
 fn unflagged(work: &[i32], index: usize) -> usize
-    requires { ⌜ 5 * index + 5 ≤ length (now work) ⌝ }
-    ensures { λ r. ⌜ r ≡ bit (bareAt (now (work .entry)) index) ⌝ }
+    requires { ⌜ HasCell (now work) index ⌝ }
+    ensures { λ r. ⌜ r ≡ bit (unflaggedAt (now (work .entry)) index) ⌝ }
 {
-    let kind = area::get(work, 5 * index + 4);
+    let kind = area::kind(work, index);
     if kind > 0 {
         return 0;
     }
-    let state = area::get(work, 5 * index + 3);
+    let state = area::state(work, index);
     if state == 2 {
         return 0;
     }
@@ -51,8 +53,8 @@ fn unflagged_row(
     from: usize,
     to: usize,
 ) -> usize
-    requires { ⌜ (5 * (rows * columns) ≤ length (now work)) × (row < rows) × (from ≤ to) × (to ≤ columns) ⌝ }
-    ensures { λ r. ⌜ (r ≤ to - from) × (r ≡ countOf (bareAt (now (work .entry))) (rowCells rows row from to)) ⌝ }
+    requires { ⌜ HasCells (now work) (rows * columns) × (row < rows) × (from ≤ to) × (to ≤ columns) ⌝ }
+    ensures { λ r. ⌜ (r ≤ to - from) × (r ≡ countOf (unflaggedAt (now (work .entry))) (rowCells rows row from to)) ⌝ }
 {
     let mut mines: usize = 0;
     for column in from..to {
@@ -64,10 +66,10 @@ fn unflagged_row(
 // The mines without flag in a square.
 fn unflagged_square(work: &[i32], rows: usize, columns: usize, index: usize) -> usize
     requires { ⌜ Shape rows columns ⌝ }
-    requires { ⌜ (5 * (rows * columns) ≤ length (now work)) × (index < rows * columns) ⌝ }
-    ensures { λ r. ⌜ r ≡ countOf (bareAt (now (work .entry))) (squareOf rows columns index) ⌝ }
+    requires { ⌜ HasCells (now work) (rows * columns) × (index < rows * columns) ⌝ }
+    ensures { λ r. ⌜ r ≡ countOf (unflaggedAt (now (work .entry))) (squareOf rows columns index) ⌝ }
 {
-    let sides = play::around(rows, columns, index);
+    let sides = area::around(rows, columns, index);
     let first = sides.first;
     let last = sides.last;
     let from = sides.from;
@@ -82,15 +84,15 @@ fn unflagged_square(work: &[i32], rows: usize, columns: usize, index: usize) -> 
 // Whether C may be played.
 fn chordable(work: &[i32], rows: usize, columns: usize, index: usize) -> bool
     requires { ⌜ Shape rows columns ⌝ }
-    requires { ⌜ (5 * (rows * columns) ≤ length (now work)) × (index < rows * columns) ⌝ }
+    requires { ⌜ HasCells (now work) (rows * columns) × (index < rows * columns) ⌝ }
     ensures { λ r. ⌜ ((g : Grid) (s : Position) (old : List ℤ) → Stands rows columns g s old (now (work .entry))
         → r ≡ mayChord g s index) ⌝ }
 {
-    let state = area::get(work, 5 * index + 3);
+    let state = area::state(work, index);
     if state != 1 {
         return false;
     }
-    let kind = area::get(work, 5 * index + 4);
+    let kind = area::kind(work, index);
     if kind == 1 {
         return false;
     }
@@ -101,15 +103,15 @@ fn chordable(work: &[i32], rows: usize, columns: usize, index: usize) -> bool
 // L, if it is legal.
 fn make_left(work: &mut [i32], rows: usize, columns: usize, index: usize) -> Made
     requires { ⌜ Shape rows columns ⌝ }
-    requires { ⌜ (5 * (rows * columns) ≤ length (now work)) × (index < rows * columns) ⌝ }
+    requires { ⌜ HasCells (now work) (rows * columns) × (index < rows * columns) ⌝ }
     ensures { λ r. ⌜ ((g : Grid) (s : Position) (old : List ℤ) → Stands rows columns g s old (now (work .entry)) → Tidy g s
         → Making rows columns g s old (legal g s (leftMove index)) (some (leftMove index)) r (now (work .entry)) (now (work .exit))) ⌝ }
 {
-    let kind = area::get(work, 5 * index + 4);
+    let kind = area::kind(work, index);
     if kind == 0 {
         return Made::Illegal;
     }
-    let state = area::get(work, 5 * index + 3);
+    let state = area::state(work, index);
     if state != 0 {
         return Made::Illegal;
     }
@@ -119,15 +121,15 @@ fn make_left(work: &mut [i32], rows: usize, columns: usize, index: usize) -> Mad
 // F, if it is legal.
 fn make_flag(work: &mut [i32], rows: usize, columns: usize, index: usize) -> Made
     requires { ⌜ Shape rows columns ⌝ }
-    requires { ⌜ (5 * (rows * columns) ≤ length (now work)) × (index < rows * columns) ⌝ }
+    requires { ⌜ HasCells (now work) (rows * columns) × (index < rows * columns) ⌝ }
     ensures { λ r. ⌜ ((g : Grid) (s : Position) (old : List ℤ) → Stands rows columns g s old (now (work .entry))
         → Making rows columns g s old (legal g s (flagMove index)) (some (flagMove index)) r (now (work .entry)) (now (work .exit))) ⌝ }
 {
-    let kind = area::get(work, 5 * index + 4);
+    let kind = area::kind(work, index);
     if kind != 0 {
         return Made::Illegal;
     }
-    let state = area::get(work, 5 * index + 3);
+    let state = area::state(work, index);
     if state != 0 {
         return Made::Illegal;
     }
@@ -138,7 +140,7 @@ fn make_flag(work: &mut [i32], rows: usize, columns: usize, index: usize) -> Mad
 // C, if it is legal.
 fn make_chord(work: &mut [i32], rows: usize, columns: usize, index: usize) -> Made
     requires { ⌜ Shape rows columns ⌝ }
-    requires { ⌜ (5 * (rows * columns) ≤ length (now work)) × (index < rows * columns) ⌝ }
+    requires { ⌜ HasCells (now work) (rows * columns) × (index < rows * columns) ⌝ }
     ensures { λ r. ⌜ ((g : Grid) (s : Position) (old : List ℤ) → Stands rows columns g s old (now (work .entry)) → Tidy g s
         → Making rows columns g s old (legal g s (chordMove index)) (some (chordMove index)) r (now (work .entry)) (now (work .exit))) ⌝ }
 {
@@ -151,7 +153,7 @@ fn make_chord(work: &mut [i32], rows: usize, columns: usize, index: usize) -> Ma
 // One replayed move: played if it is legal; else nothing changes.
 pub fn make(work: &mut [i32], rows: usize, columns: usize, word: u32) -> Made
     requires { ⌜ Shape rows columns ⌝ }
-    requires { ⌜ 5 * (rows * columns) ≤ length (now work) ⌝ }
+    requires { ⌜ HasCells (now work) (rows * columns) ⌝ }
     ensures { λ r. ⌜ ((g : Grid) (s : Position) (old : List ℤ) → Stands rows columns g s old (now (work .entry)) → Tidy g s
         → Making rows columns g s old (legalRead g s (readMove word)) (readMove word) r (now (work .entry)) (now (work .exit))) ⌝ }
 {
@@ -178,7 +180,7 @@ pub fn run(
     safe: usize,
 ) -> Replay
     requires { ⌜ Shape rows columns ⌝ }
-    requires { ⌜ (5 * (rows * columns) ≤ length (now work)) × (count ≤ length (now list)) ⌝ }
+    requires { ⌜ HasCells (now work) (rows * columns) × (count ≤ length (now list)) ⌝ }
     ensures { λ r. ⌜ ((g : Grid) (s : Position) (old : List ℤ) → Stands rows columns g s old (now (work .entry)) → Tidy g s → safe ≡ closedSafe g s
         → Replaying rows columns g old (replayFrom g 0 s (take count (now (list .entry)))) r (now (work .exit))) ⌝ }
 {
@@ -188,7 +190,7 @@ pub fn run(
         let Made::Played(opened) = made else {
             return Replay::Stopped(place);
         };
-        closed = area::less(closed, opened.cells);
+        closed = area::take_away(closed, opened.cells);
     }
     Replay::Whole(closed)
 }

@@ -9,13 +9,13 @@ use lib.Dec.{T, T-not, eqb}
 use lib.IntN.{ℤ}
 use lib.ListN.{getD, set}
 use lib.Seq.{getD-set-other}
-use Rattle.area.specs.Numbers.{numberAt}
+use Rattle.area.proofs.Held.{held-numbers}
+use Rattle.area.specs.Numbers.{premiumAt}
 use Rattle.area.specs.Stages.{Stands, raised}
 use Rattle.choices.specs.Tests.{lookedAt}
 use Rattle.choices.specs.Tops.{columnTop, columnUnits}
 use Rattle.choices.proofs.Below.{in-column}
 use Rattle.choices.proofs.Columns.{column-low}
-use Rattle.marks.proofs.Held.{held-numbers}
 use Rattle.choices.proofs.Tops.{none-reaches}
 use Rattle.game.specs.Grid.{Grid, columnOf, mine, safe, size, square, zeroCell}
 use Rattle.game.specs.Moves.{after, left, play, reveal}
@@ -92,10 +92,10 @@ module _ (g : Grid) (s : Position) (i : ℕ) (is-safe : T (safe g i)) (shut : T 
         column-low openedOnly w′ rows c (λ row h t. let k = in-column rows columns g (st .rows-are) (st .columns-are) row c h inside in after-it (c * rows + row) (k .0) (apart (c * rows + row) (k .1)) t)
         ∙ sym (column-low openedOnly w rows c (λ row h t. before-it (c * rows + row) (in-column rows columns g (st .rows-are) (st .columns-are) row c h inside .0) t))
       where
-        before-it : (j : ℕ) → j < size g → T (lookedAt openedOnly w j) → numberAt w (5 * j + 2) ≤ 9
+        before-it : (j : ℕ) → j < size g → T (lookedAt openedOnly w j) → premiumAt w j ≤ 9
         before-it j h t = none-reaches openedOnly rows columns g s old w st none j h t
 
-        after-it : (j : ℕ) → j < size g → (j ≡ i → ⊥) → T (lookedAt openedOnly w′ j) → numberAt w′ (5 * j + 2) ≤ 9
+        after-it : (j : ℕ) → j < size g → (j ≡ i → ⊥) → T (lookedAt openedOnly w′ j) → premiumAt w′ j ≤ 9
         after-it j h n t =
             let v = held-numbers rows columns g s old w st in
             let v′ = held-numbers rows columns g (set s i 1) old w′ stands in

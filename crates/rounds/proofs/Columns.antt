@@ -10,7 +10,7 @@ use lib.IntN.{ℤ}
 use lib.ListN.{getD, getD-replicate, length, length-replicate, replicate}
 use Rattle.area.specs.Stages.{Stands}
 use Rattle.choices.specs.Tops.{Kept, UnitsKept, columnTop, columnUnits}
-use Rattle.marks.specs.Marks.{Beside, Clicked, Forgotten, MarkedOr, Still}
+use Rattle.marks.specs.Marks.{Beside, Clicked, Marked, MarkedOr, Quiet}
 use Rattle.game.specs.Grid.{Grid, safe, size, zeroCell}
 use Rattle.game.specs.Moves.{left}
 use Rattle.game.specs.Position.{Position, closed}
@@ -56,14 +56,14 @@ module _ (rows columns : ℕ) (g : Grid) (s : Position) (old w w′ : List ℤ) 
   inside = omega (arith, ap₂ _*_ (st .rows-are) (st .columns-are))
 
   -- the moves at a chosen cell
-  pub act-kept : Forgotten g s i tops tops′ → Made rows columns g s old (movesAt g s i) list t w′ list′ t′
+  pub act-kept : Marked g s i tops tops′ → Made rows columns g s old (movesAt g s i) list t w′ list′ t′
       → MadeKept openedOnly rows columns g s old (movesAt g s i) list w tops t w′ list′ tops′ t′
   act-kept f m =
       record {
         made = m;
-        kept = tops-kept (Still g s i) w w′ rows columns tops tops′ (f .long) (f .marks) openedOnly
+        kept = tops-kept (Quiet g s i) w w′ rows columns tops tops′ (f .long) (f .marks) openedOnly
             (quiet-column g s i inside (movesAt g s i) (moves-at g s i) rows columns old w w′ st (m .stands) openedOnly);
-        units-kept = units-still (Still g s i) w w′ rows columns tops tops′ (f .long) (f .marks)
+        units-kept = units-still (Quiet g s i) w w′ rows columns tops tops′ (f .long) (f .marks)
             (quiet-units g s i inside (movesAt g s i) (moves-at g s i) rows columns old w w′ st (m .stands));
       }
 
@@ -81,11 +81,11 @@ module _ (rows columns : ℕ) (g : Grid) (s : Position) (old w w′ : List ℤ) 
       numbered e z = subst T e z
 
       top : (c : ℕ) → c < columns → Beside g s i c → (z : Bool) → zeroCell g i ≡ z → columnTop openedOnly w′ rows c ≡ columnTop openedOnly w rows c
-      top c b q true e = quiet-column g s i inside (left i ∷ []) (click-at g i) rows columns old w w′ st (m .stands) openedOnly c b (q .still (subst T (sym e) tt))
+      top c b q true e = quiet-column g s i inside (left i ∷ []) (click-at g i) rows columns old w w′ st (m .stands) openedOnly c b (q .quiet (subst T (sym e) tt))
       top c b q false e = click-low g s i is-safe shut (numbered e) rows columns old w w′ st (m .stands) c b (q .other) openedOnly none
 
       units : (c : ℕ) → c < columns → Beside g s i c → (z : Bool) → zeroCell g i ≡ z → columnUnits w′ rows c ≡ columnUnits w rows c
-      units c b q true e = quiet-units g s i inside (left i ∷ []) (click-at g i) rows columns old w w′ st (m .stands) c b (q .still (subst T (sym e) tt))
+      units c b q true e = quiet-units g s i inside (left i ∷ []) (click-at g i) rows columns old w w′ st (m .stands) c b (q .quiet (subst T (sym e) tt))
       units c b q false e = click-units g s i is-safe shut (numbered e) rows columns old w w′ st (m .stands) c b (q .other)
 
 -- a step whose moves were made, and the column that it hands on

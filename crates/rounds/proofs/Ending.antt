@@ -9,6 +9,8 @@ use lib.Dec.{T, eqb}
 use lib.IntN.{ℤ}
 use lib.ListN.{drop, length, length-map}
 use lib.Seq.{sets, sets-eq}
+use Rattle.area.proofs.Held.{kind-mine}
+use Rattle.area.specs.Numbers.{kindAt, stateAt}
 use Rattle.moves.specs.declared.State.{State}
 use Rattle.area.specs.Stages.{Stands}
 use Rattle.game.specs.Area.{listOf}
@@ -18,7 +20,6 @@ use Rattle.game.specs.Lists.{count, has, range}
 use Rattle.game.specs.Moves.{Move, after, word}
 use Rattle.game.specs.Position.{Position, Tidy, closed, closedSafe, closedUnits, untouched}
 use Rattle.game.specs.Rounds.{firstSteps, movesOf, openingClicks, roundSteps, stepsFrom, stepsOn}
-use Rattle.play.specs.Walks.{kindAt, stateAt}
 use Rattle.moves.specs.Promises.{Made}
 use Rattle.rounds.specs.Promises.{Fresh, Going, Round}
 use Rattle.game.proofs.Counts.{count-ext}
@@ -27,7 +28,6 @@ use Rattle.game.proofs.Rounds.{greedy-sound, openings-first-sound}
 use Rattle.game.proofs.Runs.{moves-append}
 use Rattle.game.proofs.Squares.{cells→}
 use Rattle.game.proofs.Tidy.{untouched-tidy}
-use Rattle.play.proofs.Held.{kind-mine}
 use Rattle.play.proofs.Reveals.{kind-read, state-read}
 use Rattle.moves.proofs.Joins.{made-both, made-none}
 

@@ -10,6 +10,7 @@ use lib.Dec.{T, eqb}
 use lib.IntN.{ℤ}
 use lib.ListN.{getD, length, set}
 use lib.Seq.{getD-set-other, getD-set-same, set-out}
+use Rattle.area.proofs.Held.{held-numbers}
 use Rattle.area.specs.Stages.{Stands}
 use Rattle.choices.specs.Tests.{NoUnitBelow, unitAt}
 use Rattle.game.specs.Grid.{Grid, cells, columnOf, rowOf, safe, size, square, zeroCell}
@@ -20,7 +21,6 @@ use Rattle.game.specs.Position.{Position, Tidy, closed, closedSafe}
 use Rattle.game.specs.Rounds.{Choice, choice, chords, clicks, closedUnitCell, stepOf, topCells, unitCells, width}
 use Rattle.choices.proofs.Held.{unit-there}
 use Rattle.choices.proofs.Passing.{first-there}
-use Rattle.marks.proofs.Held.{held-numbers}
 use Rattle.game.proofs.Choices.{never-stuck}
 use Rattle.game.proofs.Members.{getD-has, keep-has}
 use Rattle.game.proofs.Reveal.{Revealed, getD-sweep, opens, revealed, stays, sweeps}

@@ -9,11 +9,12 @@ use lib.Dec.{T, T-not, eqb, ltb}
 use lib.IntN.{ℤ}
 use lib.ListN.{getD, set}
 use lib.Seq.{getD-set-other}
-use Rattle.area.specs.Numbers.{numberAt}
+use Rattle.area.proofs.Held.{held-numbers}
+use Rattle.area.specs.Numbers.{premiumAt, stateAt}
 use Rattle.area.specs.Stages.{Stands, raised}
 use Rattle.choices.specs.Tests.{unitAt}
 use Rattle.choices.specs.Tops.{columnTop, columnUnits, topWith}
-use Rattle.marks.specs.Marks.{Far, Still}
+use Rattle.marks.specs.Marks.{Far, Quiet}
 use Rattle.game.specs.Grid.{Grid, columnOf, mine, safe, size, square, zeroCell}
 use Rattle.game.specs.Lists.{Each, bit, count, fold, has, keep, range}
 use Rattle.game.specs.Moves.{Move, after, chord, flag, left, play, reveal, sweep}
@@ -22,7 +23,6 @@ use Rattle.game.specs.Position.{Position, cellUnit, closed, cost, flagged, gain
 use Rattle.game.specs.Rounds.{movesAt}
 use Rattle.choices.proofs.Below.{in-column}
 use Rattle.choices.proofs.Held.{unit-there}
-use Rattle.marks.proofs.Held.{held-numbers}
 use Rattle.game.proofs.Chains.{joined-trans}
 use Rattle.game.proofs.Counts.{count-each, count-ext, each-map}
 use Rattle.game.proofs.Members.{all-ext, first-of, fold-inv, has-range, keep-has, rest-of, some-yes, yes-some}
@@ -195,7 +195,7 @@ opening-off g s i j o hi f t off k u z a n b v =
 
 module _ (g : Grid) (s : Position) (i : ℕ) (inside : i < size g) (ms : List Move) (at : Each (MoveAt g i) ms) where
   -- a cell there keeps its gain, its cost and its state
-  pub quiet : (j : ℕ) → j < size g → Still g s i (columnOf g j)
+  pub quiet : (j : ℕ) → j < size g → Quiet g s i (columnOf g j)
       → (gain g (after g s ms) j ≡ gain g s j) × (cost g (after g s ms) j ≡ cost g s j) × (getD (after g s ms) j 0 ≡ getD s j 0)
   quiet j h still = (same-gain g s (after g s ms) j zeros bare, same-cost g s (after g s ms) j own mines, own)
     where
@@ -226,8 +226,8 @@ module _ (g : Grid) (s : Position) (i : ℕ) (inside : i < size g) (ms : List Mo
 
   module _ (rows columns : ℕ) (old w w′ : List ℤ) (st : Stands rows columns g s old w) (st′ : Stands rows columns g (after g s ms) old w′) where
     -- a cell there keeps its raised premium and its state
-    pub quiet-numbers : (j : ℕ) → j < size g → Still g s i (columnOf g j)
-        → (numberAt w′ (5 * j + 2) ≡ numberAt w (5 * j + 2)) × (numberAt w′ (5 * j + 3) ≡ numberAt w (5 * j + 3))
+    pub quiet-numbers : (j : ℕ) → j < size g → Quiet g s i (columnOf g j)
+        → (premiumAt w′ j ≡ premiumAt w j) × (stateAt w′ j ≡ stateAt w j)
     unfolding raised
     quiet-numbers j h still =
         let q = quiet j h still in
@@ -238,13 +238,13 @@ module _ (g : Grid) (s : Position) (i : ℕ) (inside : i < size g) (ms : List Mo
         )
 
     -- a column there has the highest premium that it had
-    pub quiet-column : (openedOnly : Bool) (c : ℕ) → c < columns → Still g s i c → columnTop openedOnly w′ rows c ≡ columnTop openedOnly w rows c
+    pub quiet-column : (openedOnly : Bool) (c : ℕ) → c < columns → Quiet g s i c → columnTop openedOnly w′ rows c ≡ columnTop openedOnly w rows c
     quiet-column openedOnly c h still = go (range 0 rows) 9 (λ row t. has-range 0 rows row t .1)
       where
         one : (top row : ℕ) → row < rows → topWith openedOnly w′ top (c * rows + row) ≡ topWith openedOnly w top (c * rows + row)
         one top row k =
             let e = in-column rows columns g (st .rows-are) (st .columns-are) row c k h in
-            let q = quiet-numbers (c * rows + row) (e .0) (subst (Still g s i) (sym (e .1)) still) in
+            let q = quiet-numbers (c * rows + row) (e .0) (subst (Quiet g s i) (sym (e .1)) still) in
             ap₂ (λ (m n : ℕ). cond (ltb top m && (not openedOnly || eqb n 1)) m top) (q .0) (q .1)
 
         go : (xs : List ℕ) (top : ℕ) → ((x : ℕ) → T (has x xs) → x < rows)
@@ -255,5 +255,5 @@ module _ (g : Grid) (s : Position) (i : ℕ) (inside : i < size g) (ms : List Mo
             ∙ go xs (topWith openedOnly w top (c * rows + x)) (rest-of x xs f)
 
     -- and has the closed units that it had
-    pub quiet-units : (c : ℕ) → c < columns → Still g s i c → columnUnits w′ rows c ≡ columnUnits w rows c
-    quiet-units c h still = same-units rows columns g s (after g s ms) old w w′ st st′ c h (λ j l e. quiet j l (subst (Still g s i) (sym e) still) .2)
+    pub quiet-units : (c : ℕ) → c < columns → Quiet g s i c → columnUnits w′ rows c ≡ columnUnits w rows c
+    quiet-units c h still = same-units rows columns g s (after g s ms) old w w′ st st′ c h (λ j l e. quiet j l (subst (Quiet g s i) (sym e) still) .2)

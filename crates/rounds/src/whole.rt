@@ -7,6 +7,7 @@ ghost use mathlib.Core.List.{List};
 ghost use Prim.Native.Nat.{ℕ, _+_, _*_, _^_, _≤_};
 ghost use lib.IntN.{ℤ};
 ghost use lib.ListN.{length};
+ghost use Rattle.area.specs.Numbers.{HasCells};
 ghost use Rattle.game.specs.Grid.{Grid};
 ghost use Rattle.game.specs.Position.{Position, Tidy, closedSafe, closedUnits, untouched};
 ghost use Rattle.game.specs.Rounds.{movesOf, stepsFrom, roundSteps, firstSteps, stepsOn};
@@ -26,7 +27,7 @@ pub fn play_on(
     opened_only: bool,
 ) -> State
     requires { ⌜ Shape rows columns ⌝ }
-    requires { ⌜ (5 * (rows * columns) ≤ length (now work)) × (state .moves ≤ 2 ^ 33) ⌝ }
+    requires { ⌜ HasCells (now work) (rows * columns) × (state .moves ≤ 2 ^ 33) ⌝ }
     requires { ⌜ Going rows columns (now work) state ⌝ }
     requires { ⌜ Kept «opened_only» (now work) rows columns (now tops) ⌝ }
     ensures { λ r. ⌜ ((g : Grid) (s : Position) (old : List ℤ) (n : ℕ) → Stands rows columns g s old (now (work .entry)) → Tidy g s
@@ -53,7 +54,7 @@ pub fn begin(
     openings_first: bool,
 ) -> State
     requires { ⌜ Shape rows columns ⌝ }
-    requires { ⌜ (5 * (rows * columns) ≤ length (now work)) × (state .moves ≤ 2 ^ 32) ⌝ }
+    requires { ⌜ HasCells (now work) (rows * columns) × (state .moves ≤ 2 ^ 32) ⌝ }
     ensures { λ r. ⌜ r .moves ≤ state .moves + rows * columns ⌝ }
     ensures { λ r. ⌜ ((g : Grid) (s : Position) (old : List ℤ) → Stands rows columns g s old (now (work .entry)) → Tidy g s → state .closed ≡ closedSafe g s
         → Made rows columns g s old (movesOf (firstSteps «openings_first» g s)) (now (list .entry)) state (now (work .exit)) (now (list .exit)) r) ⌝ }
@@ -74,7 +75,7 @@ pub fn go_on(
     openings_first: bool,
 ) -> State
     requires { ⌜ Shape rows columns ⌝ }
-    requires { ⌜ (5 * (rows * columns) ≤ length (now work)) × (state .moves ≤ 2 ^ 32) ⌝ }
+    requires { ⌜ HasCells (now work) (rows * columns) × (state .moves ≤ 2 ^ 32) ⌝ }
     requires { ⌜ Going rows columns (now work) state ⌝ }
     ensures { λ r. ⌜ ((g : Grid) (s : Position) (old : List ℤ) → Stands rows columns g s old (now (work .entry)) → Tidy g s → state .closed ≡ closedSafe g s
         → Made rows columns g s old (movesOf (stepsOn «openings_first» g s)) (now (list .entry)) state (now (work .exit)) (now (list .exit)) r) ⌝ }
@@ -94,7 +95,7 @@ pub fn round(
     openings_first: bool,
 ) -> usize
     requires { ⌜ Shape rows columns ⌝ }
-    requires { ⌜ 5 * (rows * columns) ≤ length (now work) ⌝ }
+    requires { ⌜ HasCells (now work) (rows * columns) ⌝ }
     requires { ⌜ Fresh rows columns (now work) safe ⌝ }
     ensures { λ r. ⌜ ((g : Grid) (old : List ℤ) → Stands rows columns g (untouched g) old (now (work .entry)) → rows * columns ≤ length (now (list .entry))
         → Round rows columns g old (movesOf (roundSteps «openings_first» g)) (now (list .entry)) r (now (work .exit)) (now (list .exit))) ⌝ }

@@ -1,93 +1,99 @@
 -- The position before any move, from the passes one after the other. Assumes nothing.
 use Prim.Native.Nat.{ℕ, _*_, _+_, _<_, _≤_}
 use native.Mathlib.Omega.{arith}
-use native.Mathlib.Nat.{add-zero, mul-comm}
-use mathlib.Core.Path.{_∙_, _≡_, ap, refl, subst, sym}
-use mathlib.Core.Bool.{Bool, _&&_}
+use mathlib.Core.Path.{_∙_, _≡_, ap, refl, sym}
+use mathlib.Core.Bool.{Bool, _&&_, not}
 use mathlib.Core.List.{List}
-use lib.IntN.{pos, ℤ}
-use lib.ListN.{getD, length}
-use Rattle.area.specs.Numbers.{natural, numberAt}
-use Rattle.area.specs.Stages.{Stands, held, heldFive, kind, labelledFive}
+use lib.Dec.{eqb}
+use lib.IntN.{ℤ}
+use lib.ListN.{length}
+use Rattle.area.specs.Numbers.{HasCells, firstAt}
+use Rattle.area.specs.Stages.{Stands, held, kind, labelledFive}
 use Rattle.game.specs.Area.{laid}
 use Rattle.game.specs.Calls.{work}
 use Rattle.game.specs.Grid.{Grid, cells, safe, size}
 use Rattle.game.specs.Lists.{count, fold, range}
 use Rattle.game.specs.Openings.{firstLabel, openings, secondLabel, threeBV, unlabelled}
 use Rattle.game.specs.Position.{Position, closed, closedSafe, untouched}
-use Rattle.premiums.specs.Laying.{bareAt, layCell, raiseNear, safeAt}
+use Rattle.premiums.specs.Laying.{layCell, raiseNear, safeAt, unlabelledAt}
 use Rattle.start.specs.Setting.{Setting}
-use Rattle.game.proofs.Areas.{laid-at}
 use Rattle.game.proofs.Counts.{count-ext}
+use Rattle.game.proofs.Labels.{first-label}
 use Rattle.game.proofs.Squares.{cells→}
 use Rattle.game.proofs.Truth.{and-true}
 use Rattle.game.proofs.Units.{closed-untouched, units-at-most-cells}
-use Rattle.premiums.proofs.Priced.{Readable, bare-there, safe-there}
+use Rattle.area.proofs.CellByCell.{Cell, cellArea, read-first, read-kind}
+use Rattle.area.proofs.Held.{held-cells, heldCell, kind-mine}
 use Rattle.premiums.proofs.Raising.{laid-alone, raised-all}
 
-labelled-readable : (g : Grid) (old : List ℤ) → Readable 2 g (laid (labelledFive g) (size g) old)
+-- a labelled cell
+abbrev labelledCell : Grid → ℕ → Cell
+labelledCell g x = record { first = firstLabel g x; second = secondLabel g x; premium = 0; state = 0; kind = kind g x }
+
+labelled-cells : (g : Grid) (old : List ℤ) → laid (labelledFive g) (size g) old ≡ cellArea (labelledCell g) (size g) old
 unfolding labelledFive
-labelled-readable g old =
-    record {
-      firsts = λ i h. ap (λ (m : ℕ). numberAt (laid (labelledFive g) (size g) old) m) (sym (add-zero (5 * i))) ∙ ap natural (at i 0 h (omega arith));
-      kinds = λ i h. ap natural (at i 2 h (omega arith));
-    }
-  where
-    at : (i k : ℕ) → i < size g → k < 5 → getD (laid (labelledFive g) (size g) old) (5 * i + k) (pos 0) ≡ getD (labelledFive g i) k (pos 0)
-    at i k h b = laid-at (labelledFive g) (λ i. refl) (size g) old i k h b
+labelled-cells g old = refl
 
--- what is counted in a labelled area
-pub counted : (g : Grid) (w : List ℤ) → Readable 2 g w
-    → (length (openings g) + count (bareAt 2 w) (cells g) ≡ threeBV g) × (count (safeAt 2 w) (cells g) ≡ closedSafe g (untouched g))
-unfolding threeBV closedSafe
-counted g w r = (
-  ap (λ (n : ℕ). length (openings g) + n) (count-ext (bareAt 2 w) (unlabelled g) (cells g) (λ i t. bare-there 2 g w i r (cells→ g i t))),
-  count-ext (safeAt 2 w) (λ i. safe g i && closed (untouched g) i) (cells g) (λ i t.
-      safe-there 2 g w i r (cells→ g i t) ∙ and-true (safe g i) ∙ ap (λ (b : Bool). safe g i && b) (sym (closed-untouched g i (cells→ g i t)))),
-)
+module _ (g : Grid) (old : List ℤ) (room : HasCells old (size g)) where
+  abbrev w : List ℤ
+  w = cellArea (labelledCell g) (size g) old
 
--- laid and raised, from labels and kinds
-begun : (slot : ℕ) → slot < 5 → (g : Grid) (old : List ℤ) → 5 * size g ≤ length old → (five : ℕ → List ℤ) (len : (i : ℕ) → length (five i) ≡ 5)
-    → ((i : ℕ) → getD (five i) 0 (pos 0) ≡ pos (firstLabel g i)) → ((i : ℕ) → getD (five i) 1 (pos 0) ≡ pos (secondLabel g i))
-    → ((i : ℕ) → getD (five i) slot (pos 0) ≡ pos (kind g i)) → (w₁ w₂ w₃ : List ℤ) → w₁ ≡ laid five (size g) old → w₂ ≡ fold (layCell slot) w₁ (cells g)
-    → w₃ ≡ fold (raiseNear (g .rows) (g .columns)) w₂ (range 0 (g .columns * g .rows)) → w₃ ≡ held g (untouched g) old
-begun slot few g old room five len firsts seconds kinds w₁ w₂ w₃ e₁ e₂ e₃ =
-    let l = e₂ ∙ ap (λ (w : List ℤ). fold (layCell slot) w (cells g)) e₁ ∙ laid-alone slot few g old room five len firsts seconds kinds in
-    e₃ ∙ ap (λ (n : ℕ). fold (raiseNear (g .rows) (g .columns)) w₂ (range 0 n)) (mul-comm (g .columns) (g .rows))
-    ∙ ap (λ (w : List ℤ). fold (raiseNear (g .rows) (g .columns)) w (cells g)) l ∙ raised-all g old room
+  safe-there : (i : ℕ) → i < size g → safeAt w i ≡ safe g i
+  safe-there i h = ap (λ (k : ℕ). not (eqb k 0)) (read-kind (size g) old room (labelledCell g) i h) ∙ ap not (kind-mine g i)
 
--- the passes one after the other
-pub begun-setting : (g : Grid) (old w₂ w₃ w₄ : List ℤ) (r b s : ℕ) → 5 * size g ≤ length old
-    → (r ≡ length (openings g)) × (w₂ ≡ laid (labelledFive g) (size g) old) → b ≡ count (bareAt 2 w₂) (cells g) → s ≡ count (safeAt 2 w₂) (cells g)
-    → w₃ ≡ fold (layCell 2) w₂ (cells g) → w₄ ≡ fold (raiseNear (g .rows) (g .columns)) w₃ (range 0 (g .columns * g .rows))
-    → Setting g old (record { units = r + b; safe = s }) w₄
-unfolding labelledFive
-begun-setting g old w₂ w₃ w₄ r b s room l eb es e₃ e₄ =
-    let k = counted g w₂ (subst (Readable 2 g) (sym (l .1)) (labelled-readable g old)) in
-    record {
-      units = omega (arith, l .0, k .0);
-      safe = es ∙ k .1;
-      work = begun 2 (omega arith) g old room (labelledFive g) (λ i. refl) (λ i. refl) (λ i. refl) (λ i. refl) w₂ w₃ w₄ (l .1) e₃ e₄;
-    }
+  unlabelled-there : (i : ℕ) → i < size g → unlabelledAt w i ≡ unlabelled g i
+  unlabelled-there i h =
+      ap (λ (b : Bool). b && eqb (firstAt w i) 0) (safe-there i h)
+      ∙ ap (λ (k : ℕ). safe g i && eqb k 0) (read-first (size g) old room (labelledCell g) i h) ∙ sym (first-label g i)
+
+  -- what is counted in a labelled area
+  counted : (length (openings g) + count (unlabelledAt w) (cells g) ≡ threeBV g) × (count (safeAt w) (cells g) ≡ closedSafe g (untouched g))
+  unfolding threeBV closedSafe
+  counted = (
+    ap (λ (n : ℕ). length (openings g) + n) (count-ext (unlabelledAt w) (unlabelled g) (cells g) (λ i t. unlabelled-there i (cells→ g i t))),
+    count-ext (safeAt w) (λ i. safe g i && closed (untouched g) i) (cells g) (λ i t.
+        safe-there i (cells→ g i t) ∙ and-true (safe g i) ∙ ap (λ (b : Bool). safe g i && b) (sym (closed-untouched g i (cells→ g i t)))),
+  )
+
+  -- laid and raised, from labels and kinds
+  begun : (C : ℕ → Cell) → ((i : ℕ) → C i .first ≡ firstLabel g i) → ((i : ℕ) → C i .second ≡ secondLabel g i) → ((i : ℕ) → C i .kind ≡ kind g i)
+      → (w₁ w₂ w₃ : List ℤ) → w₁ ≡ cellArea C (size g) old → w₂ ≡ fold layCell w₁ (cells g) → w₃ ≡ fold (raiseNear (g .rows) (g .columns)) w₂ (cells g)
+      → w₃ ≡ held g (untouched g) old
+  begun C firsts seconds kinds w₁ w₂ w₃ e₁ e₂ e₃ =
+      e₃ ∙ ap (λ (w : List ℤ). fold (raiseNear (g .rows) (g .columns)) w (cells g))
+      (e₂ ∙ ap (λ (w : List ℤ). fold layCell w (cells g)) e₁ ∙ laid-alone g old room C firsts seconds kinds) ∙ raised-all g old room
+
+  -- the passes one after the other
+  pub begun-setting : (w₂ w₃ w₄ : List ℤ) (r b s : ℕ) → (r ≡ length (openings g)) × (w₂ ≡ laid (labelledFive g) (size g) old)
+      → b ≡ count (unlabelledAt w₂) (cells g) → s ≡ count (safeAt w₂) (cells g) → w₃ ≡ fold layCell w₂ (cells g)
+      → w₄ ≡ fold (raiseNear (g .rows) (g .columns)) w₃ (cells g) → Setting g old (record { units = r + b; safe = s }) w₄
+  begun-setting w₂ w₃ w₄ r b s l eb es e₃ e₄ =
+      let e = l .1 ∙ labelled-cells g old in
+      let k = counted in
+      let b-is : b ≡ count (unlabelledAt w) (cells g) = eb ∙ ap (λ (v : List ℤ). count (unlabelledAt v) (cells g)) e in
+      record {
+        units = omega (arith, l .0, k .0, b-is);
+        safe = es ∙ ap (λ (v : List ℤ). count (safeAt v) (cells g)) e ∙ k .1;
+        work = begun (labelledCell g) (λ i. refl) (λ i. refl) (λ i. refl) w₂ w₃ w₄ e e₃ e₄;
+      }
+
+  -- the position before any move again
+  begun-again : (s : Position) (w₀ w₁ w₂ : List ℤ) → w₀ ≡ held g s old → w₁ ≡ fold layCell w₀ (cells g)
+      → w₂ ≡ fold (raiseNear (g .rows) (g .columns)) w₁ (cells g) → w₂ ≡ held g (untouched g) old
+  begun-again s w₀ w₁ w₂ e₀ e₁ e₂ =
+      begun (heldCell g s) (λ i. refl) (λ i. refl) (λ i. refl) w₀ w₁ w₂ (e₀ ∙ held-cells g s old) e₁ e₂
 
 -- the units fit
 pub few-openings : (g : Grid) → length (openings g) ≤ size g
 unfolding threeBV
 few-openings g = omega (arith, units-at-most-cells g)
 
--- the position before any move again
-begun-again : (g : Grid) (s : Position) (old w₀ w₁ w₂ : List ℤ) → 5 * size g ≤ length old → w₀ ≡ held g s old → w₁ ≡ fold (layCell 4) w₀ (cells g)
-    → w₂ ≡ fold (raiseNear (g .rows) (g .columns)) w₁ (range 0 (g .columns * g .rows)) → w₂ ≡ held g (untouched g) old
-unfolding heldFive
-begun-again g s old w₀ w₁ w₂ room e₀ e₁ e₂ =
-    begun 4 (omega arith) g old room (heldFive g s) (λ i. refl) (λ i. refl) (λ i. refl) (λ i. refl) w₀ w₁ w₂ e₀ e₁ e₂
-
 -- the same, by rows and columns
-pub begun-again-by : (rows columns : ℕ) (g : Grid) (s : Position) (old w₀ w₁ w₂ : List ℤ) → Stands rows columns g s old w₀ → w₁ ≡ fold (layCell 4) w₀ (range 0 (rows * columns))
-    → w₂ ≡ fold (raiseNear rows columns) w₁ (range 0 (columns * rows)) → w₂ ≡ held g (untouched g) old
+pub begun-again-by : (rows columns : ℕ) (g : Grid) (s : Position) (old w₀ w₁ w₂ : List ℤ) → Stands rows columns g s old w₀ → w₁ ≡ fold layCell w₀ (range 0 (rows * columns))
+    → w₂ ≡ fold (raiseNear rows columns) w₁ (range 0 (rows * columns)) → w₂ ≡ held g (untouched g) old
 begun-again-by rows columns g s old w₀ w₁ w₂ t e₁ e₂ =
-    begun-again g s old w₀ w₁ w₂ (t .room) (t .holds-it) (e₁ ∙ λ i. fold (layCell 4) w₀ (range 0 (r i * c i)))
-    (e₂ ∙ λ i. fold (raiseNear (r i) (c i)) w₁ (range 0 (c i * r i)))
+    begun-again g old (t .room) s w₀ w₁ w₂ (t .holds-it) (e₁ ∙ λ i. fold layCell w₀ (range 0 (r i * c i)))
+    (e₂ ∙ λ i. fold (raiseNear (r i) (c i)) w₁ (range 0 (r i * c i)))
   where
     r : rows ≡ g .rows
     r = sym (t .rows-are)

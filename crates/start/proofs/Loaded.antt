@@ -6,28 +6,28 @@ use native.Mathlib.Numerals.{towards-suc}
 use native.Mathlib.Nat.{mod-eq-of-lt, mul-comm}
 use mathlib.Core.Path.{_∙_, _≡_, ap, refl, sym}
 use mathlib.Core.Logic.{⊎-elim}
-use mathlib.Core.List.{List, [], _∷_, map}
+use mathlib.Core.List.{List, map}
 use lib.IntN.{pos, ℤ}
 use lib.ListN.{getD, length, length-set}
 use lib.Seq.{sets}
-use Rattle.area.specs.Numbers.{rowMine}
+use Rattle.area.specs.Numbers.{HasCells, firstPlace, five, rowMine}
 use Rattle.area.specs.Stages.{kind, loadedFive}
 use Rattle.game.specs.Area.{laid}
 use Rattle.game.specs.Grid.{Grid, index, mine, number, size, square}
 use Rattle.game.specs.Lists.{concat-map, count, fold, range}
-use Rattle.premiums.proofs.Priced.{kind-few}
 use Rattle.start.specs.Passes.{loadAt, loadCell, minesOf}
 use Rattle.game.proofs.Areas.{laid-fold, sets-above, sets-below, sets-here}
 use Rattle.game.proofs.Counts.{count-append, count-ext, count-map}
 use Rattle.game.proofs.Members.{concat-map-more, fold-columns, range-none}
 use Rattle.game.proofs.Squares.{square-at}
 use Rattle.area.proofs.Cells.{mine-here}
+use Rattle.area.proofs.Held.{kind-few}
 
 pub length-load : (w : List ℤ) (i k : ℕ) → length (loadAt w i k) ≡ length w
 length-load w i k = simp length-set
 
 -- the five numbers are set one after the other
-load-sets : (w : List ℤ) (i k : ℕ) → k < 2147483648 → loadAt w i k ≡ sets w (5 * i) (pos 0 ∷ pos 0 ∷ pos k ∷ pos 0 ∷ pos 0 ∷ [])
+load-sets : (w : List ℤ) (i k : ℕ) → k < 2147483648 → loadAt w i k ≡ sets w (firstPlace i) (five 0 0 0 0 k)
 load-sets w i k h = rw (mod-eq-of-lt h) (simp towards-suc)
 
 -- ---- the number of a cell, by rows
@@ -94,13 +94,13 @@ number-by-rows g row column first last above here below h p q ea eh eb =
     s ∙ (λ i. minesOf g (p i) (q i) (row - 1) (min (row + 2) (g .rows))) ∙ square-mines g row column h
 
 -- the cells of the grid
-pub loaded-all : (g : Grid) (w : List ℤ) → 5 * size g ≤ length w
+pub loaded-all : (g : Grid) (w : List ℤ) → HasCells w (size g)
     → fold (λ t c. fold (λ u r. loadCell g u (c * g .rows + r)) t (range 0 (g .rows))) w (range 0 (g .columns)) ≡ laid (loadedFive g) (size g) w
 unfolding loadedFive
 loaded-all g w room =
     fold-columns (loadCell g) (g .rows) w (g .columns) ∙ ap (λ (n : ℕ). fold (loadCell g) w (range 0 n)) (mul-comm (g .columns) (g .rows))
     ∙ laid-fold (loadedFive g) (λ i. refl) (size g) w room (loadCell g) (λ v i. length-load v i (kind g i))
     (λ v i k h l b. ap (λ (u : List ℤ). getD u (5 * i + k) (pos 0)) (load-sets v i (kind g i) (kind-few g i))
-    ∙ sets-here (pos 0) (loadedFive g i) v (5 * i) k (omega (arith, l .long)) b)
+    ∙ sets-here (pos 0) (loadedFive g i) v (firstPlace i) k (omega (arith, l .long)) b)
     (λ v i m h l o. ap (λ (u : List ℤ). getD u m (pos 0)) (load-sets v i (kind g i) (kind-few g i))
-    ∙ ⊎-elim (λ b. sets-below (pos 0) (loadedFive g i) v (5 * i) m b) (λ b. sets-above (pos 0) (loadedFive g i) v (5 * i) m b) o)
+    ∙ ⊎-elim (λ b. sets-below (pos 0) (loadedFive g i) v (firstPlace i) m b) (λ b. sets-above (pos 0) (loadedFive g i) v (firstPlace i) m b) o)

@@ -10,26 +10,27 @@ use lib.Dec.{eqb}
 use lib.IntN.{+ℤ-assoc, +ℤ-comm, +ℤ-negℤ-cancel, _+ℤ_, _-ℤ_, negℤ, pos, ℤ}
 use lib.ListN.{getD, length, length-set}
 use lib.Seq.{getD-set-other, getD-set-same}
-use Rattle.area.specs.Numbers.{natural, numberAt, putLowered}
+use Rattle.area.specs.Numbers.{HasCells, kindAt, kindPlace, natural, premiumAt, premiumPlace, putLowered}
 use Rattle.area.specs.Stages.{heldFive, raised}
 use Rattle.game.specs.Area.{areaOf, fiveNumbers, keptPremium, laid}
 use Rattle.game.specs.Grid.{Grid, mine, size}
 use Rattle.game.specs.Lists.{fold, range}
 use Rattle.game.specs.Position.{Position, cost, gain, premium}
-use Rattle.start.specs.Passes.{settleCell}
+use Rattle.start.specs.Passes.{lowerPremium, settleCell}
 use Rattle.game.proofs.Areas.{LaidTo, laid-again, laid-ahead, laid-fold, laid-length}
 use Rattle.game.proofs.Ranges.{cost-range}
-use Rattle.premiums.proofs.Priced.{kind-zero, raised-few}
-use Rattle.area.proofs.Puts.{cell-there, slot-here, slot-there}
+use Rattle.area.proofs.Held.{kind-mine, raised-small}
+use Rattle.area.proofs.Puts.{cell-there, put-length, slot-here, slot-there}
 
-pub length-lowered : (b : Bool) (w : List ℤ) (k v : ℕ) → length (cond b w (putLowered w k v)) ≡ length w
-length-lowered true w k v = refl
-length-lowered false w k v = length-set w k (pos (v % 2147483648) -ℤ pos 10)
+pub length-lowered : (w : List ℤ) (i : ℕ) → length (lowerPremium w i) ≡ length w
+length-lowered w i = go (eqb (kindAt w i) 0)
+  where
+    go : (b : Bool) → length (cond b w (putLowered w i (premiumAt w i))) ≡ length w
+    go true = refl
+    go false = length-set w (premiumPlace i) (pos (premiumAt w i % 2147483648) -ℤ pos 10)
 
 pub length-settle : (w : List ℤ) (i : ℕ) → length (settleCell w i) ≡ length w
-length-settle w i =
-    length-set (cond (eqb (numberAt w (5 * i + 4)) 0) w (putLowered w (5 * i + 2) (numberAt w (5 * i + 2)))) (5 * i + 4) (pos 0)
-    ∙ length-lowered (eqb (numberAt w (5 * i + 4)) 0) w (5 * i + 2) (numberAt w (5 * i + 2))
+length-settle w i = put-length (lowerPremium w i) (kindPlace i) 0 ∙ length-lowered w i
 
 -- the premium of a safe cell, lowered again
 lowered-premium : (g : Grid) (s : Position) (i : ℕ) → i < size g → (b : Bool) → mine g i ≡ b
@@ -52,7 +53,7 @@ lowered-premium g s i h false e =
         split : (a b : ℕ) → b ≤ 10 → a + 10 ≡ 10 + a - b + b
         split a b h = omega arith
 
-pub settled-all : (g : Grid) (s : Position) (old : List ℤ) → 5 * size g ≤ length old
+pub settled-all : (g : Grid) (s : Position) (old : List ℤ) → HasCells old (size g)
     → fold settleCell (laid (heldFive g s) (size g) old) (range 0 (size g)) ≡ areaOf g s old
 unfolding heldFive fiveNumbers areaOf
 settled-all g s old room =
@@ -62,24 +63,24 @@ settled-all g s old room =
     base : List ℤ
     base = laid (heldFive g s) (size g) old
 
-    more : 5 * size g ≤ length base
+    more : HasCells base (size g)
     more = omega (arith, laid-length (heldFive g s) (λ i. refl) (size g) old room)
 
-    lowered : List ℤ → ℕ → List ℤ
-    lowered w i = cond (eqb (numberAt w (5 * i + 4)) 0) w (putLowered w (5 * i + 2) (numberAt w (5 * i + 2)))
-
-    untouched-place : (w : List ℤ) (i m : ℕ) → (m ≡ 5 * i + 2 → ⊥) → getD (lowered w i) m (pos 0) ≡ getD w m (pos 0)
-    untouched-place w i m n = go (eqb (numberAt w (5 * i + 4)) 0)
+    untouched-place : (w : List ℤ) (i m : ℕ) → (m ≡ premiumPlace i → ⊥) → getD (lowerPremium w i) m (pos 0) ≡ getD w m (pos 0)
+    untouched-place w i m n = go (eqb (kindAt w i) 0)
       where
-        go : (b : Bool) → getD (cond b w (putLowered w (5 * i + 2) (numberAt w (5 * i + 2)))) m (pos 0) ≡ getD w m (pos 0)
+        go : (b : Bool) → getD (cond b w (putLowered w i (premiumAt w i))) m (pos 0) ≡ getD w m (pos 0)
         go true = refl
-        go false = getD-set-other w (5 * i + 2) m (pos (numberAt w (5 * i + 2) % 2147483648) -ℤ pos 10) (pos 0) n
+        go false = getD-set-other w (premiumPlace i) m (pos (premiumAt w i % 2147483648) -ℤ pos 10) (pos 0) n
+
+    few : (i : ℕ) → i < size g → raised g s i < 2147483648
+    few i h = omega (arith, raised-small g s i h)
 
     there : (w : List ℤ) (i m : ℕ) → i < size g → LaidTo (fiveNumbers g s) (λ i. refl) (size g) base more settleCell i w → (m < 5 * i) ⊎ (5 * i + 5 ≤ m)
         → getD (settleCell w i) m (pos 0) ≡ getD w m (pos 0)
-    there w i m h l o = cell-there (lowered w i) i 4 0 m (omega arith) o ∙ untouched-place w i m (off o)
+    there w i m h l o = cell-there (lowerPremium w i) i 4 0 m (omega arith) o ∙ untouched-place w i m (off o)
       where
-        off : (m < 5 * i) ⊎ (5 * i + 5 ≤ m) → m ≡ 5 * i + 2 → ⊥
+        off : (m < 5 * i) ⊎ (5 * i + 5 ≤ m) → m ≡ premiumPlace i → ⊥
         off (inl a) e = omega arith
         off (inr a) e = omega arith
 
@@ -89,27 +90,27 @@ settled-all g s old room =
 
     other : (w : List ℤ) (i k : ℕ) → i < size g → LaidTo (fiveNumbers g s) (λ i. refl) (size g) base more settleCell i w → k < 5 → (k ≡ 2 → ⊥) → (k ≡ 4 → ⊥)
         → getD (settleCell w i) (5 * i + k) (pos 0) ≡ getD (heldFive g s i) k (pos 0)
-    other w i k h l b p q = slot-there (lowered w i) i 4 k 0 q ∙ untouched-place w i (5 * i + k) (λ e. p (omega arith)) ∙ was w i h l k b
+    other w i k h l b p q = slot-there (lowerPremium w i) i 4 k 0 q ∙ untouched-place w i (5 * i + k) (λ e. p (omega arith)) ∙ was w i h l k b
 
     third : (w : List ℤ) (i : ℕ) → i < size g → LaidTo (fiveNumbers g s) (λ i. refl) (size g) base more settleCell i w
-        → getD (lowered w i) (5 * i + 2) (pos 0) ≡ keptPremium g s i
+        → getD (lowerPremium w i) (premiumPlace i) (pos 0) ≡ keptPremium g s i
     third w i h l =
-        let k : eqb (numberAt w (5 * i + 4)) 0 ≡ mine g i = ap (λ (n : ℕ). eqb n 0) (ap natural (was w i h l 4 (omega arith))) ∙ kind-zero g i in
-        ap (λ (b : Bool). getD (cond b w (putLowered w (5 * i + 2) (numberAt w (5 * i + 2)))) (5 * i + 2) (pos 0)) k
+        let k : eqb (kindAt w i) 0 ≡ mine g i = ap (λ (n : ℕ). eqb n 0) (ap natural (was w i h l 4 (omega arith))) ∙ kind-mine g i in
+        ap (λ (b : Bool). getD (cond b w (putLowered w i (premiumAt w i))) (premiumPlace i) (pos 0)) k
         ∙ go (mine g i) ∙ lowered-premium g s i h (mine g i) refl
       where
-        go : (b : Bool) → getD (cond b w (putLowered w (5 * i + 2) (numberAt w (5 * i + 2)))) (5 * i + 2) (pos 0) ≡ cond b (pos (raised g s i)) (pos (raised g s i) -ℤ pos 10)
+        go : (b : Bool) → getD (cond b w (putLowered w i (premiumAt w i))) (premiumPlace i) (pos 0) ≡ cond b (pos (raised g s i)) (pos (raised g s i) -ℤ pos 10)
         go true = was w i h l 2 (omega arith)
         go false =
-            getD-set-same w (5 * i + 2) (pos (numberAt w (5 * i + 2) % 2147483648) -ℤ pos 10) (pos 0) (omega (arith, l .long, more))
-            ∙ ap (λ (n : ℕ). pos (n % 2147483648) -ℤ pos 10) (ap natural (was w i h l 2 (omega arith))) ∙ ap (λ (n : ℕ). pos n -ℤ pos 10) (mod-eq-of-lt (raised-few g s i h))
+            getD-set-same w (premiumPlace i) (pos (premiumAt w i % 2147483648) -ℤ pos 10) (pos 0) (omega (arith, l .long, more))
+            ∙ ap (λ (n : ℕ). pos (n % 2147483648) -ℤ pos 10) (ap natural (was w i h l 2 (omega arith))) ∙ ap (λ (n : ℕ). pos n -ℤ pos 10) (mod-eq-of-lt (few i h))
 
     here : (w : List ℤ) (i k : ℕ) → i < size g → LaidTo (fiveNumbers g s) (λ i. refl) (size g) base more settleCell i w → k < 5
         → getD (settleCell w i) (5 * i + k) (pos 0) ≡ getD (fiveNumbers g s i) k (pos 0)
     here w i zero h l b = other w i 0 h l b (λ e. omega arith) (λ e. omega arith)
     here w i (suc zero) h l b = other w i 1 h l b (λ e. omega arith) (λ e. omega arith)
-    here w i (suc (suc zero)) h l b = slot-there (lowered w i) i 4 2 0 (λ e. omega arith) ∙ third w i h l
+    here w i (suc (suc zero)) h l b = slot-there (lowerPremium w i) i 4 2 0 (λ e. omega arith) ∙ third w i h l
     here w i (suc (suc (suc zero))) h l b = other w i 3 h l b (λ e. omega arith) (λ e. omega arith)
     here w i (suc (suc (suc (suc zero)))) h l b =
-        slot-here (lowered w i) i 4 0 (omega (arith, l .long, more, length-lowered (eqb (numberAt w (5 * i + 4)) 0) w (5 * i + 2) (numberAt w (5 * i + 2)))) (omega arith)
+        slot-here (lowerPremium w i) i 4 0 (omega (arith, l .long, more, length-lowered w i)) (omega arith)
     here w i (suc (suc (suc (suc (suc k))))) h l b = absurd (omega arith)

@@ -1,12 +1,12 @@
 -- One cell of each pass over the work area. Assumes nothing.
-use Prim.Native.Nat.{ℕ, _+_, _*_}
+use Prim.Native.Nat.{ℕ}
 use mathlib.Core.Bool.{cond}
 use mathlib.Core.List.{List, map}
 use lib.Dec.{eqb}
 use lib.IntN.{ℤ}
 use Rattle.game.specs.Lists.{concat-map, count, range}
 use Rattle.game.specs.Grid.{Grid, index, mine}
-use Rattle.area.specs.Numbers.{numberAt, putAt, putLowered}
+use Rattle.area.specs.Numbers.{kindAt, premiumAt, putFirst, putKind, putLowered, putPremium, putSecond, putState}
 use Rattle.area.specs.Stages.{kind}
 
 -- ---- loading
@@ -17,7 +17,7 @@ minesOf g first last a b = count (mine g) (concat-map (λ row. map (λ column. i
 
 -- a cell before labelling: its kind, and 0 elsewhere
 abbrev pub loadAt : List ℤ → ℕ → ℕ → List ℤ
-loadAt w i k = putAt (putAt (putAt (putAt (putAt w (5 * i) 0) (5 * i + 1) 0) (5 * i + 2) k) (5 * i + 3) 0) (5 * i + 4) 0
+loadAt w i k = putKind (putState (putPremium (putSecond (putFirst w i 0) i 0) i 0) i 0) i k
 
 -- a cell of the grid is loaded
 abbrev pub loadCell : Grid → List ℤ → ℕ → List ℤ
@@ -25,7 +25,10 @@ loadCell g w i = loadAt w i (kind g i)
 
 -- ---- the end of a call
 
--- the premium is lowered again, unless the cell is a mine, and the fifth number is 0
+-- the premium is lowered again, unless the cell is a mine
+abbrev pub lowerPremium : List ℤ → ℕ → List ℤ
+lowerPremium w i = cond (eqb (kindAt w i) 0) w (putLowered w i (premiumAt w i))
+
+-- and 0 stands for the kind
 abbrev pub settleCell : List ℤ → ℕ → List ℤ
-settleCell w i =
-    putAt (cond (eqb (numberAt w (5 * i + 4)) 0) w (putLowered w (5 * i + 2) (numberAt w (5 * i + 2)))) (5 * i + 4) 0
+settleCell w i = putKind (lowerPremium w i) i 0

@@ -1,13 +1,13 @@
 // The position before any move: kinds, labels, first premiums; and the work area handed back.
 ghost use mathlib.Core.Path.{_≡_};
 ghost use mathlib.Core.List.{List};
-ghost use Prim.Native.Nat.{_+_, _*_, _≤_};
+ghost use Prim.Native.Nat.{_+_, _*_};
 ghost use lib.IntN.{ℤ};
 ghost use lib.ListN.{length};
 ghost use Rattle.game.specs.Grid.{Grid, size};
 ghost use Rattle.game.specs.Position.{Position, untouched};
 ghost use Rattle.game.specs.Area.{areaOf};
-ghost use Rattle.area.specs.Numbers.{gridOf};
+ghost use Rattle.area.specs.Numbers.{HasCells, gridOf};
 ghost use Rattle.area.specs.Stages.{Shape, Stands, held};
 ghost use Rattle.start.specs.Setting.{Setting};
 
@@ -20,24 +20,24 @@ pub struct Counts {
 // The work area stands for the position before any move. Answers the units and the safe cells.
 pub fn set_up(grid: &[i32], rows: usize, columns: usize, work: &mut [i32]) -> Counts
     requires { ⌜ Shape rows columns ⌝ }
-    requires { ⌜ (length (now grid) ≡ rows * columns) × (5 * (rows * columns) ≤ length (now work)) ⌝ }
+    requires { ⌜ (length (now grid) ≡ rows * columns) × HasCells (now work) (rows * columns) ⌝ }
     ensures { λ r. ⌜ Setting (gridOf rows columns (now (grid .entry))) (now (work .entry)) r (now (work .exit)) ⌝ }
 {
     let cells = rows * columns;
     crate::load::load(grid, rows, columns, work);
     let openings = openings::label(work, rows, columns);
-    let tally = premiums::lay(work, cells, 2);
+    let laid = premiums::lay(work, cells);
     premiums::raise_all(work, rows, columns);
     Counts {
-        units: openings + tally.bare,
-        safe: tally.safe,
+        units: openings + laid.unlabelled,
+        safe: laid.safe,
     }
 }
 
 // The work area is handed back: it stands for a position as document 01 says.
 pub fn settle(work: &mut [i32], cells: usize)
-    requires { ⌜ 5 * cells ≤ length (now work) ⌝ }
-    ensures { λ _. ⌜ ((g : Grid) (s : Position) (old : List ℤ) → size g ≡ cells → 5 * size g ≤ length old → now (work .entry) ≡ held g s old → now (work .exit) ≡ areaOf g s old) ⌝ }
+    requires { ⌜ HasCells (now work) cells ⌝ }
+    ensures { λ _. ⌜ ((g : Grid) (s : Position) (old : List ℤ) → size g ≡ cells → HasCells old (size g) → now (work .entry) ≡ held g s old → now (work .exit) ≡ areaOf g s old) ⌝ }
 {
     crate::settle::settle_cells(work, cells);
 }
@@ -45,10 +45,10 @@ pub fn settle(work: &mut [i32], cells: usize)
 // The position before any move again, from any position: the labels are not found anew.
 pub fn reset(work: &mut [i32], rows: usize, columns: usize)
     requires { ⌜ Shape rows columns ⌝ }
-    requires { ⌜ 5 * (rows * columns) ≤ length (now work) ⌝ }
+    requires { ⌜ HasCells (now work) (rows * columns) ⌝ }
     ensures { λ _. ⌜ ((g : Grid) (s : Position) (old : List ℤ) → Stands rows columns g s old (now (work .entry)) → now (work .exit) ≡ held g (untouched g) old) ⌝ }
 {
     let cells = rows * columns;
-    premiums::lay(work, cells, 4);
+    premiums::lay(work, cells);
     premiums::raise_all(work, rows, columns);
 }

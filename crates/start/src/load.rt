@@ -7,7 +7,7 @@ ghost use lib.ListN.{getD, length};
 ghost use Rattle.game.specs.Lists.{range, fold};
 ghost use Rattle.game.specs.Grid.{isMine};
 ghost use Rattle.game.specs.Area.{laid};
-ghost use Rattle.area.specs.Numbers.{gridOf};
+ghost use Rattle.area.specs.Numbers.{HasCell, HasCells, gridOf};
 ghost use Rattle.area.specs.Stages.{Shape, loadedFive};
 ghost use Rattle.start.specs.Passes.{loadAt, loadCell, minesOf};
 
@@ -43,21 +43,20 @@ pub fn mines_below(
 
 // A cell before labelling.
 pub fn load_cell(work: &mut [i32], index: usize, kind: usize)
-    requires { ⌜ 5 * index + 5 ≤ length (now work) ⌝ }
+    requires { ⌜ HasCell (now work) index ⌝ }
     ensures { λ _. ⌜ now (work .exit) ≡ loadAt (now (work .entry)) index kind ⌝ }
 {
-    let at = 5 * index;
-    area::put(work, at, 0);
-    area::put(work, at + 1, 0);
-    area::put(work, at + 2, kind);
-    area::put(work, at + 3, 0);
-    area::put(work, at + 4, 0);
+    area::put_first_label(work, index, 0);
+    area::put_second_label(work, index, 0);
+    area::put_premium(work, index, 0);
+    area::put_state(work, index, 0);
+    area::put_kind(work, index, kind);
 }
 
 // The cells of a column: the mines of each row of three are counted once and carried down.
 pub fn load_column(grid: &[i32], rows: usize, columns: usize, work: &mut [i32], column: usize)
     requires { ⌜ Shape rows columns ⌝ }
-    requires { ⌜ (column < columns) × (length (now grid) ≡ rows * columns) × (5 * (rows * columns) ≤ length (now work)) ⌝ }
+    requires { ⌜ (column < columns) × (length (now grid) ≡ rows * columns) × HasCells (now work) (rows * columns) ⌝ }
     ensures { λ _. ⌜ now (work .exit) ≡ fold (λ w r. loadCell (gridOf rows columns (now (grid .entry))) w (column * rows + r)) (now (work .entry)) (range 0 rows) ⌝ }
 {
     let from = area::lower(column);
@@ -76,7 +75,7 @@ pub fn load_column(grid: &[i32], rows: usize, columns: usize, work: &mut [i32], 
 // The cells of the grid: the work area before labelling.
 pub fn load(grid: &[i32], rows: usize, columns: usize, work: &mut [i32])
     requires { ⌜ Shape rows columns ⌝ }
-    requires { ⌜ (length (now grid) ≡ rows * columns) × (5 * (rows * columns) ≤ length (now work)) ⌝ }
+    requires { ⌜ (length (now grid) ≡ rows * columns) × HasCells (now work) (rows * columns) ⌝ }
     ensures { λ _. ⌜ now (work .exit) ≡ laid (loadedFive (gridOf rows columns (now (grid .entry)))) (rows * columns) (now (work .entry)) ⌝ }
 {
     for column in 0..columns {

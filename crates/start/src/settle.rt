@@ -1,32 +1,28 @@
-// The work area as a call hands it back: premiums lowered again, the fifth number 0.
+// The work area as a call hands it back: premiums lowered again, 0 for the kind.
 ghost use mathlib.Core.Path.{_≡_};
-ghost use mathlib.Core.Bool.{cond};
-ghost use Prim.Native.Nat.{_+_, _*_, _≤_};
-ghost use lib.ListN.{length};
-ghost use lib.Dec.{eqb};
 ghost use Rattle.game.specs.Lists.{range, fold};
-ghost use Rattle.area.specs.Numbers.{numberAt, putLowered};
-ghost use Rattle.start.specs.Passes.{settleCell};
+ghost use Rattle.area.specs.Numbers.{HasCell, HasCells};
+ghost use Rattle.start.specs.Passes.{lowerPremium, settleCell};
 
 // The premium of a cell that is no mine is lowered again.
 pub fn lower_premium(work: &mut [i32], index: usize)
-    requires { ⌜ 5 * index + 5 ≤ length (now work) ⌝ }
-    ensures { λ _. ⌜ now (work .exit) ≡ cond (eqb (numberAt (now (work .entry)) (5 * index + 4)) 0) (now (work .entry)) (putLowered (now (work .entry)) (5 * index + 2) (numberAt (now (work .entry)) (5 * index + 2))) ⌝ }
+    requires { ⌜ HasCell (now work) index ⌝ }
+    ensures { λ _. ⌜ now (work .exit) ≡ lowerPremium (now (work .entry)) index ⌝ }
 {
-    if area::get(work, 5 * index + 4) == 0 {
+    if area::kind(work, index) == 0 {
         return;
     }
-    let premium = area::get(work, 5 * index + 2);
-    area::put_lowered(work, 5 * index + 2, premium);
+    let premium = area::premium(work, index);
+    area::put_lowered(work, index, premium);
 }
 
 // Each cell's numbers as they are handed back.
 pub fn settle_cells(work: &mut [i32], cells: usize)
-    requires { ⌜ 5 * cells ≤ length (now work) ⌝ }
+    requires { ⌜ HasCells (now work) cells ⌝ }
     ensures { λ _. ⌜ now (work .exit) ≡ fold settleCell (now (work .entry)) (range 0 cells) ⌝ }
 {
     for index in 0..cells {
         lower_premium(work, index);
-        area::put(work, 5 * index + 4, 0);
+        area::put_kind(work, index, 0);
     }
 }

@@ -10,7 +10,7 @@ use borrow.Author.Tests.{eq-eqb, le-ltb}
 use lib.Dec.{T, eqb, eqb→eq, ltb, ltb→lt}
 use lib.IntN.{ℤ}
 use lib.ListN.{getD}
-use Rattle.area.specs.Numbers.{numberAt}
+use Rattle.area.specs.Numbers.{premiumAt}
 use Rattle.area.specs.Stages.{Shape}
 use Rattle.area.proofs.Cells.{cells-few}
 use Rattle.area.proofs.Tests.{count-none-yet}
@@ -30,7 +30,7 @@ module _ (w : List ℤ) (rows columns : ℕ) (tops : List ℕ) (top column : ℕ
   none-there t row h u =
       omega (
         arith,
-        eqb→eq (numberAt w (5 * here + 2)) top (subst (λ (c : Bool). T (cond c (unitAt w here) (eqb (numberAt w (5 * here + 2)) top))) (le-ltb top 10 chord) u),
+        eqb→eq (premiumAt w here) top (subst (λ (c : Bool). T (cond c (unitAt w here) (eqb (premiumAt w here) top))) (le-ltb top 10 chord) u),
         kept .right column inside some,
         ltb→lt (k - 1) top (and-right (not (eqb k 0)) (ltb (k - 1) top) t),
         column-bound false w rows column row h tt,

@@ -1,5 +1,5 @@
 -- The highest raised premium alone tells what a random step chooses among. Assumes nothing.
-use Prim.Native.Nat.{ℕ, _*_, _+_}
+use Prim.Native.Nat.{ℕ, _*_}
 use native.Mathlib.Omega.{arith}
 use mathlib.Core.Path.{_∙_, _≡_, ap, ap₂, refl, sym}
 use mathlib.Core.Logic.{⊎-elim}
@@ -8,7 +8,8 @@ use mathlib.Core.List.{List, [], _∷_}
 use borrow.Author.Tests.{lt-ltb, le-ltb}
 use lib.Dec.{T, eqb, ltb}
 use lib.IntN.{ℤ}
-use Rattle.area.specs.Numbers.{numberAt}
+use Rattle.area.proofs.Held.{held-numbers}
+use Rattle.area.specs.Numbers.{premiumAt}
 use Rattle.area.specs.Stages.{Stands}
 use Rattle.choices.specs.Tests.{unitAt}
 use Rattle.choices.specs.Tops.{firstOf}
@@ -17,7 +18,6 @@ use Rattle.game.specs.Grid.{Grid}
 use Rattle.game.specs.Lists.{has, keep, range}
 use Rattle.game.specs.Position.{Position}
 use Rattle.game.specs.Rounds.{Choice, choice, chords, clicks, topCells, unitCells}
-use Rattle.marks.proofs.Held.{held-numbers}
 use Rattle.choices.proofs.Columns.{Leading, led-all}
 use Rattle.choices.proofs.Held.{units-there}
 use Rattle.choices.proofs.Tops.{no-tops, top-there, tops-there}
@@ -45,10 +45,10 @@ module _ (rows columns : ℕ) (g : Grid) (s : Position) (old w : List ℤ) (st :
   Told m = (ltb m 10 ≡ forClick (choice false g s)) × (keep (candidateAt m w) (range 0 (rows * columns)) ≡ candidatesOf (choice false g s))
 
   test : (b : Bool) → ltb top 10 ≡ b
-      → keep (candidateAt top w) (range 0 (rows * columns)) ≡ keep (λ i. cond b (unitAt w i) (eqb (numberAt w (5 * i + 2)) top)) (range 0 (rows * columns))
+      → keep (candidateAt top w) (range 0 (rows * columns)) ≡ keep (λ i. cond b (unitAt w i) (eqb (premiumAt w i) top)) (range 0 (rows * columns))
   test b q =
-      keep-ext (candidateAt top w) (λ i. cond b (unitAt w i) (eqb (numberAt w (5 * i + 2)) top)) (range 0 (rows * columns))
-      (λ i t. ap (λ (c : Bool). cond c (unitAt w i) (eqb (numberAt w (5 * i + 2)) top)) q)
+      keep-ext (candidateAt top w) (λ i. cond b (unitAt w i) (eqb (premiumAt w i) top)) (range 0 (rows * columns))
+      (λ i t. ap (λ (c : Bool). cond c (unitAt w i) (eqb (premiumAt w i) top)) q)
 
   click : top ≡ 9 → Told top
   click q =

@@ -1,17 +1,17 @@
 -- The cells that a random step draws among. Assumes nothing.
-use Prim.Native.Nat.{ℕ, _+_, _*_, _-_}
+use Prim.Native.Nat.{ℕ, _-_}
 use mathlib.Core.Bool.{Bool, true, false, cond, not, _&&_}
 use mathlib.Core.List.{List}
 use lib.Dec.{eqb, ltb}
 use lib.IntN.{ℤ}
 use lib.ListN.{getD}
 use Rattle.game.specs.Rounds.{Choice, chords, clicks}
-use Rattle.area.specs.Numbers.{numberAt}
+use Rattle.area.specs.Numbers.{premiumAt}
 use Rattle.choices.specs.Tests.{unitAt}
 
 -- a cell that a random step may take: of the highest raised premium if that is 10 or more, else a closed unit
 abbrev pub candidateAt : ℕ → List ℤ → ℕ → Bool
-candidateAt top w i = cond (ltb top 10) (unitAt w i) (eqb (numberAt w (5 * i + 2)) top)
+candidateAt top w i = cond (ltb top 10) (unitAt w i) (eqb (premiumAt w i) top)
 
 -- the cells that a choice is among
 abbrev pub candidatesOf : Choice → List ℕ

@@ -8,6 +8,7 @@ ghost use Prim.Native.Nat.{ℕ, _+_, _*_, _<_, _≤_};
 ghost use lib.Dec.{eqb, ltb};
 ghost use lib.IntN.{ℤ};
 ghost use lib.ListN.{length, getD};
+ghost use Rattle.area.specs.Numbers.{HasCell, HasCells};
 ghost use Rattle.game.specs.Grid.{Grid};
 ghost use Rattle.game.specs.Lists.{count, keep, range};
 ghost use Rattle.game.specs.Position.{Position};
@@ -25,7 +26,7 @@ fn unless_marked(top: u8, kept: u8) -> u8
 }
 
 // The columns marked for their premiums are marked for their closed units too.
-fn forget_units(columns: usize, tops: &[u8], units: &mut [u8])
+fn mark_units(columns: usize, tops: &[u8], units: &mut [u8])
     requires { ⌜ (columns ≤ length (now tops)) × (columns ≤ length (now units)) ⌝ }
     ensures { λ _. ⌜ (length (now (units .exit)) ≡ length (now (units .entry))) × ((c : ℕ) → c < columns → MarkedOr (getD (now (tops .entry)) c 0 ≡ 0 → ⊥) (now (units .entry)) (now (units .exit)) c) ⌝ }
 {
@@ -37,25 +38,25 @@ fn forget_units(columns: usize, tops: &[u8], units: &mut [u8])
 // The highest raised premium, at least 9: below 10 the step is one L. Only the columns marked are looked at again.
 pub fn top(work: &[i32], rows: usize, columns: usize, tops: &mut [u8], units: &mut [u8]) -> usize
     requires { ⌜ Shape rows columns ⌝ }
-    requires { ⌜ (5 * (rows * columns) ≤ length (now work)) × Kept false (now work) rows columns (now tops) × UnitsKept (now work) rows columns (now tops) (now units) ⌝ }
+    requires { ⌜ HasCells (now work) (rows * columns) × Kept false (now work) rows columns (now tops) × UnitsKept (now work) rows columns (now tops) (now units) ⌝ }
     ensures { λ _. ⌜ (length (now (tops .exit)) ≡ length (now (tops .entry))) × Kept false (now (work .entry)) rows columns (now (tops .exit)) ⌝ }
     ensures { λ _. ⌜ (length (now (units .exit)) ≡ length (now (units .entry))) × UnitsKept (now (work .entry)) rows columns (now (units .exit)) (now (units .exit)) ⌝ }
     ensures { λ r. ⌜ ((g : Grid) (s : Position) (old : List ℤ) → Stands rows columns g s old (now (work .entry)) → (ltb r 10 ≡ forClick (choice false g s)) × (keep (candidateAt r (now (work .entry))) (range 0 (rows * columns)) ≡ candidatesOf (choice false g s))) ⌝ }
 {
-    forget_units(columns, tops, units);
+    mark_units(columns, tops, units);
     let found = kept::first_column(work, rows, columns, tops, false);
     found.top
 }
 
 // Whether the step may take the cell.
 pub fn candidate(work: &[i32], index: usize, top: usize) -> bool
-    requires { ⌜ 5 * index + 5 ≤ length (now work) ⌝ }
+    requires { ⌜ HasCell (now work) index ⌝ }
     ensures { λ r. ⌜ r ≡ candidateAt top (now (work .entry)) index ⌝ }
 {
     if top < 10 {
         return units::unit(work, index);
     }
-    area::get(work, 5 * index + 2) == top
+    area::premium(work, index) == top
 }
 
 // Whether a column is known to have no candidate: a lower premium is kept of it.
@@ -73,7 +74,7 @@ fn skipped(tops: &[u8], top: usize, column: usize) -> bool
 // How many cells of a column the step may take: each is looked at.
 fn count_cells(work: &[i32], rows: usize, columns: usize, top: usize, column: usize) -> usize
     requires { ⌜ Shape rows columns ⌝ }
-    requires { ⌜ (5 * (rows * columns) ≤ length (now work)) × (column < columns) ⌝ }
+    requires { ⌜ HasCells (now work) (rows * columns) × (column < columns) ⌝ }
     ensures { λ r. ⌜ (r ≡ count (candidateAt top (now (work .entry))) (range (column * rows) (column * rows + rows))) × (r ≤ rows) ⌝ }
 {
     let mut candidates: usize = 0;
@@ -89,7 +90,7 @@ fn count_cells(work: &[i32], rows: usize, columns: usize, top: usize, column: us
 // A column's closed units: the count kept, or counted again and kept.
 fn units_of(work: &[i32], rows: usize, columns: usize, units: &mut [u8], column: usize) -> usize
     requires { ⌜ Shape rows columns ⌝ }
-    requires { ⌜ (5 * (rows * columns) ≤ length (now work)) × (column < columns) × UnitsKept (now work) rows columns (now units) (now units) ⌝ }
+    requires { ⌜ HasCells (now work) (rows * columns) × (column < columns) × UnitsKept (now work) rows columns (now units) (now units) ⌝ }
     ensures { λ r. ⌜ (r ≡ columnUnits (now (work .entry)) rows column) × (r ≤ rows) ⌝ }
     ensures { λ _. ⌜ (length (now (units .exit)) ≡ length (now (units .entry))) × UnitsKept (now (work .entry)) rows columns (now (units .exit)) (now (units .exit)) ⌝ }
 {
@@ -113,7 +114,7 @@ fn count_column(
     column: usize,
 ) -> usize
     requires { ⌜ Shape rows columns ⌝ }
-    requires { ⌜ (5 * (rows * columns) ≤ length (now work)) × (column < columns) × Kept false (now work) rows columns (now tops) × UnitsKept (now work) rows columns (now units) (now units) ⌝ }
+    requires { ⌜ HasCells (now work) (rows * columns) × (column < columns) × Kept false (now work) rows columns (now tops) × UnitsKept (now work) rows columns (now units) (now units) ⌝ }
     ensures { λ r. ⌜ (r ≡ count (candidateAt top (now (work .entry))) (range (column * rows) (column * rows + rows))) × (r ≤ rows) ⌝ }
     ensures { λ _. ⌜ (length (now (units .exit)) ≡ length (now (units .entry))) × UnitsKept (now (work .entry)) rows columns (now (units .exit)) (now (units .exit)) ⌝ }
 {
@@ -136,7 +137,7 @@ pub fn count(
     top: usize,
 ) -> usize
     requires { ⌜ Shape rows columns ⌝ }
-    requires { ⌜ (5 * (rows * columns) ≤ length (now work)) × Kept false (now work) rows columns (now tops) × UnitsKept (now work) rows columns (now units) (now units) ⌝ }
+    requires { ⌜ HasCells (now work) (rows * columns) × Kept false (now work) rows columns (now tops) × UnitsKept (now work) rows columns (now units) (now units) ⌝ }
     ensures { λ r. ⌜ (r ≡ count (candidateAt top (now (work .entry))) (range 0 (rows * columns))) × (r ≤ rows * columns) ⌝ }
     ensures { λ _. ⌜ (length (now (units .exit)) ≡ length (now (units .entry))) × UnitsKept (now (work .entry)) rows columns (now (units .exit)) (now (units .exit)) ⌝ }
 {
@@ -158,7 +159,7 @@ fn pick_column(
     place: usize,
 ) -> usize
     requires { ⌜ Shape rows columns ⌝ }
-    requires { ⌜ (5 * (rows * columns) ≤ length (now work)) × (column < columns) × (before ≤ place) × (before ≡ count (candidateAt top (now work)) (range 0 (column * rows))) × (before ≤ column * rows) ⌝ }
+    requires { ⌜ HasCells (now work) (rows * columns) × (column < columns) × (before ≤ place) × (before ≡ count (candidateAt top (now work)) (range 0 (column * rows))) × (before ≤ column * rows) ⌝ }
     ensures { λ r. ⌜ (place < count (candidateAt top (now (work .entry))) (range 0 (column * rows + rows)) → r ≡ getD (keep (candidateAt top (now (work .entry))) (range 0 (rows * columns))) place 0) ⌝ }
 {
     let mut passed = before;
@@ -185,7 +186,7 @@ pub fn pick(
     place: usize,
 ) -> usize
     requires { ⌜ Shape rows columns ⌝ }
-    requires { ⌜ (5 * (rows * columns) ≤ length (now work)) × Kept false (now work) rows columns (now tops) × UnitsKept (now work) rows columns (now units) (now units) ⌝ }
+    requires { ⌜ HasCells (now work) (rows * columns) × Kept false (now work) rows columns (now tops) × UnitsKept (now work) rows columns (now units) (now units) ⌝ }
     ensures { λ r. ⌜ r ≡ getD (keep (candidateAt top (now (work .entry))) (range 0 (rows * columns))) place 0 ⌝ }
     ensures { λ _. ⌜ (length (now (units .exit)) ≡ length (now (units .entry))) × UnitsKept (now (work .entry)) rows columns (now (units .exit)) (now (units .exit)) ⌝ }
 {

@@ -7,30 +7,18 @@ use Rattle.marks.proofs.closed_zero.Tie as tie
 returns : tie.Need-returns
 returns c = let a = c .before .args in zero-past (a .work .now) (a .cells) (a .index) (c .if1 .taken)
 
-mul-get : tie.Need-mul-get
-mul-get c = search needs
-
-add-get : tie.Need-add-get
-add-get c = search needs
-
-get-requires : tie.Need-get-requires
-get-requires c κs = search needs
+kind-requires : tie.Need-kind-requires
+kind-requires c κs = search needs
 
 returns-2 : tie.Need-returns-2
 returns-2 c =
     let k = c .before in
     let x = k .before in
     let a = x .before .args in
-    zero-other (a .work .now) (a .cells) (a .index) (k .get .result) (x .if1 .left) (k .get .ensures .0) (c .if2 .taken)
+    zero-other (a .work .now) (a .cells) (a .index) (k .kind .result) (x .if1 .left) (k .kind .ensures .0) (c .if2 .taken)
 
-mul-get-2 : tie.Need-mul-get-2
-mul-get-2 c = search needs
-
-add-get-2 : tie.Need-add-get-2
-add-get-2 c = search needs
-
-get-requires-2 : tie.Need-get-requires-2
-get-requires-2 c κs = search needs
+state-requires : tie.Need-state-requires
+state-requires c κs = search needs
 
 returns-3 : tie.Need-returns-3
 returns-3 c =
@@ -38,18 +26,14 @@ returns-3 c =
     let k = y .before in
     let x = k .before in
     let a = x .before .args in
-    zero-state (a .work .now) (a .cells) (a .index) (k .get .result) (c .get2 .result) (x .if1 .left) (k .get .ensures .0) (y .if2 .left) (c .get2 .ensures .0)
+    zero-state (a .work .now) (a .cells) (a .index) (k .kind .result) (c .state .result) (x .if1 .left) (k .kind .ensures .0) (y .if2 .left) (c .state .ensures .0)
 
 pub closed-zero-spec : {M : Type 1} → statement M
 closed-zero-spec =
     tie.close
     (tie.spec
     returns
-    mul-get
-    add-get
-    get-requires
+    kind-requires
     returns-2
-    mul-get-2
-    add-get-2
-    get-requires-2
+    state-requires
     returns-3)

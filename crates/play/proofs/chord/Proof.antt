@@ -4,11 +4,11 @@ use native.Mathlib.Omega.{arith}
 use mathlib.Core.Path.{_≡_, ap, refl}
 use lib.ListN.{length}
 use borrow.Author.Needs.{needs}
+use Rattle.area.proofs.Rows.{block-more, block-none}
+use Rattle.area.specs.Squares.{blockCells, rowCells}
 use Rattle.play.specs.Promises.{Opens}
 use Rattle.play.specs.declared.Opened.{Opened}
-use Rattle.play.specs.Walks.{blockCells, rowCells}
 use Rattle.play.proofs.Chords.{opens-both, opens-chord, opens-none}
-use Rattle.play.proofs.Rows.{block-more, block-none}
 use Rattle.play.proofs.chord.Statement.{statement}
 use Rattle.play.proofs.chord.Tie as tie
 

@@ -4,29 +4,20 @@ use borrow.Author.Needs.{needs}
 use Rattle.play.proofs.labelled.Statement.{statement}
 use Rattle.play.proofs.labelled.Tie as tie
 
-mul-get : tie.Need-mul-get
-mul-get c = search needs
-
-get-requires : tie.Need-get-requires
-get-requires c κs = search needs
+first-label-requires : tie.Need-first-label-requires
+first-label-requires c κs = search needs
 
 returns : tie.Need-returns
 returns c = let a = c .before .before .args in
-    label-first (a .label) (a .work .now) (a .index) (c .before .get .result) (c .before .get .ensures .0) (c .if1 .taken)
+    label-first (a .label) (a .work .now) (a .index) (c .before .first-label .result) (c .before .first-label .ensures .0) (c .if1 .taken)
 
-mul-get-2 : tie.Need-mul-get-2
-mul-get-2 c = search needs
-
-add-get : tie.Need-add-get
-add-get c = search needs
-
-get-requires-2 : tie.Need-get-requires-2
-get-requires-2 c κs = search needs
+second-label-requires : tie.Need-second-label-requires
+second-label-requires c κs = search needs
 
 returns-2 : tie.Need-returns-2
 returns-2 c = let a = c .before .before .before .args in
-    label-second (a .label) (a .work .now) (a .index) (c .before .before .get .result) (c .before .before .get .ensures .0) (c .get2 .result) (c .before .if1 .left) (c .get2 .ensures .0)
+    label-second (a .label) (a .work .now) (a .index) (c .before .before .first-label .result) (c .before .before .first-label .ensures .0) (c .second-label .result) (c .before .if1 .left) (c .second-label .ensures .0)
 
 pub labelled-spec : {M : Type 1} → statement M
 labelled-spec =
-    tie.close (tie.spec mul-get get-requires returns mul-get-2 add-get get-requires-2 returns-2)
+    tie.close (tie.spec first-label-requires returns second-label-requires returns-2)

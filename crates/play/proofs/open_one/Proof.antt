@@ -4,23 +4,14 @@ use borrow.Author.Needs.{needs}
 use Rattle.play.proofs.open_one.Statement.{statement}
 use Rattle.play.proofs.open_one.Tie as tie
 
-mul-put : tie.Need-mul-put
-mul-put c = search needs
-
-add-put : tie.Need-add-put
-add-put c = search needs
-
-put-requires : tie.Need-put-requires
-put-requires c κs = search needs
+put-state-requires : tie.Need-put-state-requires
+put-state-requires c κs = search needs
 
 shift-requires : tie.Need-shift-requires
 shift-requires c κs = search needs
 
-mul-get : tie.Need-mul-get
-mul-get c = search needs
-
-get-requires : tie.Need-get-requires
-get-requires c κs = search needs
+first-label-requires : tie.Need-first-label-requires
+first-label-requires c κs = search needs
 
 same-length : tie.Need-same-length
 same-length c = search needs
@@ -30,8 +21,8 @@ returns c = let g = c .before in
     let h = g .before .before .before in
     let p = h .before .before .before in
     let a = p .before .before .args in
-    open-labelled (a .rows) (a .columns) (a .work .now) (p .put .last .0) (h .shift .last .0) (a .index) (g .get .result)
-    (p .put .ensures) (h .shift .ensures) (g .get .ensures .0) (c .if1 .taken)
+    open-labelled (a .rows) (a .columns) (a .work .now) (p .put-state .last .0) (h .shift .last .0) (a .index) (g .first-label .result)
+    (p .put-state .ensures) (h .shift .ensures) (g .first-label .ensures .0) (c .if1 .taken)
 
 shift-square-requires : tie.Need-shift-square-requires
 shift-square-requires c κs = search needs
@@ -45,19 +36,16 @@ returns-2 c = let q = c .before in
     let h = g .before .before .before in
     let p = h .before .before .before in
     let a = p .before .before .args in
-    open-bare (a .rows) (a .columns) (a .work .now) (p .put .last .0) (h .shift .last .0) (a .index) (g .get .result)
-    (p .put .ensures) (h .shift .ensures) (g .get .ensures .0) (q .shift-square .last .0) (q .before .before .if1 .left) (q .shift-square .ensures)
+    open-bare (a .rows) (a .columns) (a .work .now) (p .put-state .last .0) (h .shift .last .0) (a .index) (g .first-label .result)
+    (p .put-state .ensures) (h .shift .ensures) (g .first-label .ensures .0) (q .shift-square .last .0) (q .before .before .if1 .left) (q .shift-square .ensures)
 
 pub open-one-spec : {M : Type 1} → statement M
 open-one-spec =
     tie.close
     (tie.spec
-    mul-put
-    add-put
-    put-requires
+    put-state-requires
     shift-requires
-    mul-get
-    get-requires
+    first-label-requires
     same-length
     returns
     shift-square-requires

@@ -5,11 +5,12 @@ use mathlib.Core.Path.{_≡_, ap, refl}
 use mathlib.Core.List.{[], _∷_}
 use lib.ListN.{length}
 use borrow.Author.Needs.{needs}
+use Rattle.area.proofs.Rows.{row-more, row-none}
+use Rattle.area.specs.Squares.{rowCells}
 use Rattle.play.specs.Promises.{Opens}
 use Rattle.play.specs.declared.Opened.{Opened}
-use Rattle.play.specs.Walks.{rowCells}
 use Rattle.play.proofs.Chords.{opens-both, opens-none, opens-one}
-use Rattle.play.proofs.Rows.{inside, row-more, row-none}
+use Rattle.area.proofs.Cells.{cell-below}
 use Rattle.play.proofs.reveal_row.Statement.{statement}
 use Rattle.play.proofs.reveal_row.Tie as tie
 
@@ -29,7 +30,7 @@ cell : (c : tie.In-loop Inv-loop μ-loop) (k : ℕ) → k ≤ c .before .loop .c
     → k * c .before .before .args .rows + c .before .before .args .row < c .before .before .args .rows * c .before .before .args .columns
 cell c k h =
     let a = c .before .before .args in
-    inside (a .rows) (a .columns) (a .row) k (omega arith) (omega arith)
+    cell-below (a .rows) (a .columns) (a .row) k (omega arith) (omega arith)
 
 -- the first of them, and that of this turn
 on-grid : (c : tie.In-loop Inv-loop μ-loop)

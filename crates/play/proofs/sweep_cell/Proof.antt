@@ -16,23 +16,11 @@ returns c = let l = c .before in
     let a = l .before .before .args in
     sweep-other (a .label) (a .work .now) (a .index) (l .labelled .result) (l .labelled .ensures) (not-true (l .labelled .result) (c .if1 .taken))
 
-mul-get : tie.Need-mul-get
-mul-get c = search needs
+state-requires : tie.Need-state-requires
+state-requires c κs = search needs
 
-add-get : tie.Need-add-get
-add-get c = search needs
-
-get-requires : tie.Need-get-requires
-get-requires c κs = search needs
-
-mul-put : tie.Need-mul-put
-mul-put c = search needs
-
-add-put : tie.Need-add-put
-add-put c = search needs
-
-put-requires : tie.Need-put-requires
-put-requires c κs = search needs
+put-state-requires : tie.Need-put-state-requires
+put-state-requires c κs = search needs
 
 same-length-2 : tie.Need-same-length-2
 same-length-2 c = search needs
@@ -43,29 +31,17 @@ returns-2 c = let p = c .before in
     let g = t .before in
     let l = g .before .before .before in
     let a = l .before .before .args in
-    sweep-closed (a .label) (a .work .now) (a .index) (l .labelled .result) (l .labelled .ensures) (g .get .result) (p .put .last .0)
-    (not-false (l .labelled .result) (g .before .before .if1 .left)) (g .get .ensures .0) (t .if2 .taken) (p .put .ensures)
+    sweep-closed (a .label) (a .work .now) (a .index) (l .labelled .result) (l .labelled .ensures) (g .state .result) (p .put-state .last .0)
+    (not-false (l .labelled .result) (g .before .before .if1 .left)) (g .state .ensures .0) (t .if2 .taken) (p .put-state .ensures)
 
-mul-get-2 : tie.Need-mul-get-2
-mul-get-2 c = search needs
+premium-requires : tie.Need-premium-requires
+premium-requires c κs = search needs
 
-add-get-2 : tie.Need-add-get-2
-add-get-2 c = search needs
+take-away-requires : tie.Need-take-away-requires
+take-away-requires c κs = search needs
 
-get-requires-2 : tie.Need-get-requires-2
-get-requires-2 c κs = search needs
-
-mul-put-2 : tie.Need-mul-put-2
-mul-put-2 c = search needs
-
-add-put-2 : tie.Need-add-put-2
-add-put-2 c = search needs
-
-less-requires : tie.Need-less-requires
-less-requires c κs = search needs
-
-put-requires-2 : tie.Need-put-requires-2
-put-requires-2 c κs = search needs
+put-premium-requires : tie.Need-put-premium-requires
+put-premium-requires c κs = search needs
 
 same-length-3 : tie.Need-same-length-3
 same-length-3 c = search needs
@@ -78,8 +54,8 @@ returns-3 c = let p = c .before in
     let g = t .before in
     let l = g .before .before .before in
     let a = l .before .before .args in
-    sweep-opened (a .label) (a .work .now) (a .index) (l .labelled .result) (l .labelled .ensures) (g .get .result) (h .get2 .result) (d .less .result) (p .put2 .last .0)
-    (not-false (l .labelled .result) (g .before .before .if1 .left)) (g .get .ensures .0) (t .if2 .left) (h .get2 .ensures .0) (d .less .ensures) (p .put2 .ensures)
+    sweep-opened (a .label) (a .work .now) (a .index) (l .labelled .result) (l .labelled .ensures) (g .state .result) (h .premium .result) (d .take-away .result) (p .put-premium .last .0)
+    (not-false (l .labelled .result) (g .before .before .if1 .left)) (g .state .ensures .0) (t .if2 .left) (h .premium .ensures .0) (d .take-away .ensures) (p .put-premium .ensures)
 
 pub sweep-cell-spec : {M : Type 1} → statement M
 sweep-cell-spec =
@@ -88,20 +64,12 @@ sweep-cell-spec =
     labelled-requires
     same-length
     returns
-    mul-get
-    add-get
-    get-requires
-    mul-put
-    add-put
-    put-requires
+    state-requires
+    put-state-requires
     same-length-2
     returns-2
-    mul-get-2
-    add-get-2
-    get-requires-2
-    mul-put-2
-    add-put-2
-    less-requires
-    put-requires-2
+    premium-requires
+    take-away-requires
+    put-premium-requires
     same-length-3
     returns-3)

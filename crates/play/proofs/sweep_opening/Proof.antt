@@ -3,7 +3,7 @@ use Prim.Native.Nat.{_+_, _/_, _<_, _≤_}
 use native.Mathlib.Omega.{arith}
 use mathlib.Core.Path.{refl}
 use borrow.Author.Needs.{needs}
-use Rattle.play.proofs.Rows.{column-inside}
+use Rattle.area.proofs.Rows.{column-inside}
 use Rattle.play.proofs.Spans.{both-ways}
 use Rattle.play.proofs.sweep_opening.Statement.{statement}
 use Rattle.play.proofs.sweep_opening.Tie as tie

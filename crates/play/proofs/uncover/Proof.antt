@@ -5,14 +5,8 @@ use borrow.Author.Needs.{needs}
 use Rattle.play.proofs.uncover.Statement.{statement}
 use Rattle.play.proofs.uncover.Tie as tie
 
-mul-get : tie.Need-mul-get
-mul-get c = search needs
-
-add-get : tie.Need-add-get
-add-get c = search needs
-
-get-requires : tie.Need-get-requires
-get-requires c κs = search needs
+kind-requires : tie.Need-kind-requires
+kind-requires c κs = search needs
 
 same-length : tie.Need-same-length
 same-length c = search needs
@@ -21,16 +15,10 @@ returns : tie.Need-returns
 returns c = let k = c .before in
     let b = k .before .before in
     let a = b .args in
-    (omega arith, λ g s old t f. by-mine (a .rows) (a .columns) g s old (a .work .now) (a .index) (b .pre .1 .1) t f (k .get .result) (k .get .ensures .0) (c .if1 .taken))
+    (omega arith, λ g s old t f. by-mine (a .rows) (a .columns) g s old (a .work .now) (a .index) (b .pre .1 .1) t f (k .kind .result) (k .kind .ensures .0) (c .if1 .taken))
 
-mul-get-2 : tie.Need-mul-get-2
-mul-get-2 c = search needs
-
-add-get-2 : tie.Need-add-get-2
-add-get-2 c = search needs
-
-get-requires-2 : tie.Need-get-requires-2
-get-requires-2 c κs = search needs
+state-requires : tie.Need-state-requires
+state-requires c κs = search needs
 
 same-length-2 : tie.Need-same-length-2
 same-length-2 c = search needs
@@ -39,13 +27,10 @@ returns-2 : tie.Need-returns-2
 returns-2 c = let m = c .before in
     let b = m .before .before .before .before .before in
     let a = b .args in
-    (omega arith, λ g s old t f. by-state (a .rows) (a .columns) g s old (a .work .now) (a .index) (b .pre .1 .1) t f (m .get2 .result) (m .get2 .ensures .0) (c .if2 .taken))
+    (omega arith, λ g s old t f. by-state (a .rows) (a .columns) g s old (a .work .now) (a .index) (b .pre .1 .1) t f (m .state .result) (m .state .ensures .0) (c .if2 .taken))
 
-mul-get-3 : tie.Need-mul-get-3
-mul-get-3 c = search needs
-
-get-requires-3 : tie.Need-get-requires-3
-get-requires-3 c κs = search needs
+first-label-requires : tie.Need-first-label-requires
+first-label-requires c κs = search needs
 
 sweep-opening-requires : tie.Need-sweep-opening-requires
 sweep-opening-requires c κs = search needs
@@ -63,8 +48,8 @@ returns-3 c = let q = c .before in
     let a = b .args in (
       q .sweep-opening .ensures .0,
       λ g s old t f. by-zero (a .rows) (a .columns) g s old (a .work .now) (a .index) (b .pre .1 .1) t f
-          (k .get .result) (m .get2 .result) (k .get .ensures .0) (m .before .before .if1 .left) (m .get2 .ensures .0) (z .before .if2 .left)
-          (l .get3 .result) (q .sweep-opening .result) (q .sweep-opening .last .0) (z .if3 .taken) (l .get3 .ensures .0) (q .sweep-opening .ensures .1 g s old t),
+          (k .kind .result) (m .state .result) (k .kind .ensures .0) (m .before .before .if1 .left) (m .state .ensures .0) (z .before .if2 .left)
+          (l .first-label .result) (q .sweep-opening .result) (q .sweep-opening .last .0) (z .if3 .taken) (l .first-label .ensures .0) (q .sweep-opening .ensures .1 g s old t),
     )
 
 open-one-requires : tie.Need-open-one-requires
@@ -82,7 +67,7 @@ returns-4 c = let q = c .before in
     let a = b .args in (
       omega arith,
       λ g s old t f. by-one (a .rows) (a .columns) g s old (a .work .now) (a .index) (b .pre .1 .1) t f
-          (k .get .result) (m .get2 .result) (k .get .ensures .0) (m .before .before .if1 .left) (m .get2 .ensures .0) (z .before .if2 .left)
+          (k .kind .result) (m .state .result) (k .kind .ensures .0) (m .before .before .if1 .left) (m .state .ensures .0) (z .before .if2 .left)
           (q .open-one .last .0) (z .if3 .left) (q .open-one .ensures),
     )
 
@@ -90,18 +75,13 @@ pub uncover-spec : {M : Type 1} → statement M
 uncover-spec =
     tie.close
     (tie.spec
-    mul-get
-    add-get
-    get-requires
+    kind-requires
     same-length
     returns
-    mul-get-2
-    add-get-2
-    get-requires-2
+    state-requires
     same-length-2
     returns-2
-    mul-get-3
-    get-requires-3
+    first-label-requires
     sweep-opening-requires
     same-length-3
     returns-3

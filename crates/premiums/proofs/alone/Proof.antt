@@ -12,16 +12,16 @@ returns c =
     let a = c .before .args in
     sym (ap (λ (b : Bool). cond b 0 (9 + a .labels - a .kind)) (eq-eqb (a .kind) 0 (c .if1 .taken)))
 
-add-less : tie.Need-add-less
-add-less c = search needs
+add-take-away : tie.Need-add-take-away
+add-take-away c = search needs
 
-less-requires : tie.Need-less-requires
-less-requires c κs = search needs
+take-away-requires : tie.Need-take-away-requires
+take-away-requires c κs = search needs
 
 returns-2 : tie.Need-returns-2
 returns-2 c =
     let a = c .before .before .args in
-    c .less .ensures ∙ sym (ap (λ (b : Bool). cond b 0 (9 + a .labels - a .kind)) (ne-eqb (a .kind) 0 (λ e. c .before .if1 .left e)))
+    c .take-away .ensures ∙ sym (ap (λ (b : Bool). cond b 0 (9 + a .labels - a .kind)) (ne-eqb (a .kind) 0 (λ e. c .before .if1 .left e)))
 
 pub alone-spec : {M : Type 1} → statement M
-alone-spec = tie.close (tie.spec returns add-less less-requires returns-2)
+alone-spec = tie.close (tie.spec returns add-take-away take-away-requires returns-2)

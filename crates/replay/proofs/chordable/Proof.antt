@@ -4,37 +4,25 @@ use borrow.Author.Needs.{needs}
 use Rattle.replay.proofs.chordable.Statement.{statement}
 use Rattle.replay.proofs.chordable.Tie as tie
 
-mul-get : tie.Need-mul-get
-mul-get c = search needs
-
-add-get : tie.Need-add-get
-add-get c = search needs
-
-get-requires : tie.Need-get-requires
-get-requires c κs = search needs
+state-requires : tie.Need-state-requires
+state-requires c κs = search needs
 
 returns : tie.Need-returns
 returns c = let m = c .before in
     let b = m .before in
     let a = b .args in
-    λ g s old t. not-opened (a .rows) (a .columns) g s old (a .work .now) (a .index) (b .pre .1 .1) t (m .get .result) (m .get .ensures .0) (c .if1 .taken)
+    λ g s old t. not-opened (a .rows) (a .columns) g s old (a .work .now) (a .index) (b .pre .1 .1) t (m .state .result) (m .state .ensures .0) (c .if1 .taken)
 
-mul-get-2 : tie.Need-mul-get-2
-mul-get-2 c = search needs
-
-add-get-2 : tie.Need-add-get-2
-add-get-2 c = search needs
-
-get-requires-2 : tie.Need-get-requires-2
-get-requires-2 c κs = search needs
+kind-requires : tie.Need-kind-requires
+kind-requires c κs = search needs
 
 returns-2 : tie.Need-returns-2
 returns-2 c = let k = c .before in
     let m = k .before .before in
     let b = m .before in
     let a = b .args in
-    λ g s old t. zero-opened (a .rows) (a .columns) g s old (a .work .now) (a .index) (b .pre .1 .1) t (m .get .result) (m .get .ensures .0) (k .before .if1 .left)
-    (k .get2 .result) (k .get2 .ensures .0) (c .if2 .taken)
+    λ g s old t. zero-opened (a .rows) (a .columns) g s old (a .work .now) (a .index) (b .pre .1 .1) t (m .state .result) (m .state .ensures .0) (k .before .if1 .left)
+    (k .kind .result) (k .kind .ensures .0) (c .if2 .taken)
 
 unflagged-square-requires : tie.Need-unflagged-square-requires
 unflagged-square-requires c κs = search needs
@@ -44,20 +32,16 @@ returns-3 c = let k = c .before .before in
     let m = k .before .before in
     let b = m .before in
     let a = b .args in
-    λ g s old t. mines-decide (a .rows) (a .columns) g s old (a .work .now) (a .index) (b .pre .1 .1) t (m .get .result) (m .get .ensures .0) (k .before .if1 .left)
-    (k .get2 .result) (c .unflagged-square .result) (k .get2 .ensures .0) (c .before .if2 .left) (c .unflagged-square .ensures)
+    λ g s old t. mines-decide (a .rows) (a .columns) g s old (a .work .now) (a .index) (b .pre .1 .1) t (m .state .result) (m .state .ensures .0) (k .before .if1 .left)
+    (k .kind .result) (c .unflagged-square .result) (k .kind .ensures .0) (c .before .if2 .left) (c .unflagged-square .ensures)
 
 pub chordable-spec : {M : Type 1} → statement M
 chordable-spec =
     tie.close
     (tie.spec
-    mul-get
-    add-get
-    get-requires
+    state-requires
     returns
-    mul-get-2
-    add-get-2
-    get-requires-2
+    kind-requires
     returns-2
     unflagged-square-requires
     returns-3)

@@ -4,14 +4,8 @@ use borrow.Author.Needs.{needs}
 use Rattle.replay.proofs.make_flag.Statement.{statement}
 use Rattle.replay.proofs.make_flag.Tie as tie
 
-mul-get : tie.Need-mul-get
-mul-get c = search needs
-
-add-get : tie.Need-add-get
-add-get c = search needs
-
-get-requires : tie.Need-get-requires
-get-requires c κs = search needs
+kind-requires : tie.Need-kind-requires
+kind-requires c κs = search needs
 
 same-length : tie.Need-same-length
 same-length c = search needs
@@ -20,16 +14,10 @@ returns : tie.Need-returns
 returns c = let k = c .before in
     let b = k .before .before in
     let a = b .args in
-    λ g s old t. flag-safe (a .rows) (a .columns) g s old (a .work .now) (a .index) (b .pre .1 .1) t (k .get .result) (k .get .ensures .0) (c .if1 .taken)
+    λ g s old t. flag-safe (a .rows) (a .columns) g s old (a .work .now) (a .index) (b .pre .1 .1) t (k .kind .result) (k .kind .ensures .0) (c .if1 .taken)
 
-mul-get-2 : tie.Need-mul-get-2
-mul-get-2 c = search needs
-
-add-get-2 : tie.Need-add-get-2
-add-get-2 c = search needs
-
-get-requires-2 : tie.Need-get-requires-2
-get-requires-2 c κs = search needs
+state-requires : tie.Need-state-requires
+state-requires c κs = search needs
 
 same-length-2 : tie.Need-same-length-2
 same-length-2 c = search needs
@@ -38,7 +26,7 @@ returns-2 : tie.Need-returns-2
 returns-2 c = let m = c .before in
     let b = m .before .before .before .before .before in
     let a = b .args in
-    λ g s old t. flag-state (a .rows) (a .columns) g s old (a .work .now) (a .index) (b .pre .1 .1) t (m .get2 .result) (m .get2 .ensures .0) (c .if2 .taken)
+    λ g s old t. flag-state (a .rows) (a .columns) g s old (a .work .now) (a .index) (b .pre .1 .1) t (m .state .result) (m .state .ensures .0) (c .if2 .taken)
 
 flag-requires : tie.Need-flag-requires
 flag-requires c κs = search needs
@@ -54,21 +42,17 @@ returns-3 c = let q = c .before in
     let b = k .before .before in
     let a = b .args in
     λ g s old t. flag-played (a .rows) (a .columns) g s old (a .work .now) (a .index) (b .pre .1 .1) t
-    (k .get .result) (m .get2 .result) (q .flag .last .0) (k .get .ensures .0) (m .before .before .if1 .left) (m .get2 .ensures .0) (z .if2 .left)
+    (k .kind .result) (m .state .result) (q .flag .last .0) (k .kind .ensures .0) (m .before .before .if1 .left) (m .state .ensures .0) (z .if2 .left)
     (q .flag .ensures g s old t)
 
 pub make-flag-spec : {M : Type 1} → statement M
 make-flag-spec =
     tie.close
     (tie.spec
-    mul-get
-    add-get
-    get-requires
+    kind-requires
     same-length
     returns
-    mul-get-2
-    add-get-2
-    get-requires-2
+    state-requires
     same-length-2
     returns-2
     flag-requires

@@ -44,8 +44,8 @@ returns c = let k = c .before .before .before in
     stops (a .rows) (a .columns) (a .work .now) (a .list .now) (a .count) (a .safe) (l .loop .place) (l .loop .closed) (l .loop .work) (l .loop .inv .2)
     (b .pre .1 .1) (omega arith) (k .make .result) (k .make .last .0) (k .make .ensures) (c .enum-told .given .1)
 
-less-requires : tie.Need-less-requires Inv-loop μ-loop
-less-requires c κs = search needs
+take-away-requires : tie.Need-take-away-requires Inv-loop μ-loop
+take-away-requires c κs = search needs
 
 add-place : tie.Need-add-place Inv-loop μ-loop
 add-place c = omega arith
@@ -62,7 +62,7 @@ loop-again c = let d = c .before .before in
       omega arith,
       search needs,
       goes-on (a .rows) (a .columns) (a .work .now) (a .list .now) (a .count) (a .safe) (l .loop .place) (l .loop .closed) (l .loop .work) (l .loop .inv .2)
-          (b .pre .1 .1) (omega arith) (k .make .result) (k .make .last .0) (k .make .ensures) (c .before .before .made .given .0 .0) (c .less .result) (c .before .before .made .given .1) (c .less .ensures),
+          (b .pre .1 .1) (omega arith) (k .make .result) (k .make .last .0) (k .make .ensures) (c .before .before .made .given .0 .0) (c .take-away .result) (c .before .before .made .given .1) (c .take-away .ensures),
     )
 
 same-length-2 : tie.Need-same-length-2 Inv-loop μ-loop
@@ -88,7 +88,7 @@ run-spec =
     enum-told
     same-length
     returns
-    less-requires
+    take-away-requires
     add-place
     loop-less
     loop-again

@@ -2,15 +2,17 @@
 use Prim.Native.Nat.{_≤_, _<_, _+_, _*_, _-_}
 use native.Mathlib.Omega.{arith}
 use mathlib.Core.Path.{_≡_}
+use Rattle.area.specs.Squares.{rowCells}
 use Rattle.game.specs.Lists.{count}
-use Rattle.play.specs.Walks.{bareAt, rowCells}
-use Rattle.play.proofs.Rows.{count-row, inside, row-none}
+use Rattle.play.specs.Walks.{unflaggedAt}
+use Rattle.area.proofs.Cells.{cell-below}
+use Rattle.area.proofs.Rows.{count-row, row-none}
 use Rattle.play.proofs.Steps.{bit-small}
 use Rattle.replay.proofs.unflagged_row.Statement.{statement}
 use Rattle.replay.proofs.unflagged_row.Tie as tie
 
 abbrev Inv-loop : tie.InvT-loop
-Inv-loop work rows columns row from to mines₀ column₀ mines column = (from ≤ column) × (column ≤ to) × (mines ≤ column - from) × (mines ≡ count (bareAt work) (rowCells rows row from column))
+Inv-loop work rows columns row from to mines₀ column₀ mines column = (from ≤ column) × (column ≤ to) × (mines ≤ column - from) × (mines ≡ count (unflaggedAt work) (rowCells rows row from column))
 
 abbrev μ-loop : tie.MeasureT-loop
 μ-loop work rows columns row from to mines₀ column₀ mines column = to - column
@@ -24,14 +26,14 @@ cell : (c : tie.In-loop Inv-loop μ-loop)
     → c .before .loop .column * c .before .before .args .rows + c .before .before .args .row < c .before .before .args .rows * c .before .before .args .columns
 cell c =
     let a = c .before .before .args in
-    inside (a .rows) (a .columns) (a .row) (c .before .loop .column) (omega arith) (omega arith)
+    cell-below (a .rows) (a .columns) (a .row) (c .before .loop .column) (omega arith) (omega arith)
 
 -- it counts at most 1
 one : (c : tie.After-unflagged Inv-loop μ-loop) → c .unflagged .result ≤ 1
 one c =
     let l = c .before .before in
     let a = l .before .args in
-    rw (c .unflagged .ensures) (bit-small (bareAt (a .work .now) (l .loop .column * a .rows + a .row)))
+    rw (c .unflagged .ensures) (bit-small (unflaggedAt (a .work .now) (l .loop .column * a .rows + a .row)))
 
 mul-unflagged : tie.Need-mul-unflagged Inv-loop μ-loop
 mul-unflagged c = omega (arith, cell c)
@@ -57,7 +59,7 @@ loop-again c = let l = c .before .before in
       omega arith,
       omega arith,
       omega (arith, one c),
-      count-row (bareAt (a .work .now)) (a .rows) (a .row) (a .from) (l .loop .column) (l .loop .mines) (c .unflagged .result) (l .loop .inv .0) (l .loop .inv .3) (c .unflagged .ensures),
+      count-row (unflaggedAt (a .work .now)) (a .rows) (a .row) (a .from) (l .loop .column) (l .loop .mines) (c .unflagged .result) (l .loop .inv .0) (l .loop .inv .3) (c .unflagged .ensures),
     )
 
 returns : tie.Need-returns Inv-loop μ-loop

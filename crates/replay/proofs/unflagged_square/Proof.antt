@@ -2,14 +2,15 @@
 use Prim.Native.Nat.{_≤_, _*_, _-_}
 use native.Mathlib.Omega.{arith}
 use mathlib.Core.Path.{_≡_}
+use Rattle.area.specs.Squares.{blockCells}
 use Rattle.game.specs.Lists.{count}
-use Rattle.play.specs.Walks.{bareAt, blockCells}
-use Rattle.play.proofs.Rows.{block-none, count-block}
+use Rattle.play.specs.Walks.{unflaggedAt}
+use Rattle.area.proofs.Rows.{block-none, count-block}
 use Rattle.replay.proofs.unflagged_square.Statement.{statement}
 use Rattle.replay.proofs.unflagged_square.Tie as tie
 
 abbrev Inv-loop : tie.InvT-loop
-Inv-loop work rows columns index first last from to mines₀ row₀ mines row = (first ≤ row) × (row ≤ last) × (mines ≤ 255 * (row - first)) × (mines ≡ count (bareAt work) (blockCells rows first row from to))
+Inv-loop work rows columns index first last from to mines₀ row₀ mines row = (first ≤ row) × (row ≤ last) × (mines ≤ 255 * (row - first)) × (mines ≡ count (unflaggedAt work) (blockCells rows first row from to))
 
 abbrev μ-loop : tie.MeasureT-loop
 μ-loop work rows columns index first last from to mines₀ row₀ mines row = last - row
@@ -40,7 +41,7 @@ loop-again c = let l = c .before .before in
       omega arith,
       omega arith,
       omega arith,
-      count-block (bareAt (a .work .now)) (a .rows) (q .first) (l .loop .row) (q .from) (q .to) (l .loop .mines) (c .unflagged-row .result)
+      count-block (unflaggedAt (a .work .now)) (a .rows) (q .first) (l .loop .row) (q .from) (q .to) (l .loop .mines) (c .unflagged-row .result)
           (l .loop .inv .0) (l .loop .inv .3) (c .unflagged-row .ensures .1),
     )
 

@@ -7,7 +7,7 @@ use mathlib.Core.List.{List}
 use borrow.Author.Tests.{lt-ltb}
 use lib.Dec.{T, eqb}
 use lib.IntN.{ℤ}
-use Rattle.area.specs.Numbers.{numberAt}
+use Rattle.area.specs.Numbers.{premiumAt}
 use Rattle.game.specs.Lists.{count, range}
 use Rattle.game.proofs.Counts.{count-ext}
 use Rattle.choices.specs.Tests.{unitAt}
@@ -26,7 +26,7 @@ same-length c = search needs
 -- for one L the candidates are the closed units
 for-click : (w : List ℤ) (top : ℕ) (xs : List ℕ) → top < 10 → count (unitAt w) xs ≡ count (candidateAt top w) xs
 for-click w top xs h =
-    count-ext (unitAt w) (candidateAt top w) xs (λ i _. sym (ap (λ (b : Bool). cond b (unitAt w i) (eqb (numberAt w (5 * i + 2)) top)) (lt-ltb top 10 h)))
+    count-ext (unitAt w) (candidateAt top w) xs (λ i _. sym (ap (λ (b : Bool). cond b (unitAt w i) (eqb (premiumAt w i) top)) (lt-ltb top 10 h)))
 
 returns : tie.Need-returns
 returns c =

@@ -13,8 +13,8 @@ use Rattle.ties.proofs.Telling.{top-tells}
 use Rattle.ties.proofs.top.Statement.{statement}
 use Rattle.ties.proofs.top.Tie as tie
 
-forget-units-requires : tie.Need-forget-units-requires
-forget-units-requires c κs = let b = c .before .before .before .before in (b .pre .1 .1 .room, b .pre .1 .2 .room)
+mark-units-requires : tie.Need-mark-units-requires
+mark-units-requires c κs = let b = c .before .before .before .before in (b .pre .1 .1 .room, b .pre .1 .2 .room)
 
 first-column-requires : tie.Need-first-column-requires
 first-column-requires c κs = search needs
@@ -28,7 +28,7 @@ same-length-2 c = search needs
 returns : tie.Need-returns
 returns c =
     let f = c .before .before in
-    let u = f .before .before .before .before .forget-units .ensures in
+    let u = f .before .before .before .before .mark-units .ensures in
     let b = f .before .before .before .before .before .before .before .before .before in
     let a = b .args in (
       f .first-column .ensures .1,
@@ -41,4 +41,4 @@ returns c =
     )
 
 pub top-spec : {M : Type 1} → statement M
-top-spec = tie.close (tie.spec forget-units-requires first-column-requires same-length same-length-2 returns)
+top-spec = tie.close (tie.spec mark-units-requires first-column-requires same-length same-length-2 returns)

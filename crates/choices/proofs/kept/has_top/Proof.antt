@@ -1,5 +1,5 @@
 -- `choices::kept::has_top`: another premium is none; else whether it is looked at decides. Assumes nothing.
-use Prim.Native.Nat.{ℕ, _*_, _+_}
+use Prim.Native.Nat.{ℕ}
 use borrow.Author.Needs.{needs}
 use borrow.Author.Tests.{eq-eqb, ne-eqb}
 use mathlib.Core.Path.{_∙_, _≡_, ap, sym}
@@ -7,34 +7,28 @@ use mathlib.Core.Bool.{Bool, _&&_, false}
 use mathlib.Core.List.{List}
 use lib.IntN.{ℤ}
 use Rattle.game.proofs.Truth.{and-false, and-true}
-use Rattle.area.specs.Numbers.{numberAt}
+use Rattle.area.specs.Numbers.{premiumAt}
 use Rattle.choices.specs.Tests.{lookedAt, topAt}
 use Rattle.choices.proofs.kept.has_top.Statement.{statement}
 use Rattle.choices.proofs.kept.has_top.Tie as tie
 
-module _ (openedOnly : Bool) (top : ℕ) (w : List ℤ) (i p : ℕ) (e : p ≡ numberAt w (5 * i + 2)) where
+module _ (openedOnly : Bool) (top : ℕ) (w : List ℤ) (i p : ℕ) (e : p ≡ premiumAt w i) where
   other : (p ≡ top → ⊥) → false ≡ topAt openedOnly top w i
   other h =
-      and-false (lookedAt openedOnly w i) ∙ sym (ap (λ (b : Bool). lookedAt openedOnly w i && b) (ne-eqb (numberAt w (5 * i + 2)) top (λ q. h (e ∙ q))))
+      and-false (lookedAt openedOnly w i) ∙ sym (ap (λ (b : Bool). lookedAt openedOnly w i && b) (ne-eqb (premiumAt w i) top (λ q. h (e ∙ q))))
 
   same : p ≡ top → lookedAt openedOnly w i ≡ topAt openedOnly top w i
   same q =
-      and-true (lookedAt openedOnly w i) ∙ sym (ap (λ (b : Bool). lookedAt openedOnly w i && b) (eq-eqb (numberAt w (5 * i + 2)) top (sym e ∙ q)))
+      and-true (lookedAt openedOnly w i) ∙ sym (ap (λ (b : Bool). lookedAt openedOnly w i && b) (eq-eqb (premiumAt w i) top (sym e ∙ q)))
 
-mul-get : tie.Need-mul-get
-mul-get c = search needs
-
-add-get : tie.Need-add-get
-add-get c = search needs
-
-get-requires : tie.Need-get-requires
-get-requires c κs = search needs
+premium-requires : tie.Need-premium-requires
+premium-requires c κs = search needs
 
 returns : tie.Need-returns
 returns c =
     let k = c .before in
     let a = k .before .args in
-    other (a .opened-only) (a .top) (a .work .now) (a .index) (k .get .result) (k .get .ensures .0) (c .if1 .taken)
+    other (a .opened-only) (a .top) (a .work .now) (a .index) (k .premium .result) (k .premium .ensures .0) (c .if1 .taken)
 
 looked-requires : tie.Need-looked-requires
 looked-requires c κs = search needs
@@ -44,7 +38,7 @@ returns-2 c =
     let x = c .before in
     let k = x .before in
     let a = k .before .args in
-    c .looked .ensures ∙ same (a .opened-only) (a .top) (a .work .now) (a .index) (k .get .result) (k .get .ensures .0) (x .if1 .left)
+    c .looked .ensures ∙ same (a .opened-only) (a .top) (a .work .now) (a .index) (k .premium .result) (k .premium .ensures .0) (x .if1 .left)
 
 pub has-top-spec : {M : Type 1} → statement M
-has-top-spec = tie.close (tie.spec mul-get add-get get-requires returns looked-requires returns-2)
+has-top-spec = tie.close (tie.spec premium-requires returns looked-requires returns-2)

@@ -5,14 +5,8 @@ use borrow.Author.Needs.{needs}
 use Rattle.moves.proofs.opening_clicks.hit.Statement.{statement}
 use Rattle.moves.proofs.opening_clicks.hit.Tie as tie
 
-mul-get : tie.Need-mul-get
-mul-get c = search needs
-
-add-get : tie.Need-add-get
-add-get c = search needs
-
-get-requires : tie.Need-get-requires
-get-requires c κs = search needs
+kind-requires : tie.Need-kind-requires
+kind-requires c κs = search needs
 
 same-length : tie.Need-same-length
 same-length c = search needs
@@ -22,7 +16,7 @@ returns c =
     let k = c .before in
     let b = k .before .before .before in
     let a = b .args in
-    (omega arith, hit-none (a .rows) (a .columns) (a .work .now) (a .list .now) (a .state) (a .index) (b .pre .1 .1) (k .get .result) (k .get .ensures .0) (c .if1 .taken))
+    (omega arith, hit-none (a .rows) (a .columns) (a .work .now) (a .list .now) (a .state) (a .index) (b .pre .1 .1) (k .kind .result) (k .kind .ensures .0) (c .if1 .taken))
 
 click-closed-requires : tie.Need-click-closed-requires
 click-closed-requires c κs = search needs
@@ -42,7 +36,7 @@ returns-2 c =
     let a = b .args in
     let y = x .click-closed in (
       omega arith,
-      hit-zero (a .rows) (a .columns) (a .work .now) (a .list .now) (a .state) (a .index) (b .pre .1 .1) (k .get .result) (k .get .ensures .0)
+      hit-zero (a .rows) (a .columns) (a .work .now) (a .list .now) (a .state) (a .index) (b .pre .1 .1) (k .kind .result) (k .kind .ensures .0)
           (y .last .0) (y .last .1 .1 .1 .0) (y .result) (z .if1 .left) (y .ensures .1),
     )
 
@@ -50,9 +44,7 @@ pub hit-spec : {M : Type 1} → statement M
 hit-spec =
     tie.close
     (tie.spec
-    mul-get
-    add-get
-    get-requires
+    kind-requires
     same-length
     returns
     click-closed-requires

@@ -5,14 +5,8 @@ use borrow.Author.Needs.{needs}
 use Rattle.moves.proofs.single.click_closed.Statement.{statement}
 use Rattle.moves.proofs.single.click_closed.Tie as tie
 
-mul-get : tie.Need-mul-get
-mul-get c = search needs
-
-add-get : tie.Need-add-get
-add-get c = search needs
-
-get-requires : tie.Need-get-requires
-get-requires c κs = search needs
+state-requires : tie.Need-state-requires
+state-requires c κs = search needs
 
 same-length : tie.Need-same-length
 same-length c = search needs
@@ -23,7 +17,7 @@ returns c =
     let b = k .before .before .before in
     let a = b .args in (
       omega arith,
-      λ g s old st f t e. left-none (a .rows) (a .columns) g s old (a .work .now) (a .index) (b .pre .1 .1) st (k .get .result) (a .list .now) (a .state) (k .get .ensures .0) (c .if1 .taken) f e,
+      λ g s old st f t e. left-none (a .rows) (a .columns) g s old (a .work .now) (a .index) (b .pre .1 .1) st (k .state .result) (a .list .now) (a .state) (k .state .ensures .0) (c .if1 .taken) f e,
     )
 
 click-requires : tie.Need-click-requires
@@ -43,17 +37,15 @@ returns-2 c =
     let b = k .before .before .before in
     let a = b .args in (
       omega arith,
-      λ g s old st f t e. left-one (a .rows) (a .columns) g s old (a .work .now) (a .index) (b .pre .1 .1) st (k .get .result) (a .list .now) (a .state)
-          (m .click .last .0) (m .click .last .1 .1 .1 .0) (m .click .result) (k .get .ensures .0) (z .if1 .left) (λ u. m .click .ensures .1 g s old st f t u e),
+      λ g s old st f t e. left-one (a .rows) (a .columns) g s old (a .work .now) (a .index) (b .pre .1 .1) st (k .state .result) (a .list .now) (a .state)
+          (m .click .last .0) (m .click .last .1 .1 .1 .0) (m .click .result) (k .state .ensures .0) (z .if1 .left) (λ u. m .click .ensures .1 g s old st f t u e),
     )
 
 pub click-closed-spec : {M : Type 1} → statement M
 click-closed-spec =
     tie.close
     (tie.spec
-    mul-get
-    add-get
-    get-requires
+    state-requires
     same-length
     returns
     click-requires

@@ -6,14 +6,8 @@ use borrow.Author.Needs.{needs}
 use Rattle.moves.proofs.single.flag_mine.Statement.{statement}
 use Rattle.moves.proofs.single.flag_mine.Tie as tie
 
-mul-get : tie.Need-mul-get
-mul-get c = search needs
-
-add-get : tie.Need-add-get
-add-get c = search needs
-
-get-requires : tie.Need-get-requires
-get-requires c κs = search needs
+kind-requires : tie.Need-kind-requires
+kind-requires c κs = search needs
 
 same-length : tie.Need-same-length
 same-length c = search needs
@@ -23,16 +17,10 @@ returns c =
     let k = c .before in
     let b = k .before .before .before in
     let a = b .args in
-    (omega arith, flag-safe (a .rows) (a .columns) (a .work .now) (a .list .now) (a .state) (a .index) (b .pre .1 .1) (k .get .result) (k .get .ensures .0) (c .if1 .taken))
+    (omega arith, flag-safe (a .rows) (a .columns) (a .work .now) (a .list .now) (a .state) (a .index) (b .pre .1 .1) (k .kind .result) (k .kind .ensures .0) (c .if1 .taken))
 
-mul-get-2 : tie.Need-mul-get-2
-mul-get-2 c = search needs
-
-add-get-2 : tie.Need-add-get-2
-add-get-2 c = search needs
-
-get-requires-2 : tie.Need-get-requires-2
-get-requires-2 c κs = search needs
+state-requires : tie.Need-state-requires
+state-requires c κs = search needs
 
 same-length-2 : tie.Need-same-length-2
 same-length-2 c = search needs
@@ -42,7 +30,7 @@ returns-2 c =
     let m = c .before in
     let b = m .before .before .before .before .before .before in
     let a = b .args in
-    (omega arith, flag-there (a .rows) (a .columns) (a .work .now) (a .list .now) (a .state) (a .index) (b .pre .1 .1) (m .get2 .result) (m .get2 .ensures .0) (c .if2 .taken))
+    (omega arith, flag-there (a .rows) (a .columns) (a .work .now) (a .list .now) (a .state) (a .index) (b .pre .1 .1) (m .state .result) (m .state .ensures .0) (c .if2 .taken))
 
 flag-requires : tie.Need-flag-requires
 flag-requires c κs = search needs
@@ -68,22 +56,18 @@ returns-3 c =
     let b = k .before .before .before in
     let a = b .args in (
       omega (arith, n .carry-on .ensures .one-more),
-      flag-noted (a .rows) (a .columns) (a .work .now) (a .list .now) (a .state) (a .index) (b .pre .1 .1) (k .get .result) (m .get2 .result) (q .flag .last .0) (n .carry-on .last .0)
-          (n .carry-on .result) (k .get .ensures .0) (y .if1 .left) (m .get2 .ensures .0) (z .if2 .left) (q .flag .ensures) (n .carry-on .ensures),
+      flag-noted (a .rows) (a .columns) (a .work .now) (a .list .now) (a .state) (a .index) (b .pre .1 .1) (k .kind .result) (m .state .result) (q .flag .last .0) (n .carry-on .last .0)
+          (n .carry-on .result) (k .kind .ensures .0) (y .if1 .left) (m .state .ensures .0) (z .if2 .left) (q .flag .ensures) (n .carry-on .ensures),
     )
 
 pub flag-mine-spec : {M : Type 1} → statement M
 flag-mine-spec =
     tie.close
     (tie.spec
-    mul-get
-    add-get
-    get-requires
+    kind-requires
     same-length
     returns
-    mul-get-2
-    add-get-2
-    get-requires-2
+    state-requires
     same-length-2
     returns-2
     flag-requires

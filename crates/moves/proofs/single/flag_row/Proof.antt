@@ -5,9 +5,9 @@ use mathlib.Core.Path.{_≡_, refl}
 use mathlib.Core.List.{[], _∷_}
 use lib.ListN.{length}
 use borrow.Author.Needs.{needs}
+use Rattle.area.specs.Squares.{rowCells}
 use Rattle.area.proofs.Cells.{cell-below, cells-few}
-use Rattle.play.specs.Walks.{rowCells}
-use Rattle.play.proofs.Rows.{row-more, row-none}
+use Rattle.area.proofs.Rows.{row-more, row-none}
 use Rattle.moves.specs.Walks.{Over, flagsFrom}
 use Rattle.moves.proofs.Flags.{flags-append}
 use Rattle.moves.proofs.Joins.{over-both, over-none}

@@ -6,12 +6,13 @@ use native.Mathlib.Omega.{arith}
 use mathlib.Core.Path.{_≡_, _∙_, subst}
 use mathlib.Core.List.{List}
 use lib.IntN.{ℤ}
-use Rattle.openings.specs.Marks.{Ready, freeOf, kindOf, marked, shaped}
+use Rattle.area.specs.Numbers.{kindAt}
+use Rattle.openings.specs.Labels.{Ready, freeOf, putLabel, shaped}
 use Rattle.openings.specs.Spread.{Visited}
 use Rattle.area.proofs.Cells.{cells-few}
-use Rattle.openings.proofs.Edges.{fresh-no, fresh-yes, marked-kind}
+use Rattle.openings.proofs.Edges.{fresh-no, fresh-yes, labelled-kind}
 use Rattle.openings.proofs.Changes.{kind-stays}
-use Rattle.openings.proofs.Frees.{free-le, free-marked}
+use Rattle.openings.proofs.Frees.{free-le, free-labelled}
 use Rattle.openings.proofs.Visits.{border-free, opened-all, opened-not, ready-again, stepped, visited-more, visited-none}
 use borrow.Fn.Kinds.{In}
 use borrow.Fn.PlainCycle.{Measures, is, falls, and}
@@ -21,10 +22,10 @@ use Rattle.openings.proofs.cycle.+label_cell+visit.Lts-label_cell as la
 use Rattle.openings.proofs.cycle.visit.Reads as visit
 use Rattle.openings.proofs.cycle.visit.Kinds as visit-kinds
 use Rattle.openings.proofs.cycle.+label_cell+visit.Lts-visit as visit-lts
-use Rattle.openings.proofs.marks.border.Reads as border-reads
-use Rattle.openings.proofs.marks.fresh.Reads as fresh-reads
-use Rattle.openings.proofs.marks.mark.Reads as mark-reads
-use Rattle.area.proofs.near.Reads as near-reads
+use Rattle.openings.proofs.labels.border.Reads as border-reads
+use Rattle.openings.proofs.labels.fresh.Reads as fresh-reads
+use Rattle.openings.proofs.labels.put_label.Reads as put-label-reads
+use Rattle.area.proofs.squares.near.Reads as near-reads
 use Rattle.openings.proofs.cycle.+label_cell+visit.{statement}
 use Rattle.openings.proofs.cycle.+label_cell+visit.Tie.{close}
 
@@ -51,8 +52,8 @@ visit-below t = and 1 visit-kinds.ps (falls 1 visit-kinds.ps _<_ μ-visit t) vis
 label-cell-mul-fresh : (t : ℕ) → label-cell-lts.Need-mul-fresh (
   fresh-reads.Asked,
   fresh-reads.Learnt,
-  mark-reads.Asked,
-  mark-reads.Learnt,
+  put-label-reads.Asked,
+  put-label-reads.Learnt,
   visit-below t,
   visit.Post,
 ) (label-cell-at t) label-cell.Post
@@ -61,8 +62,8 @@ label-cell-mul-fresh t c = omega (arith, cells-few (c .before .args .rows) (c .b
 label-cell-fresh-requires : (t : ℕ) → label-cell-lts.Need-fresh-requires (
   fresh-reads.Asked,
   fresh-reads.Learnt,
-  mark-reads.Asked,
-  mark-reads.Learnt,
+  put-label-reads.Asked,
+  put-label-reads.Learnt,
   visit-below t,
   visit.Post,
 ) (label-cell-at t) label-cell.Post
@@ -71,8 +72,8 @@ label-cell-fresh-requires t c κs = c .before .pre .1 .0 .room
 label-cell-same-length : (t : ℕ) → label-cell-lts.Need-same-length (
   fresh-reads.Asked,
   fresh-reads.Learnt,
-  mark-reads.Asked,
-  mark-reads.Learnt,
+  put-label-reads.Asked,
+  put-label-reads.Learnt,
   visit-below t,
   visit.Post,
 ) (label-cell-at t) label-cell.Post
@@ -81,8 +82,8 @@ label-cell-same-length t c = search needs
 label-cell-returns : (t : ℕ) → label-cell-lts.Need-returns (
   fresh-reads.Asked,
   fresh-reads.Learnt,
-  mark-reads.Asked,
-  mark-reads.Learnt,
+  put-label-reads.Asked,
+  put-label-reads.Learnt,
   visit-below t,
   visit.Post,
 ) (label-cell-at t) label-cell.Post
@@ -92,15 +93,15 @@ label-cell-returns t c =
     opened-not (shaped (a .rows) (a .columns)) (a .op) (s .pre .1 .0 .some-label) (a .work .now) (a .index)
     (fresh-no (a .rows * a .columns) (a .work .now) (a .index) (c .before .fresh .result) (c .before .fresh .ensures) (c .if1 .taken))
 
-label-cell-mark-requires : (t : ℕ) → label-cell-lts.Need-mark-requires (
+label-cell-put-label-requires : (t : ℕ) → label-cell-lts.Need-put-label-requires (
   fresh-reads.Asked,
   fresh-reads.Learnt,
-  mark-reads.Asked,
-  mark-reads.Learnt,
+  put-label-reads.Asked,
+  put-label-reads.Learnt,
   visit-below t,
   visit.Post,
 ) (label-cell-at t) label-cell.Post
-label-cell-mark-requires t c κs =
+label-cell-put-label-requires t c κs =
     let s = c .before .before .before .before in
     let a = s .args in
     let f = fresh-yes (a .rows * a .columns) (a .work .now) (a .index) (c .before .before .fresh .result) (c .before .before .fresh .ensures) (c .before .if1 .left) in
@@ -109,8 +110,8 @@ label-cell-mark-requires t c κs =
 label-cell-visit-requires : (t : ℕ) → label-cell-lts.Need-visit-requires (
   fresh-reads.Asked,
   fresh-reads.Learnt,
-  mark-reads.Asked,
-  mark-reads.Learnt,
+  put-label-reads.Asked,
+  put-label-reads.Learnt,
   visit-below t,
   visit.Post,
 ) (label-cell-at t) label-cell.Post
@@ -118,29 +119,29 @@ label-cell-visit-requires t c κs =
     let s = c .before .before .before .before .before .before .before in
     let a = s .args in
     let w = a .work .now in
-    let m = c .before .before .mark in
+    let m = c .before .before .put-label in
     let w1 = m .last .0 in
     let n = a .rows * a .columns in
     let f = fresh-yes n w (a .index) (c .before .before .before .before .before .fresh .result) (c .before .before .before .before .before .fresh .ensures) (c .before .before .before .before .if1 .left) in
-    let e : w1 ≡ marked w (a .index) (a .op) = m .ensures in
-    let less : freeOf n w1 + 1 ≡ freeOf n w = rw e (free-marked n (a .op) (s .pre .1 .0 .some-label) w (a .index) (s .pre .1 .0 .room) f) in
-    (omega (arith, less, s .pre .0), (ready-again w w1 (s .pre .1 .0) (m .kept .0), (f .inside, (rw e (marked-kind w (a .index) (a .op) ∙ f .zero-cell), s .pre .1 .1))))
+    let e : w1 ≡ putLabel w (a .index) (a .op) = m .ensures in
+    let less : freeOf n w1 + 1 ≡ freeOf n w = rw e (free-labelled n (a .op) (s .pre .1 .0 .some-label) w (a .index) (s .pre .1 .0 .room) f) in
+    (omega (arith, less, s .pre .0), (ready-again w w1 (s .pre .1 .0) (m .kept .0), (f .inside, (rw e (labelled-kind w (a .index) (a .op) ∙ f .zero-cell), s .pre .1 .1))))
 
 label-cell-same-length-2 : (t : ℕ) → label-cell-lts.Need-same-length-2 (
   fresh-reads.Asked,
   fresh-reads.Learnt,
-  mark-reads.Asked,
-  mark-reads.Learnt,
+  put-label-reads.Asked,
+  put-label-reads.Learnt,
   visit-below t,
   visit.Post,
 ) (label-cell-at t) label-cell.Post
-label-cell-same-length-2 t c = c .before .visit .kept .0 ∙ c .before .before .before .before .mark .kept .0
+label-cell-same-length-2 t c = c .before .visit .kept .0 ∙ c .before .before .before .before .put-label .kept .0
 
 label-cell-returns-2 : (t : ℕ) → label-cell-lts.Need-returns-2 (
   fresh-reads.Asked,
   fresh-reads.Learnt,
-  mark-reads.Asked,
-  mark-reads.Learnt,
+  put-label-reads.Asked,
+  put-label-reads.Learnt,
   visit-below t,
   visit.Post,
 ) (label-cell-at t) label-cell.Post
@@ -149,22 +150,22 @@ label-cell-returns-2 t c =
     let a = s .args in
     let w = a .work .now in
     let f = fresh-yes (a .rows * a .columns) w (a .index) (c .before .before .before .before .before .before .before .fresh .result) (c .before .before .before .before .before .before .before .fresh .ensures) (c .before .before .before .before .before .before .if1 .left) in
-    opened-all (shaped (a .rows) (a .columns)) (a .op) (s .pre .1 .0 .some-label) w (c .before .before .before .before .mark .last .0) (c .before .visit .last .0) (a .index) (s .pre .1 .0 .room) f
-    (c .before .before .before .before .mark .ensures) (c .before .visit .ensures)
+    opened-all (shaped (a .rows) (a .columns)) (a .op) (s .pre .1 .0 .some-label) w (c .before .before .before .before .put-label .last .0) (c .before .visit .last .0) (a .index) (s .pre .1 .0 .room) f
+    (c .before .before .before .before .put-label .ensures) (c .before .visit .ensures)
 
 abbrev visit-Inv-loop : visit-lts.InvT-loop
 visit-Inv-loop work₀ rows columns op index k₀ work k =
-    (k ≤ 9) × Visited (shaped rows columns) (kindOf work₀) op index k work₀ work
+    (k ≤ 9) × Visited (shaped rows columns) (kindAt work₀) op index k work₀ work
 
 abbrev visit-μ-loop : visit-lts.MeasureT-loop
 visit-μ-loop work₀ rows columns op index k₀ work k = 9 - k
 
 -- neighbours that were visited leave what the next one asks
-still-ready : {rows columns op i k : ℕ} (w w1 : List ℤ) → Ready rows columns op w → Visited (shaped rows columns) (kindOf w) op i k w w1 → Ready rows columns op w1
+still-ready : {rows columns op i k : ℕ} (w w1 : List ℤ) → Ready rows columns op w → Visited (shaped rows columns) (kindAt w) op i k w w1 → Ready rows columns op w1
 still-ready w w1 r v = ready-again w w1 r (v .change .long)
 
-still-zero : {rows columns op i k : ℕ} (w w1 : List ℤ) → Ready rows columns op w → Visited (shaped rows columns) (kindOf w) op i k w w1 → kindOf w i ≡ 1 → kindOf w1 i ≡ 1
-still-zero {rows = rows} {columns = columns} {op = op} {i = i} w w1 r v e = kind-stays (shaped rows columns) (kindOf w) op (r .some-label) i w w1 (v .change) i ∙ e
+still-zero : {rows columns op i k : ℕ} (w w1 : List ℤ) → Ready rows columns op w → Visited (shaped rows columns) (kindAt w) op i k w w1 → kindAt w i ≡ 1 → kindAt w1 i ≡ 1
+still-zero {rows = rows} {columns = columns} {op = op} {i = i} w w1 r v e = kind-stays (shaped rows columns) (kindAt w) op (r .some-label) i w w1 (v .change) i ∙ e
 
 visit-loop-holds : (t : ℕ) → visit-lts.Need-loop-holds (
   near-reads.Asked,
@@ -231,7 +232,7 @@ visit-label-cell-requires t c κs =
     let r = still-ready (a .work .now) (l .work) (s .pre .1 .0) (l .inv .1) in
     let less = border-free g (a .op) (s .pre .1 .0 .some-label) (l .work) (b .last .0) (a .index) (l .k) (c .before .before .before .before .near .result) (s .pre .1 .1 .0)
     (still-zero (a .work .now) (l .work) (s .pre .1 .0) (l .inv .1) (s .pre .1 .1 .1 .0)) (omega (arith, c .before .before .before .before .before .loop-test .taken)) (r .room) (c .before .before .before .before .near .ensures) (b .ensures) in
-    let fewer = free-le g (kindOf (a .work .now)) (a .op) (s .pre .1 .0 .some-label) (a .index) (a .work .now) (l .work) (l .inv .1 .change) in
+    let fewer = free-le g (kindAt (a .work .now)) (a .op) (s .pre .1 .0 .some-label) (a .index) (a .work .now) (l .work) (l .inv .1 .change) in
     (omega (arith, less, fewer, s .pre .0), (ready-again (l .work) (b .last .0) r (b .kept .0), s .pre .1 .1 .1 .1))
 
 visit-add-k : (t : ℕ) → visit-lts.Need-add-k (
@@ -298,14 +299,14 @@ visit-returns t c =
     let l = c .before .loop in
     let a = s .args in
     let e : l .k ≡ 9 = omega (arith, l .inv .0, c .loop-test .left) in
-    subst (λ (n : ℕ). Visited (shaped (a .rows) (a .columns)) (kindOf (a .work .now)) (a .op) (a .index) n (a .work .now) (l .work)) e (l .inv .1)
+    subst (λ (n : ℕ). Visited (shaped (a .rows) (a .columns)) (kindAt (a .work .now)) (a .op) (a .index) n (a .work .now) (l .work)) e (l .inv .1)
 
 pub +label-cell+visit-spec : {M : Type 1} → statement M
 +label-cell+visit-spec = close μ-label-cell μ-visit (λ t. label-cell-lts.spec (
   fresh-reads.Asked,
   fresh-reads.Learnt,
-  mark-reads.Asked,
-  mark-reads.Learnt,
+  put-label-reads.Asked,
+  put-label-reads.Learnt,
   visit-below t,
   visit.Post,
 )
@@ -315,7 +316,7 @@ pub +label-cell+visit-spec : {M : Type 1} → statement M
     (label-cell-fresh-requires t)
     (label-cell-same-length t)
     (label-cell-returns t)
-    (label-cell-mark-requires t)
+    (label-cell-put-label-requires t)
     (label-cell-visit-requires t)
     (label-cell-same-length-2 t)
     (label-cell-returns-2 t))

@@ -1,4 +1,5 @@
 -- `waiting::spread`: each newly labelled 0-cell waits or has its square visited, until none waits. Twice the 0-cells without label, plus the cells that wait, fall. Assumes nothing.
+use Rattle.area.specs.Numbers.{HasCells, kindAt}
 use Rattle.openings.proofs.waiting.spread.Statement.{statement}
 use Rattle.openings.proofs.waiting.spread.Tie as tie
 use Prim.Native.Nat.{ℕ, _*_, _+_, _-_, _<_, _≤_}
@@ -6,8 +7,7 @@ use native.Mathlib.Omega.{arith}
 use mathlib.Core.Path.{_∙_, _≡_, subst}
 use mathlib.Core.List.{List}
 use lib.IntN.{ℤ}
-use lib.ListN.{length}
-use Rattle.openings.specs.Marks.{freeOf, kindOf, shaped}
+use Rattle.openings.specs.Labels.{freeOf, shaped}
 use Rattle.openings.specs.Waits.{InSquare, Pushed, Waited}
 use Rattle.area.proofs.Cells.{cells-few}
 use Rattle.openings.proofs.Frees.{free-few}
@@ -16,21 +16,21 @@ use Rattle.openings.proofs.Visits.{ready-again}
 
 abbrev Inv-loop : tie.InvT-loop
 Inv-loop work₀ rows columns op index top₀ work top =
-    (w : List ℤ) → 5 * (rows * columns) ≤ length w → Waited (rows * columns) op index 0 w top₀ work₀ → Spreading (shaped rows columns) (kindOf w) op index w work top
+    (w : List ℤ) → HasCells w (rows * columns) → Waited (rows * columns) op index 0 w top₀ work₀ → Spreading (shaped rows columns) (kindAt w) op index w work top
 
 abbrev μ-loop : tie.MeasureT-loop
 μ-loop work₀ rows columns op index top₀ work top = 2 * freeOf (rows * columns) work + top
 
 -- a turn takes one of the cells that wait
-again : (c : tie.In-loop Inv-loop μ-loop) (w : List ℤ) → 5 * (c .before .before .before .before .before .args .rows * c .before .before .before .before .before .args .columns) ≤ length w
+again : (c : tie.In-loop Inv-loop μ-loop) (w : List ℤ) → HasCells w (c .before .before .before .before .before .args .rows * c .before .before .before .before .before .args .columns)
     → Waited (c .before .before .before .before .before .args .rows * c .before .before .before .before .before .args .columns) (c .before .before .before .before .before .args .op) (c .before .before .before .before .before .args .index) 0 w (c .before .before .before .wait .result) (c .before .before .before .wait .last .0)
-    → Spreading (shaped (c .before .before .before .before .before .args .rows) (c .before .before .before .before .before .args .columns)) (kindOf w) (c .before .before .before .before .before .args .op) (c .before .before .before .before .before .args .index) w (c .before .loop .work) (c .before .loop .top - 1 + 1)
+    → Spreading (shaped (c .before .before .before .before .before .args .rows) (c .before .before .before .before .before .args .columns)) (kindAt w) (c .before .before .before .before .before .args .op) (c .before .before .before .before .before .args .index) w (c .before .loop .work) (c .before .loop .top - 1 + 1)
 again c w h q =
     let a = c .before .before .before .before .before .args in
     let e : c .before .loop .top ≡ c .before .loop .top - 1 + 1 = omega (arith, c .loop-test .taken) in
-    subst (λ (t : ℕ). Spreading (shaped (a .rows) (a .columns)) (kindOf w) (a .op) (a .index) w (c .before .loop .work) t) e (c .before .loop .inv w h q)
+    subst (λ (t : ℕ). Spreading (shaped (a .rows) (a .columns)) (kindAt w) (a .op) (a .index) w (c .before .loop .work) t) e (c .before .loop .inv w h q)
 
-so : (c : tie.In-loop Inv-loop μ-loop) → Spreading (shaped (c .before .before .before .before .before .args .rows) (c .before .before .before .before .before .args .columns)) (kindOf (c .before .before .before .before .before .args .work .now)) (c .before .before .before .before .before .args .op) (c .before .before .before .before .before .args .index)
+so : (c : tie.In-loop Inv-loop μ-loop) → Spreading (shaped (c .before .before .before .before .before .args .rows) (c .before .before .before .before .before .args .columns)) (kindAt (c .before .before .before .before .before .args .work .now)) (c .before .before .before .before .before .args .op) (c .before .before .before .before .before .args .index)
     (c .before .before .before .before .before .args .work .now) (c .before .loop .work) (c .before .loop .top - 1 + 1)
 so c = again c (c .before .before .before .before .before .args .work .now) (c .before .before .before .before .before .pre .0 .room) (c .before .before .before .wait .ensures)
 
@@ -38,7 +38,7 @@ so c = again c (c .before .before .before .before .before .args .work .now) (c .
 few : (c : tie.In-loop Inv-loop μ-loop) → (c .before .loop .top - 1 < c .before .before .before .before .before .args .rows * c .before .before .before .before .before .args .columns) × (c .before .before .before .before .before .args .rows * c .before .before .before .before .before .args .columns ≤ 65025)
 few c = (omega (arith, so c .places, c .loop-test .taken), cells-few (c .before .before .before .before .before .args .rows) (c .before .before .before .before .before .args .columns) (c .before .before .before .before .before .pre .0 .shape))
 
-room : (c : tie.In-loop Inv-loop μ-loop) → 5 * (c .before .before .before .before .before .args .rows * c .before .before .before .before .before .args .columns) ≤ length (c .before .loop .work)
+room : (c : tie.In-loop Inv-loop μ-loop) → HasCells (c .before .loop .work) (c .before .before .before .before .before .args .rows * c .before .before .before .before .before .args .columns)
 room c = omega (arith, so c .change .long, c .before .before .before .before .before .pre .0 .room)
 
 mul-wait : tie.Need-mul-wait Inv-loop μ-loop
@@ -59,23 +59,11 @@ loop-holds c =
 sub-top : tie.Need-sub-top Inv-loop μ-loop
 sub-top c = omega arith
 
-mul-get : tie.Need-mul-get Inv-loop μ-loop
-mul-get c = omega (arith, few (c .before))
+waiting-requires : tie.Need-waiting-requires Inv-loop μ-loop
+waiting-requires c κs = omega (arith, few (c .before), room (c .before))
 
-add-get : tie.Need-add-get Inv-loop μ-loop
-add-get c = omega (arith, few (c .before))
-
-get-requires : tie.Need-get-requires Inv-loop μ-loop
-get-requires c κs = omega (arith, few (c .before), room (c .before))
-
-mul-put : tie.Need-mul-put Inv-loop μ-loop
-mul-put c = omega (arith, few (c .before .before .before))
-
-add-put : tie.Need-add-put Inv-loop μ-loop
-add-put c = omega (arith, few (c .before .before .before))
-
-put-requires : tie.Need-put-requires Inv-loop μ-loop
-put-requires c κs = omega (arith, few (c .before .before .before), room (c .before .before .before))
+put-waiting-requires : tie.Need-put-waiting-requires Inv-loop μ-loop
+put-waiting-requires c κs = omega (arith, few (c .before .before .before), room (c .before .before .before))
 
 visit-square-requires : tie.Need-visit-square-requires Inv-loop μ-loop
 visit-square-requires c κs =
@@ -83,9 +71,9 @@ visit-square-requires c κs =
     let a = s .args in
     let l = c .before .before .before .before .before .before .before .loop in
     let p = so (c .before .before .before .before .before .before) in
-    let w1 = c .before .before .put .last .0 in (
-      ready-again (a .work .now) w1 (s .pre .0) (c .before .before .put .kept .0 ∙ p .change .long),
-      rw (c .before .before .before .before .get .ensures .0) (taken-visitable (shaped (a .rows) (a .columns)) (a .op) (s .pre .0 .some-label) (a .index) (a .work .now) (l .work) w1 (l .top - 1) p (c .before .before .put .ensures)),
+    let w1 = c .before .before .put-waiting .last .0 in (
+      ready-again (a .work .now) w1 (s .pre .0) (c .before .before .put-waiting .kept .0 ∙ p .change .long),
+      rw (c .before .before .before .before .waiting .ensures .0) (taken-visitable (shaped (a .rows) (a .columns)) (a .op) (s .pre .0 .some-label) (a .index) (a .work .now) (l .work) w1 (l .top - 1) p (c .before .before .put-waiting .ensures)),
     )
 
 loop-less : tie.Need-loop-less Inv-loop μ-loop
@@ -96,8 +84,8 @@ loop-less c =
     let p = so (c .before .before .before .before .before .before .before .before) in
     let v = c .before .visit-square in
     let g = shaped (a .rows) (a .columns) in
-    let x = c .before .before .before .before .before .before .get .result in
-    let less = taken-less g (a .op) (s .pre .0 .some-label) (a .index) (a .work .now) (l .work) (c .before .before .before .before .put .last .0) (l .top - 1) p (c .before .before .before .before .put .ensures) (InSquare g x) x (v .last .0) (v .result) (v .ensures) in
+    let x = c .before .before .before .before .before .before .waiting .result in
+    let less = taken-less g (a .op) (s .pre .0 .some-label) (a .index) (a .work .now) (l .work) (c .before .before .before .before .put-waiting .last .0) (l .top - 1) p (c .before .before .before .before .put-waiting .ensures) (InSquare g x) x (v .last .0) (v .result) (v .ensures) in
     omega (arith, less, c .before .before .before .before .before .before .before .before .loop-test .taken)
 
 loop-again : tie.Need-loop-again Inv-loop μ-loop
@@ -107,12 +95,12 @@ loop-again c =
     let l = c .before .before .before .before .before .before .before .before .before .loop in
     let v = c .before .visit-square in
     let g = shaped (a .rows) (a .columns) in
-    let w1 = c .before .before .before .before .put .last .0 in
+    let w1 = c .before .before .before .before .put-waiting .last .0 in
     λ w h q.
     let p = again (c .before .before .before .before .before .before .before .before) w h q in
-    let room-now : 5 * (a .rows * a .columns) ≤ length (l .work) = omega (arith, h, p .change .long) in
-    spread-more g (a .op) (s .pre .0 .some-label) (a .index) w (l .work) w1 (v .last .0) (l .top - 1) (v .result) room-now p (c .before .before .before .before .put .ensures)
-    (subst (λ (x : ℕ). Pushed g (kindOf w1) (a .op) x (InSquare g x) w1 (l .top - 1) (v .last .0) (v .result)) (c .before .before .before .before .before .before .get .ensures .0) (v .ensures))
+    let room-now : HasCells (l .work) (a .rows * a .columns) = omega (arith, h, p .change .long) in
+    spread-more g (a .op) (s .pre .0 .some-label) (a .index) w (l .work) w1 (v .last .0) (l .top - 1) (v .result) room-now p (c .before .before .before .before .put-waiting .ensures)
+    (subst (λ (x : ℕ). Pushed g (kindAt w1) (a .op) x (InSquare g x) w1 (l .top - 1) (v .last .0) (v .result)) (c .before .before .before .before .before .before .waiting .ensures .0) (v .ensures))
 
 same-length : tie.Need-same-length Inv-loop μ-loop
 same-length c =
@@ -137,12 +125,8 @@ spread-spec =
     wait-requires
     loop-holds
     sub-top
-    mul-get
-    add-get
-    get-requires
-    mul-put
-    add-put
-    put-requires
+    waiting-requires
+    put-waiting-requires
     visit-square-requires
     loop-less
     loop-again

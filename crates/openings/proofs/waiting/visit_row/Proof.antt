@@ -1,25 +1,25 @@
 -- `waiting::visit_row`: the cells of the row before the column are visited; the columns left fall. Assumes nothing.
 use borrow.Author.Needs.{needs}
+use Rattle.area.specs.Numbers.{HasCells, kindAt}
 use Rattle.openings.proofs.waiting.visit_row.Statement.{statement}
 use Rattle.openings.proofs.waiting.visit_row.Tie as tie
 use Prim.Native.Nat.{_*_, _+_, _-_, _<_, _≤_}
 use native.Mathlib.Omega.{arith}
 use mathlib.Core.Path.{_≡_}
 use lib.Dec.{T}
-use lib.ListN.{length}
 use Rattle.game.specs.Grid.{square}
 use Rattle.game.specs.Lists.{has}
 use Rattle.game.proofs.Squares.{square→}
-use Rattle.openings.specs.Marks.{kindOf, shaped}
+use Rattle.openings.specs.Labels.{shaped}
 use Rattle.openings.specs.Waits.{InRow, InRowBefore, Pushed, Visitable}
 use Rattle.area.proofs.Cells.{cells-few}
-use Rattle.area.proofs.Sides.{column-of}
+use Rattle.area.proofs.Rows.{column-inside}
 use Rattle.openings.proofs.Stacks.{beside-at, border-places, pushed-again, pushed-all, pushed-cell, row-all, row-more, row-none, visitable-again}
 
 abbrev Inv-loop : tie.InvT-loop
 Inv-loop work₀ rows columns op index row top column₀ end waiting₀ work column waiting =
     (column₀ ≤ column)
-    × Pushed (shaped rows columns) (kindOf work₀) op index (InRowBefore (shaped rows columns) index row column) work₀ top work waiting
+    × Pushed (shaped rows columns) (kindAt work₀) op index (InRowBefore (shaped rows columns) index row column) work₀ top work waiting
 
 abbrev μ-loop : tie.MeasureT-loop
 μ-loop work₀ rows columns op index row top column₀ end waiting₀ work column waiting = end - column
@@ -42,7 +42,7 @@ at-below c =
 
 -- it may be visited still
 visitable : (c : tie.In-loop Inv-loop μ-loop) → Visitable (c .before .before .before .before .args .rows * c .before .before .before .before .args .columns)
-    (kindOf (c .before .loop .work)) (c .before .before .before .before .args .index) (c .before .loop .waiting) (c .before .loop .work)
+    (kindAt (c .before .loop .work)) (c .before .before .before .before .args .index) (c .before .loop .waiting) (c .before .loop .work)
 visitable c =
     let s = c .before .before .before .before in
     let a = s .args in
@@ -50,7 +50,7 @@ visitable c =
     let g = shaped (a .rows) (a .columns) in
     visitable-again g (a .op) (s .pre .0 .some-label) (a .index) (InRowBefore g (a .index) (a .row) (l .column)) (a .work .now) (l .work) (a .top) (l .waiting) (l .inv .1) (s .pre .1 .0)
 
-room : (c : tie.In-loop Inv-loop μ-loop) → 5 * (c .before .before .before .before .args .rows * c .before .before .before .before .args .columns) ≤ length (c .before .loop .work)
+room : (c : tie.In-loop Inv-loop μ-loop) → HasCells (c .before .loop .work) (c .before .before .before .before .args .rows * c .before .before .before .before .args .columns)
 room c = omega (arith, c .before .loop .inv .1 .change .long, c .before .before .before .before .pre .0 .room)
 
 div-lower : tie.Need-div-lower Inv-loop μ-loop
@@ -63,7 +63,7 @@ div-upper : tie.Need-div-upper Inv-loop μ-loop
 div-upper c = search needs
 
 upper-requires : tie.Need-upper-requires Inv-loop μ-loop
-upper-requires c κs = column-of (c .before .args .rows) (c .before .args .columns) (c .before .pre .0 .shape) (c .before .args .index) (c .before .pre .1 .0 .inside)
+upper-requires c κs = column-inside (c .before .args .rows) (c .before .args .columns) (c .before .args .index) (c .before .pre .1 .0 .inside)
 
 loop-holds : tie.Need-loop-holds Inv-loop μ-loop
 loop-holds c =

@@ -1,18 +1,19 @@
 -- `waiting::visit_square`: the rows before the row are visited; the rows left fall. Assumes nothing.
+use Rattle.area.specs.Numbers.{kindAt}
 use Rattle.openings.proofs.waiting.visit_square.Statement.{statement}
 use Rattle.openings.proofs.waiting.visit_square.Tie as tie
 use borrow.Author.Needs.{needs}
 use Prim.Native.Nat.{_+_, _-_, _≤_}
 use native.Mathlib.Omega.{arith}
-use Rattle.openings.specs.Marks.{kindOf, shaped}
+use Rattle.openings.specs.Labels.{shaped}
 use Rattle.openings.specs.Waits.{BeforeRow, InRow, InSquare, Pushed}
-use Rattle.area.proofs.Sides.{row-of}
+use Rattle.area.proofs.Rows.{row-inside}
 use Rattle.openings.proofs.Stacks.{pushed-again, pushed-all, rows-all, rows-more, rows-none, visitable-again}
 use Rattle.openings.proofs.Visits.{ready-again}
 
 abbrev Inv-loop : tie.InvT-loop
 Inv-loop work₀ rows columns op index top row₀ end waiting₀ work row waiting =
-    (row₀ ≤ row) × Pushed (shaped rows columns) (kindOf work₀) op index (BeforeRow (shaped rows columns) index row) work₀ top work waiting
+    (row₀ ≤ row) × Pushed (shaped rows columns) (kindAt work₀) op index (BeforeRow (shaped rows columns) index row) work₀ top work waiting
 
 abbrev μ-loop : tie.MeasureT-loop
 μ-loop work₀ rows columns op index top row₀ end waiting₀ work row waiting = end - row
@@ -27,7 +28,7 @@ rem-upper : tie.Need-rem-upper Inv-loop μ-loop
 rem-upper c = search needs
 
 upper-requires : tie.Need-upper-requires Inv-loop μ-loop
-upper-requires c κs = row-of (c .before .args .rows) (c .before .args .columns) (c .before .pre .0 .shape) (c .before .args .index)
+upper-requires c κs = row-inside (c .before .args .rows) (c .before .args .columns) (c .before .args .index) (c .before .pre .1 .inside)
 
 loop-holds : tie.Need-loop-holds Inv-loop μ-loop
 loop-holds c =

@@ -1,21 +1,22 @@
 -- `waiting::wait`: a 0-cell without label is one of those that may yet wait, so there is a place for it. Assumes nothing.
 use borrow.Author.Needs.{needs}
+use Rattle.area.specs.Numbers.{waitingPlace}
 use Rattle.openings.proofs.waiting.wait.Statement.{statement}
 use Rattle.openings.proofs.waiting.wait.Tie as tie
-use Prim.Native.Nat.{ℕ, _%_, _*_, _+_, _<_}
+use Prim.Native.Nat.{ℕ, _%_, _<_}
 use native.Mathlib.Omega.{arith}
 use mathlib.Core.Path.{_∙_, _≡_, ap, refl}
 use mathlib.Core.List.{List}
 use lib.IntN.{pos, ℤ}
 use lib.ListN.{set}
-use Rattle.openings.specs.Marks.{marked}
+use Rattle.openings.specs.Labels.{putLabel}
 use Rattle.openings.proofs.Edges.{fresh-no, fresh-yes}
-use Rattle.openings.proofs.Frees.{free-marked}
+use Rattle.openings.proofs.Frees.{free-labelled}
 
-put-at : (w1 m w2 : List ℤ) (i top : ℕ) → i < 2147483648 → w1 ≡ m → w2 ≡ set w1 (5 * top + 4) (pos (i % 2147483648)) → w2 ≡ set m (5 * top + 4) (pos i)
+put-at : (w1 m w2 : List ℤ) (i top : ℕ) → i < 2147483648 → w1 ≡ m → w2 ≡ set w1 (waitingPlace top) (pos (i % 2147483648)) → w2 ≡ set m (waitingPlace top) (pos i)
 put-at w1 m w2 i top h e q =
     let small : i % 2147483648 ≡ i = omega arith in
-    q ∙ ap (λ (n : ℕ). set w1 (5 * top + 4) (pos n)) small ∙ ap (λ (l : List ℤ). set l (5 * top + 4) (pos i)) e
+    q ∙ ap (λ (n : ℕ). set w1 (waitingPlace top) (pos n)) small ∙ ap (λ (l : List ℤ). set l (waitingPlace top) (pos i)) e
 
 fresh-requires : tie.Need-fresh-requires
 fresh-requires c κs = search needs
@@ -29,25 +30,19 @@ returns c =
     let n = fresh-no (a .cells) (a .work .now) (a .index) (c .before .fresh .result) (c .before .fresh .ensures) (c .if1 .taken) in
     record { fresh = λ f. absurd (n f); none = λ _. (refl, refl) }
 
-mark-requires : tie.Need-mark-requires
-mark-requires c κs =
+put-label-requires : tie.Need-put-label-requires
+put-label-requires c κs =
     let a = c .before .before .before .before .args in
     let f = fresh-yes (a .cells) (a .work .now) (a .index) (c .before .before .fresh .result) (c .before .before .fresh .ensures) (c .before .if1 .left) in
     (omega (arith, f .inside, c .before .before .before .before .pre .0), c .before .before .before .before .pre .1 .1 .0 .1)
 
-mul-put : tie.Need-mul-put
-mul-put c = search needs
-
-add-put : tie.Need-add-put
-add-put c = search needs
-
-put-requires : tie.Need-put-requires
-put-requires c κs =
+put-waiting-requires : tie.Need-put-waiting-requires
+put-waiting-requires c κs =
     let s = c .before .before .before .before .before .before .before in
     let a = s .args in
     let f = fresh-yes (a .cells) (a .work .now) (a .index) (c .before .before .before .before .before .fresh .result) (c .before .before .before .before .before .fresh .ensures) (c .before .before .before .before .if1 .left) in
-    let less = free-marked (a .cells) (a .op) (s .pre .1 .1 .0 .0) (a .work .now) (a .index) (s .pre .0) f in
-    omega (arith, less, s .pre .0, s .pre .1 .1 .1, c .before .before .mark .kept .0)
+    let less = free-labelled (a .cells) (a .op) (s .pre .1 .1 .0 .0) (a .work .now) (a .index) (s .pre .0) f in
+    omega (arith, less, s .pre .0, s .pre .1 .1 .1, c .before .before .put-label .kept .0)
 
 add-result : tie.Need-add-result
 add-result c = search needs
@@ -63,8 +58,8 @@ returns-2 c =
     record {
       fresh = λ _. (
         refl,
-        put-at (c .before .before .before .before .mark .last .0) (marked (a .work .now) (a .index) (a .op)) (c .before .put .last .0) (a .index) (a .top)
-            (omega (arith, f .inside, s .pre .1 .0)) (c .before .before .before .before .mark .ensures) (c .before .put .ensures),
+        put-at (c .before .before .before .before .put-label .last .0) (putLabel (a .work .now) (a .index) (a .op)) (c .before .put-waiting .last .0) (a .index) (a .top)
+            (omega (arith, f .inside, s .pre .1 .0)) (c .before .before .before .before .put-label .ensures) (c .before .put-waiting .ensures),
       );
       none = λ n. absurd (n f);
     }
@@ -76,10 +71,8 @@ wait-spec =
     fresh-requires
     same-length
     returns
-    mark-requires
-    mul-put
-    add-put
-    put-requires
+    put-label-requires
+    put-waiting-requires
     add-result
     same-length-2
     returns-2)

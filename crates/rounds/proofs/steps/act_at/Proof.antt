@@ -4,8 +4,8 @@ use Rattle.rounds.proofs.Columns.{act-kept}
 use Rattle.rounds.proofs.steps.act_at.Statement.{statement}
 use Rattle.rounds.proofs.steps.act_at.Tie as tie
 
-forget-requires : tie.Need-forget-requires
-forget-requires c κs = search needs
+mark-requires : tie.Need-mark-requires
+mark-requires c κs = search needs
 
 act-requires : tie.Need-act-requires
 act-requires c κs = search needs
@@ -25,8 +25,8 @@ returns c =
     let f = x .before .before .before .before .before in
     let b = f .before .before .before .before .before in
     let a = b .args in
-    λ o g s old st p t u e. act-kept (a .rows) (a .columns) g s old (a .work .now) (x .act .last .0) (a .index) (b .pre .1 .1) st (a .tops .now) (f .forget .last .1 .1 .1 .0)
-    (a .list .now) (a .state) (x .act .last .1 .1 .1 .0) (x .act .result) o (f .forget .ensures g s old st) (x .act .ensures g s old st p t u e)
+    λ o g s old st p t u e. act-kept (a .rows) (a .columns) g s old (a .work .now) (x .act .last .0) (a .index) (b .pre .1 .1) st (a .tops .now) (f .mark .last .1 .1 .1 .0)
+    (a .list .now) (a .state) (x .act .last .1 .1 .1 .0) (x .act .result) o (f .mark .ensures g s old st) (x .act .ensures g s old st p t u e)
 
 pub act-at-spec : {M : Type 1} → statement M
-act-at-spec = tie.close (tie.spec forget-requires act-requires same-length same-length-2 same-length-3 returns)
+act-at-spec = tie.close (tie.spec mark-requires act-requires same-length same-length-2 same-length-3 returns)

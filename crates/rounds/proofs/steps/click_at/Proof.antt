@@ -4,8 +4,8 @@ use Rattle.rounds.proofs.Columns.{click-kept}
 use Rattle.rounds.proofs.steps.click_at.Statement.{statement}
 use Rattle.rounds.proofs.steps.click_at.Tie as tie
 
-forget-click-requires : tie.Need-forget-click-requires
-forget-click-requires c κs = search needs
+mark-click-requires : tie.Need-mark-click-requires
+mark-click-requires c κs = search needs
 
 click-requires : tie.Need-click-requires
 click-requires c κs = search needs
@@ -25,8 +25,8 @@ returns c =
     let f = x .before .before .before .before .before in
     let b = f .before .before .before .before .before in
     let a = b .args in
-    λ o g s old st p t u n e. click-kept (a .rows) (a .columns) g s old (a .work .now) (x .click .last .0) (a .index) (b .pre .1 .1) st (a .tops .now) (f .forget-click .last .1 .1 .1 .0)
-    (a .list .now) (a .state) (x .click .last .1 .1 .1 .0) (x .click .result) o (f .forget-click .ensures g s old st) t u n (x .click .ensures .1 g s old st p t u e)
+    λ o g s old st p t u n e. click-kept (a .rows) (a .columns) g s old (a .work .now) (x .click .last .0) (a .index) (b .pre .1 .1) st (a .tops .now) (f .mark-click .last .1 .1 .1 .0)
+    (a .list .now) (a .state) (x .click .last .1 .1 .1 .0) (x .click .result) o (f .mark-click .ensures g s old st) t u n (x .click .ensures .1 g s old st p t u e)
 
 pub click-at-spec : {M : Type 1} → statement M
-click-at-spec = tie.close (tie.spec forget-click-requires click-requires same-length same-length-2 same-length-3 returns)
+click-at-spec = tie.close (tie.spec mark-click-requires click-requires same-length same-length-2 same-length-3 returns)

@@ -43,8 +43,8 @@ returns c =
     let load = label .before .before .before in
     let a = load .before .before .args in
     let g = gridOf (a .rows) (a .columns) (a .grid .now) in
-    begun-setting g (a .work .now) (label .label .last .0) (lay .lay .last .0) (raise .raise-all .last .0) (label .label .result) (lay .lay .result .bare) (lay .lay .result .safe)
-    (omega arith) (label .label .ensures g (a .work .now) refl refl (omega arith) (load .load .ensures)) (lay .lay .ensures .1) (lay .lay .ensures .2)
+    begun-setting g (a .work .now) (omega arith) (label .label .last .0) (lay .lay .last .0) (raise .raise-all .last .0) (label .label .result) (lay .lay .result .unlabelled) (lay .lay .result .safe)
+    (label .label .ensures g (a .work .now) refl refl (omega arith) (load .load .ensures)) (lay .lay .ensures .1) (lay .lay .ensures .2)
     (lay .lay .ensures .0) (raise .raise-all .ensures)
 
 pub set-up-spec : {M : Type 1} → statement M

@@ -1,14 +1,13 @@
 -- `start::settle::settle_cells`: the cells passed are settled. Assumes nothing.
-use Prim.Native.Nat.{ℕ, _+_, _-_, _*_, _≤_}
+use Prim.Native.Nat.{ℕ, _-_, _≤_}
 use native.Mathlib.Omega.{arith}
 use mathlib.Core.Path.{_≡_, refl, ap, sym, _∙_}
 use mathlib.Core.List.{List}
-use lib.Dec.{eqb}
 use lib.IntN.{ℤ}
 use lib.ListN.{length}
 use Rattle.game.specs.Lists.{range, fold}
 use Rattle.game.proofs.Members.{fold-more}
-use Rattle.area.specs.Numbers.{numberAt, putAt}
+use Rattle.area.specs.Numbers.{putKind}
 use Rattle.start.specs.Passes.{settleCell}
 use Rattle.start.proofs.Settled.{length-lowered, length-settle}
 use Rattle.start.proofs.settle.settle_cells.Statement.{statement}
@@ -27,17 +26,11 @@ loop-holds c = (omega arith, refl, refl)
 lower-premium-requires : tie.Need-lower-premium-requires Inv-loop μ-loop
 lower-premium-requires c κs = omega arith
 
-mul-put : tie.Need-mul-put Inv-loop μ-loop
-mul-put c = omega arith
-
-add-put : tie.Need-add-put Inv-loop μ-loop
-add-put c = omega arith
-
-put-requires : tie.Need-put-requires Inv-loop μ-loop
-put-requires c κs =
+put-kind-requires : tie.Need-put-kind-requires Inv-loop μ-loop
+put-kind-requires c κs =
     let l = c .before .before .before .before .before .loop in
     let e = ap length (c .before .before .lower-premium .ensures)
-    ∙ length-lowered (eqb (numberAt (l .work) (5 * l .index + 4)) 0) (l .work) (5 * l .index + 2) (numberAt (l .work) (5 * l .index + 2)) in
+    ∙ length-lowered (l .work) (l .index) in
     omega (arith, e)
 
 add-index : tie.Need-add-index Inv-loop μ-loop
@@ -50,8 +43,8 @@ loop-again : tie.Need-loop-again Inv-loop μ-loop
 loop-again c =
     let l = c .before .before .before .before .before .before .before .loop in
     let a = c .before .before .before .before .before .before .before .before .args in
-    let e : c .before .put .last .0 ≡ settleCell (l .work) (l .index)
-    = c .before .put .ensures ∙ ap (λ (w : List ℤ). putAt w (5 * l .index + 4) 0) (c .before .before .before .before .lower-premium .ensures) in (
+    let e : c .before .put-kind .last .0 ≡ settleCell (l .work) (l .index)
+    = c .before .put-kind .ensures ∙ ap (λ (w : List ℤ). putKind w (l .index) 0) (c .before .before .before .before .lower-premium .ensures) in (
       omega arith,
       e ∙ ap (λ (w : List ℤ). settleCell w (l .index)) (l .inv .1) ∙ sym (fold-more settleCell (a .work .now) 0 (l .index) (omega arith)),
       ap length e ∙ length-settle (l .work) (l .index) ∙ l .inv .2,
@@ -75,9 +68,7 @@ settle-cells-spec =
     μ-loop
     loop-holds
     lower-premium-requires
-    mul-put
-    add-put
-    put-requires
+    put-kind-requires
     add-index
     loop-less
     loop-again
