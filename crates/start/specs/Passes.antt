@@ -25,10 +25,10 @@ loadCell g w i = loadAt w i (kind g i)
 
 -- ---- the end of a call
 
--- the premium is lowered again, unless the cell is a mine
+-- the lowered premium takes the kind's place; a mine's kind is 0, as its premium is
 abbrev pub lowerPremium : List ℤ → ℕ → List ℤ
 lowerPremium w i = cond (eqb (kindAt w i) 0) w (putLowered w i (premiumAt w i))
 
--- and 0 stands for the kind
+-- and 0 stands for the raised premium
 abbrev pub settleCell : List ℤ → ℕ → List ℤ
-settleCell w i = putKind (lowerPremium w i) i 0
+settleCell w i = putPremium (lowerPremium w i) i 0
