@@ -17,7 +17,7 @@ minesOf g first last a b = count (mine g) (concat-map (λ row. map (λ column. i
 
 -- a cell before labelling: its kind, and 0 elsewhere
 abbrev pub loadAt : List ℤ → ℕ → ℕ → List ℤ
-loadAt w i k = putKind (putState (putPremium (putSecond (putFirst w i 0) i 0) i 0) i 0) i k
+loadAt w i k = putPremium (putState (putKind (putSecond (putFirst w i 0) i 0) i k) i 0) i 0
 
 -- a cell of the grid is loaded
 abbrev pub loadCell : Grid → List ℤ → ℕ → List ℤ
