@@ -123,13 +123,13 @@ module _ (n : ℕ) (old : List ℤ) (room : 5 * n ≤ length old) where
   read-second C i h = read-area C i 1 h (omega arith)
 
   pub read-premium : (C : ℕ → Cell) (i : ℕ) → i < n → premiumAt (cellArea C n old) i ≡ C i .premium
-  read-premium C i h = read-area C i 2 h (omega arith)
+  read-premium C i h = read-area C i 4 h (omega arith)
 
   pub read-state : (C : ℕ → Cell) (i : ℕ) → i < n → stateAt (cellArea C n old) i ≡ C i .state
   read-state C i h = read-area C i 3 h (omega arith)
 
   pub read-kind : (C : ℕ → Cell) (i : ℕ) → i < n → kindAt (cellArea C n old) i ≡ C i .kind
-  read-kind C i h = read-area C i 4 h (omega arith)
+  read-kind C i h = read-area C i 2 h (omega arith)
 
   -- nothing put
   pub same-at : (C : ℕ → Cell) (i : ℕ) → cellArea C n old ≡ cellArea (at C i (C i)) n old
@@ -153,7 +153,7 @@ shift-acts n old room up down C i h = rw (read-kind n old room C i h, read-premi
     go : (b : Bool) → cond b (cellArea C n old) (putPremium (cellArea C n old) i (C i .premium + up - down))
         ≡ cellArea (at C i (cond b (C i) (priced (C i .premium + up - down) (C i)))) n old
     go true = same-at n old room C i
-    go false = put-area n old room C i 2 (C i .premium + up - down) (priced (C i .premium + up - down) (C i)) h (omega arith) refl
+    go false = put-area n old room C i 4 (C i .premium + up - down) (priced (C i .premium + up - down) (C i)) h (omega arith) refl
 
 -- ---- and with each of a list of cells
 

@@ -31,9 +31,9 @@ putAt w k v = set w k (pos (v % 2147483648))
 
 -- ---- a cell's five numbers
 
--- as a list: labels, raised premium, state, kind
+-- as they lie while a call runs: labels, kind, state, raised premium
 abbrev pub five : ℕ → ℕ → ℕ → ℕ → ℕ → List ℤ
-five first second premium state kind = pos first ∷ pos second ∷ pos premium ∷ pos state ∷ pos kind ∷ []
+five first second premium state kind = pos first ∷ pos second ∷ pos kind ∷ pos state ∷ pos premium ∷ []
 
 -- the work area has n cells' numbers
 abbrev pub HasCells : List ℤ → ℕ → Type 0
@@ -51,9 +51,9 @@ firstPlace i = 5 * i
 abbrev pub secondPlace : ℕ → ℕ
 secondPlace i = 5 * i + 1
 
--- of its premium
+-- of its raised premium
 abbrev pub premiumPlace : ℕ → ℕ
-premiumPlace i = 5 * i + 2
+premiumPlace i = 5 * i + 4
 
 -- of its state
 abbrev pub statePlace : ℕ → ℕ
@@ -61,7 +61,7 @@ statePlace i = 5 * i + 3
 
 -- of its kind
 abbrev pub kindPlace : ℕ → ℕ
-kindPlace i = 5 * i + 4
+kindPlace i = 5 * i + 2
 
 -- the first label of the cell i
 abbrev pub firstAt : List ℤ → ℕ → ℕ
@@ -103,11 +103,11 @@ putState w i v = putAt w (statePlace i) v
 abbrev pub putKind : List ℤ → ℕ → ℕ → List ℤ
 putKind w i v = putAt w (kindPlace i) v
 
--- with a premium as it is handed back, 10 less than raised
+-- with a premium as it is handed back, 10 less than raised: it stands where the kind stood
 abbrev pub putLowered : List ℤ → ℕ → ℕ → List ℤ
-putLowered w i v = set w (premiumPlace i) (pos (v % 2147483648) -ℤ pos 10)
+putLowered w i v = set w (kindPlace i) (pos (v % 2147483648) -ℤ pos 10)
 
--- ---- cells that wait: while openings are labelled there is no premium, and its places hold them
+-- ---- cells that wait: while openings are labelled there is no premium, and its place, the fifth number, holds them
 
 -- the place of the cell that waits as number t
 abbrev pub waitingPlace : ℕ → ℕ

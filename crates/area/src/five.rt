@@ -1,4 +1,4 @@
-// A cell's five numbers: first label, second label, premium raised by 10, state, kind.
+// A cell's five numbers while a call runs: first label, second label, kind, state, premium raised by 10.
 use crate::numbers::get;
 use crate::numbers::put;
 ghost use mathlib.Core.Path.{_≡_};
@@ -26,7 +26,7 @@ pub fn premium(work: &[i32], index: usize) -> usize
     requires { ⌜ HasCell (now work) index ⌝ }
     ensures { λ r. ⌜ (r ≡ premiumAt (now (work .entry)) index) × (r < 2147483648) ⌝ }
 {
-    get(work, 5 * index + 2)
+    get(work, 5 * index + 4)
 }
 
 // The state of the cell.
@@ -42,7 +42,7 @@ pub fn kind(work: &[i32], index: usize) -> usize
     requires { ⌜ HasCell (now work) index ⌝ }
     ensures { λ r. ⌜ (r ≡ kindAt (now (work .entry)) index) × (r < 2147483648) ⌝ }
 {
-    get(work, 5 * index + 4)
+    get(work, 5 * index + 2)
 }
 
 // Puts the first label of the cell.
@@ -66,7 +66,7 @@ pub fn put_premium(work: &mut [i32], index: usize, value: usize)
     requires { ⌜ HasCell (now work) index ⌝ }
     ensures { λ _. ⌜ now (work .exit) ≡ putPremium (now (work .entry)) index value ⌝ }
 {
-    put(work, 5 * index + 2, value);
+    put(work, 5 * index + 4, value);
 }
 
 // Puts the state of the cell.
@@ -82,10 +82,10 @@ pub fn put_kind(work: &mut [i32], index: usize, value: usize)
     requires { ⌜ HasCell (now work) index ⌝ }
     ensures { λ _. ⌜ now (work .exit) ≡ putKind (now (work .entry)) index value ⌝ }
 {
-    put(work, 5 * index + 4, value);
+    put(work, 5 * index + 2, value);
 }
 
-// Puts the premium of the cell as it is handed back: 10 less than raised.
+// Puts the premium of the cell as it is handed back, 10 less than raised, where the kind stood.
 pub fn put_lowered(work: &mut [i32], index: usize, raised: usize)
     requires { ⌜ HasCell (now work) index ⌝ }
     ensures { λ _. ⌜ now (work .exit) ≡ putLowered (now (work .entry)) index raised ⌝ }
@@ -99,7 +99,7 @@ pub fn waiting(work: &[i32], place: usize) -> usize
     requires { ⌜ HasCell (now work) place ⌝ }
     ensures { λ r. ⌜ (r ≡ waitingAt (now (work .entry)) place) × (r < 2147483648) ⌝ }
 {
-    get(work, 5 * place + 2)
+    get(work, 5 * place + 4)
 }
 
 // Puts a cell to wait as number `place`.
@@ -107,5 +107,5 @@ pub fn put_waiting(work: &mut [i32], place: usize, index: usize)
     requires { ⌜ HasCell (now work) place ⌝ }
     ensures { λ _. ⌜ now (work .exit) ≡ putWaiting (now (work .entry)) place index ⌝ }
 {
-    put(work, 5 * place + 2, index);
+    put(work, 5 * place + 4, index);
 }

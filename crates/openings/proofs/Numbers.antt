@@ -55,7 +55,7 @@ module _ (g : Grid) (os : List (List ℕ)) (good-os : Good g os) (i : ℕ) (hi :
 
   kinds : (j : ℕ) → j < size g → kindAt w j ≡ kind g j
   unfolding partFive
-  kinds j h = ap natural (slot j 4 h (omega arith))
+  kinds j h = ap natural (slot j 2 h (omega arith))
 
   first-slot : (j : ℕ) → j < size g → getD w (firstPlace j) (pos 0) ≡ pos (getD (places g j 1 os) 0 0)
   unfolding partFive
@@ -108,9 +108,9 @@ module _ (g : Grid) (os : List (List ℕ)) (good-os : Good g os) (i : ℕ) (hi :
         (q .change .long ∙ ap length is ∙ laid-length (partFive g os) (part-length g os) (size g) old room)
         (λ j s h l. each-slot (λ s. getD w′ (5 * j + s) (pos 0) ≡ getD (partFive g os′ j) s (pos 0))
         (ap (λ (m : ℕ). getD w′ m (pos 0)) (add-zero (firstPlace j)) ∙ new-labels j h (holds g j (joinedTo g i)) refl .0) (new-labels j h (holds g j (joinedTo g i)) refl .1)
-        (q .clear (λ x a d. slot x 2 d (omega arith)) j (omega arith) h)
+        (q .change .kinds j h ∙ slot j 2 h (omega arith))
         (q .change .states j h ∙ slot j 3 h (omega arith))
-        (q .change .kinds j h ∙ slot j 4 h (omega arith)) s l)
+        (q .clear (λ x a d. slot x 4 d (omega arith)) j (omega arith) h) s l)
         (λ x h. q .change .past x h ∙ ap (λ (l : List ℤ). getD l x (pos 0)) is ∙ laid-past (partFive g os) (part-length g os) (size g) old x h)
 
   pub part-more : (r ≡ length (gather g os i)) × (w′ ≡ laid (partFive g (gather g os i)) (size g) old)

@@ -88,7 +88,7 @@ module _ (g : Grid) (old : List ℤ) (room : HasCells old (size g)) where
   lay-acts C i h =
       rw (read-kind n old room C i h, read-first n old room C i h, read-second n old room C i h)
       (let v = alonePremium (bit (not (eqb (C i .first) 0)) + bit (not (eqb (C i .second) 0))) (C i .kind) in
-      ap (λ (w : List ℤ). putState w i 0) (put-area n old room C i 2 v (priced v (C i)) h (omega arith) refl)
+      ap (λ (w : List ℤ). putState w i 0) (put-area n old room C i 4 v (priced v (C i)) h (omega arith) refl)
       ∙ put-again n old room C i 3 0 (priced v (C i)) (laidCell (C i)) h (omega arith) refl)
 
   -- from any work area of labels and kinds

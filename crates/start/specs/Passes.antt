@@ -17,7 +17,7 @@ minesOf g first last a b = count (mine g) (concat-map (λ row. map (λ column. i
 
 -- a cell before labelling: its kind, and 0 elsewhere
 abbrev pub loadAt : List ℤ → ℕ → ℕ → List ℤ
-loadAt w i k = putKind (putState (putPremium (putSecond (putFirst w i 0) i 0) i 0) i 0) i k
+loadAt w i k = putPremium (putState (putKind (putSecond (putFirst w i 0) i 0) i k) i 0) i 0
 
 -- a cell of the grid is loaded
 abbrev pub loadCell : Grid → List ℤ → ℕ → List ℤ
@@ -25,10 +25,10 @@ loadCell g w i = loadAt w i (kind g i)
 
 -- ---- the end of a call
 
--- the premium is lowered again, unless the cell is a mine
+-- the lowered premium takes the kind's place; a mine's kind is 0, as its premium is
 abbrev pub lowerPremium : List ℤ → ℕ → List ℤ
 lowerPremium w i = cond (eqb (kindAt w i) 0) w (putLowered w i (premiumAt w i))
 
--- and 0 stands for the kind
+-- and 0 stands for the raised premium
 abbrev pub settleCell : List ℤ → ℕ → List ℤ
-settleCell w i = putKind (lowerPremium w i) i 0
+settleCell w i = putPremium (lowerPremium w i) i 0

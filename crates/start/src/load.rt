@@ -48,9 +48,9 @@ pub fn load_cell(work: &mut [i32], index: usize, kind: usize)
 {
     area::put_first_label(work, index, 0);
     area::put_second_label(work, index, 0);
-    area::put_premium(work, index, 0);
-    area::put_state(work, index, 0);
     area::put_kind(work, index, kind);
+    area::put_state(work, index, 0);
+    area::put_premium(work, index, 0);
 }
 
 // The cells of a column: the mines of each row of three are counted once and carried down.

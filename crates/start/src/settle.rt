@@ -1,10 +1,10 @@
-// The work area as a call hands it back: premiums lowered again, 0 for the kind.
+// The work area as a call hands it back: the lowered premium in place of the kind, and 0 for the raised one.
 ghost use mathlib.Core.Path.{_≡_};
 ghost use Rattle.game.specs.Lists.{range, fold};
 ghost use Rattle.area.specs.Numbers.{HasCell, HasCells};
 ghost use Rattle.start.specs.Passes.{lowerPremium, settleCell};
 
-// The premium of a cell that is no mine is lowered again.
+// The lowered premium of a cell that is no mine takes the kind's place; a mine's kind is 0, as its premium is.
 pub fn lower_premium(work: &mut [i32], index: usize)
     requires { ⌜ HasCell (now work) index ⌝ }
     ensures { λ _. ⌜ now (work .exit) ≡ lowerPremium (now (work .entry)) index ⌝ }
@@ -23,6 +23,6 @@ pub fn settle_cells(work: &mut [i32], cells: usize)
 {
     for index in 0..cells {
         lower_premium(work, index);
-        area::put_kind(work, index, 0);
+        area::put_premium(work, index, 0);
     }
 }

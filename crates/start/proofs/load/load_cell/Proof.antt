@@ -13,14 +13,14 @@ put-first-label-requires c κs = search needs
 put-second-label-requires : tie.Need-put-second-label-requires
 put-second-label-requires c κs = search needs
 
-put-premium-requires : tie.Need-put-premium-requires
-put-premium-requires c κs = search needs
+put-kind-requires : tie.Need-put-kind-requires
+put-kind-requires c κs = search needs
 
 put-state-requires : tie.Need-put-state-requires
 put-state-requires c κs = search needs
 
-put-kind-requires : tie.Need-put-kind-requires
-put-kind-requires c κs = search needs
+put-premium-requires : tie.Need-put-premium-requires
+put-premium-requires c κs = search needs
 
 same-length : tie.Need-same-length
 same-length c = search needs
@@ -34,9 +34,9 @@ returns c =
     let first = second .before .before .before in
     let i = first .before .before .args .index in
     let k = first .before .before .args .kind in
-    fifth .put-kind .ensures ∙ ap (λ (w : List ℤ). putKind w i k)
+    fifth .put-premium .ensures ∙ ap (λ (w : List ℤ). putPremium w i 0)
     (fourth .put-state .ensures ∙ ap (λ (w : List ℤ). putState w i 0)
-    (third .put-premium .ensures ∙ ap (λ (w : List ℤ). putPremium w i 0)
+    (third .put-kind .ensures ∙ ap (λ (w : List ℤ). putKind w i k)
     (second .put-second-label .ensures ∙ ap (λ (w : List ℤ). putSecond w i 0) (first .put-first-label .ensures))))
 
 pub load-cell-spec : {M : Type 1} → statement M
@@ -45,8 +45,8 @@ load-cell-spec =
     (tie.spec
     put-first-label-requires
     put-second-label-requires
-    put-premium-requires
-    put-state-requires
     put-kind-requires
+    put-state-requires
+    put-premium-requires
     same-length
     returns)

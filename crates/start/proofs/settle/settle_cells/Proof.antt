@@ -7,7 +7,7 @@ use lib.IntN.{ℤ}
 use lib.ListN.{length}
 use Rattle.game.specs.Lists.{range, fold}
 use Rattle.game.proofs.Members.{fold-more}
-use Rattle.area.specs.Numbers.{putKind}
+use Rattle.area.specs.Numbers.{putPremium}
 use Rattle.start.specs.Passes.{settleCell}
 use Rattle.start.proofs.Settled.{length-lowered, length-settle}
 use Rattle.start.proofs.settle.settle_cells.Statement.{statement}
@@ -26,8 +26,8 @@ loop-holds c = (omega arith, refl, refl)
 lower-premium-requires : tie.Need-lower-premium-requires Inv-loop μ-loop
 lower-premium-requires c κs = omega arith
 
-put-kind-requires : tie.Need-put-kind-requires Inv-loop μ-loop
-put-kind-requires c κs =
+put-premium-requires : tie.Need-put-premium-requires Inv-loop μ-loop
+put-premium-requires c κs =
     let l = c .before .before .before .before .before .loop in
     let e = ap length (c .before .before .lower-premium .ensures)
     ∙ length-lowered (l .work) (l .index) in
@@ -43,8 +43,8 @@ loop-again : tie.Need-loop-again Inv-loop μ-loop
 loop-again c =
     let l = c .before .before .before .before .before .before .before .loop in
     let a = c .before .before .before .before .before .before .before .before .args in
-    let e : c .before .put-kind .last .0 ≡ settleCell (l .work) (l .index)
-    = c .before .put-kind .ensures ∙ ap (λ (w : List ℤ). putKind w (l .index) 0) (c .before .before .before .before .lower-premium .ensures) in (
+    let e : c .before .put-premium .last .0 ≡ settleCell (l .work) (l .index)
+    = c .before .put-premium .ensures ∙ ap (λ (w : List ℤ). putPremium w (l .index) 0) (c .before .before .before .before .lower-premium .ensures) in (
       omega arith,
       e ∙ ap (λ (w : List ℤ). settleCell w (l .index)) (l .inv .1) ∙ sym (fold-more settleCell (a .work .now) 0 (l .index) (omega arith)),
       ap length e ∙ length-settle (l .work) (l .index) ∙ l .inv .2,
@@ -68,7 +68,7 @@ settle-cells-spec =
     μ-loop
     loop-holds
     lower-premium-requires
-    put-kind-requires
+    put-premium-requires
     add-index
     loop-less
     loop-again
