@@ -14,9 +14,10 @@ use Rattle.game.specs.Lists.{fold, has}
 use Rattle.game.proofs.Areas.{laid-at, laid-length, laid-only, laid-past}
 use Rattle.game.proofs.Counts.{Once}
 use Rattle.game.proofs.Members.{first-of, rest-of}
-use Rattle.game.proofs.Truth.{eqb-no, eqb-yes, no→false}
+use Rattle.game.proofs.Truth.{no→false}
 use Rattle.area.specs.Numbers.{firstAt, five, kindAt, natural, numberAt, premiumAt, putAt, putPremium, secondAt, stateAt}
 use Rattle.area.specs.Squares.{shifted}
+use borrow.Author.Tests.{eq-eqb, ne-eqb}
 
 -- a cell's five numbers
 pub record Cell : Type 0 where
@@ -38,10 +39,10 @@ abbrev pub at : (ℕ → Cell) → ℕ → Cell → ℕ → Cell
 at C i c x = cond (eqb x i) c (C x)
 
 pub at-here : (C : ℕ → Cell) (i : ℕ) (c : Cell) (x : ℕ) → x ≡ i → at C i c x ≡ c
-at-here C i c x e = ap (λ (b : Bool). cond b c (C x)) (eqb-yes x i e)
+at-here C i c x e = ap (λ (b : Bool). cond b c (C x)) (eq-eqb x i e)
 
 pub at-other : (C : ℕ → Cell) (i : ℕ) (c : Cell) (x : ℕ) → (x ≡ i → ⊥) → at C i c x ≡ C x
-at-other C i c x n = ap (λ (b : Bool). cond b c (C x)) (eqb-no x i n)
+at-other C i c x n = ap (λ (b : Bool). cond b c (C x)) (ne-eqb x i n)
 
 -- two changes of one cell: the later stands
 pub at-again : (C : ℕ → Cell) (i : ℕ) (c d : Cell) (x : ℕ) → at (at C i c) i d x ≡ at C i d x
@@ -164,7 +165,7 @@ made h xs C x = cond (has x xs) (h (C x)) (C x)
 -- one more cell, listed first
 pub made-more : (h : Cell → Cell) (y : ℕ) (xs : List ℕ) (C : ℕ → Cell) → Once (y ∷ xs) → (x : ℕ) → made h xs (at C y (h (C y))) x ≡ made h (y ∷ xs) C x
 made-more h y xs C o x =
-    elim (ℕ-discrete x y) [ yes e ↦ rw (eqb-yes x y e, e, no→false (has y xs) (o .0)) | no q ↦ rw (eqb-no x y q) ]
+    elim (ℕ-discrete x y) [ yes e ↦ rw (eq-eqb x y e, e, no→false (has y xs) (o .0)) | no q ↦ rw (ne-eqb x y q) ]
 
 module _ (n : ℕ) (old : List ℤ) (room : 5 * n ≤ length old) where
   pub fold-acts : (f : List ℤ → ℕ → List ℤ) (h : Cell → Cell)

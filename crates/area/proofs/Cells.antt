@@ -20,10 +20,6 @@ mine-here rows columns vs row column h =
 pub cell-below : (rows columns row column : ℕ) → row < rows → column < columns → column * rows + row < rows * columns
 cell-below rows columns row column h k = omega (arith, mul-le-mul-right rows k)
 
--- a place in the grid's values too
-pub place-below : (rows columns row column : ℕ) → row < rows → column < columns → row * columns + column < rows * columns
-place-below rows columns row column h k = omega (arith, mul-le-mul-right columns h)
-
 -- a cell by its column
 pub placed : (g : Grid) (rows y q : ℕ) → g .rows ≡ rows → columnOf g y ≡ q → q * rows + rowOf g y ≡ y
 placed g rows y q e f = rw (← f, ← e) (index-of g y)

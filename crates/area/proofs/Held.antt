@@ -15,11 +15,12 @@ use Rattle.game.proofs.Areas.{laid-length}
 use Rattle.game.proofs.Counts.{count-le}
 use Rattle.game.proofs.Ranges.{gain-range, length-square}
 use Rattle.game.proofs.Squares.{self-close}
-use Rattle.game.proofs.Truth.{eqb-no, eqb-yes, iff, no→false}
+use Rattle.game.proofs.Truth.{iff, no→false}
 use Rattle.game.proofs.Zeros.{zero→}
 use Rattle.area.specs.Numbers.{firstAt, kindAt, premiumAt, secondAt, stateAt}
 use Rattle.area.specs.Stages.{Stands, held, heldFive, kind, raised}
 use Rattle.area.proofs.CellByCell.{Cell, cellArea, read-first, read-kind, read-premium, read-second, read-state}
+use borrow.Author.Tests.{eq-eqb, ne-eqb}
 
 -- the work area during play is as long as it was
 pub length-held : (g : Grid) (s : Position) (old : List ℤ) → 5 * size g ≤ length old → length (held g s old) ≡ length old
@@ -65,14 +66,14 @@ kind-mine g x = go (mine g x)
   where
     go : (b : Bool) → eqb (cond b 0 (1 + number g x)) 0 ≡ b
     go true = refl
-    go false = eqb-no (1 + number g x) 0 (λ e. absurd (omega arith))
+    go false = ne-eqb (1 + number g x) 0 (λ e. absurd (omega arith))
 
 -- a safe cell of kind 1 has number 0
 pub one-more : (n : ℕ) → eqb (1 + n) 1 ≡ eqb n 0
 one-more n =
     iff (eqb (1 + n) 1) (eqb n 0)
-    (λ t. subst T (sym (eqb-yes n 0 (omega (arith, eqb→eq (1 + n) 1 t)))) tt)
-    (λ t. subst T (sym (eqb-yes (1 + n) 1 (omega (arith, eqb→eq n 0 t)))) tt)
+    (λ t. subst T (sym (eq-eqb n 0 (omega (arith, eqb→eq (1 + n) 1 t)))) tt)
+    (λ t. subst T (sym (eq-eqb (1 + n) 1 (omega (arith, eqb→eq n 0 t)))) tt)
 
 -- kind 1 is a 0-cell: a mine has no number 0
 pub kind-zero : (g : Grid) (i : ℕ) → i < size g → eqb (kind g i) 1 ≡ zeroCell g i

@@ -6,10 +6,10 @@ use mathlib.Core.List.{List}
 use lib.Dec.{eqb}
 use lib.IntN.{ℤ}
 use lib.ListN.{length}
-use Rattle.game.proofs.Truth.{eqb-no}
 use Rattle.area.specs.Numbers.{kindAt, premiumAt, premiumPlace, putPremium}
 use Rattle.area.specs.Squares.{shifted}
 use Rattle.area.proofs.Puts.{put-length}
+use borrow.Author.Tests.{ne-eqb}
 
 pub length-shift : (up down : ℕ) (w : List ℤ) (i : ℕ) → length (shifted up down w i) ≡ length w
 unfolding shifted
@@ -26,4 +26,4 @@ module _ (up down : ℕ) (w : List ℤ) (i k : ℕ) (e : k ≡ kindAt w i) where
 
   pub shift-safe : (p q : ℕ) (v : List ℤ) → (k ≡ 0 → ⊥) → p ≡ premiumAt w i → q ≡ p + up - down → v ≡ putPremium w i q → v ≡ shifted up down w i
   unfolding shifted
-  shift-safe p q v t f h s = s ∙ rw (← e, eqb-no k 0 t, ← f, ← h)
+  shift-safe p q v t f h s = s ∙ rw (← e, ne-eqb k 0 t, ← f, ← h)

@@ -9,6 +9,7 @@ use mathlib.Core.Option.{Option, none, some}
 use lib.IntN.{ℤ}
 use lib.Dec.{T, eqb, eqb→eq, leb, ltb, le→leb, lt→ltb}
 use lib.ListN.{drop, length, length-map, length-take, take}
+use lib.Seq.{take-at}
 use borrow.Author.Tests.{le-ltb}
 use Rattle.game.specs.Calls.{Answer, Outcome, Refusal, aboveCheck, firstGiven, gridChecks, replayCall, replayed, trace, unless}
 use Rattle.game.specs.Grid.{Grid, size}
@@ -25,7 +26,6 @@ use Rattle.records.specs.declared.MoveRecord.{MoveRecord}
 use Rattle.records.proofs.Copies.{length-over, over-begun}
 use Rattle.records.proofs.Words.{word-record}
 use Rattle.by_records.specs.Promises.{copiedIf, copiedWords, replayRecordsCall, replayWithin}
-use Rattle.zini.proofs.Written.{first-words}
 
 take-map : {A B : Type 0} (f : A → B) (n : ℕ) (xs : List A) → take n (map f xs) ≡ map f (take n xs)
 take-map f zero xs = refl
@@ -140,7 +140,7 @@ module _ (g : Grid) (ws : List ℤ) (n : ℕ) where
     begins : n ≤ length run → take n (over words ms) ≡ words
     begins h =
         let long = length-map (take n run) (moveWord (g .rows)) ∙ length-take n run in
-        ap (take n) (over-begun words ms (omega (arith, long))) ∙ first-words words (drop (length words) ms) n (omega (arith, long))
+        ap (take n) (over-begun words ms (omega (arith, long))) ∙ take-at words (drop (length words) ms) n (omega (arith, long))
 
     -- nothing is refused: the words stand in the list, and are played
     module _ (fine : checked (length run) ≡ none) where

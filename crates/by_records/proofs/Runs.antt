@@ -1,13 +1,13 @@
 -- What stands in a run after a call: a round's moves as records, zeros after DRAWS, nothing new after another refusal; and the words of a replay. Assumes nothing.
 use Prim.Native.Nat.{ℕ, zero, suc, _/_}
 use native.Mathlib.Nat.{zero-div, zero-mod}
-use mathlib.Core.Path.{_≡_, refl, ap, sym, _∙_}
+use mathlib.Core.Path.{_≡_, refl, ap, _∙_}
 use mathlib.Core.List.{List, _∷_, _++_, map}
 use lib.ListN.{drop, length, length-map, length-replicate, replicate, take}
+use lib.Seq.{take-at}
 use Rattle.game.specs.Area.{clearedList, listOf}
 use Rattle.game.specs.Grid.{Grid, size}
 use Rattle.game.specs.Moves.{Move, word}
-use Rattle.zini.proofs.Written.{first-words}
 use Rattle.records.specs.Records.{noMove, over, recordOf}
 use Rattle.records.specs.declared.MoveRecord.{MoveRecord}
 
@@ -15,7 +15,7 @@ use Rattle.records.specs.declared.MoveRecord.{MoveRecord}
 pub run-of-moves : (rows : ℕ) (played : List Move) (ms : List ℕ) (run : List MoveRecord) → over (map (recordOf rows) (take (length played) (listOf played ms))) run ≡ over (map (recordOf rows) (map word played)) run
 unfolding listOf
 run-of-moves rows played ms run =
-    ap (λ (l : List ℕ). over (map (recordOf rows) l) run) (first-words (map word played) (drop (length (map word played)) ms) (length played) (sym (length-map played word)))
+    ap (λ (l : List ℕ). over (map (recordOf rows) l) run) (take-at (map word played) (drop (length (map word played)) ms) (length played) (length-map played word))
 
 -- the word 0 is no move
 zero-word : (rows : ℕ) → recordOf rows 0 ≡ noMove
@@ -29,5 +29,5 @@ zero-words rows (suc n) = ap (λ (m : MoveRecord). m ∷ map (recordOf rows) (re
 pub run-of-zeros : (g : Grid) (ms : List ℕ) (run : List MoveRecord) → over (map (recordOf (g .rows)) (take (size g) (clearedList g ms))) run ≡ over (replicate (size g) noMove) run
 unfolding clearedList
 run-of-zeros g ms run =
-    ap (λ (l : List ℕ). over (map (recordOf (g .rows)) l) run) (first-words (replicate (size g) 0) (drop (length (replicate (size g) 0)) ms) (size g) (sym (length-replicate (size g) 0)))
+    ap (λ (l : List ℕ). over (map (recordOf (g .rows)) l) run) (take-at (replicate (size g) 0) (drop (length (replicate (size g) 0)) ms) (size g) (length-replicate (size g) 0))
     ∙ ap (λ (l : List MoveRecord). over l run) (zero-words (g .rows) (size g))

@@ -1,8 +1,8 @@
 -- A column's highest premium: no cell looked at has more, and one has it if it is 10 or more. The first column that has the highest of all. Assumes nothing.
 use Rattle.choices.specs.declared.Best.{Best}
-use Prim.Native.Nat.{ℕ, _%_, _*_, _+_, _-_, _/_, _<_, _≤_, suc, zero}
+use Prim.Native.Nat.{_%_, _*_, _+_, _-_, _/_, _<_, _≤_, suc, zero, zero-le, ℕ}
 use native.Mathlib.Omega.{arith}
-use native.Mathlib.Nat.{add-zero, div-add-mod', div-lt-iff-lt-mul, mod-lt}
+use native.Mathlib.Nat.{add-sub-of-le, add-zero, div-add-mod', div-lt-iff-lt-mul, mod-lt}
 use native.Mathlib.Decide.{decLt, ℕ-discrete}
 use mathlib.Core.Path.{_∙_, _≡_, ap, refl, subst, sym}
 use mathlib.Core.Logic.{_⊎_, inl, inr, ⊎-elim}
@@ -13,7 +13,7 @@ use lib.Dec.{T, eqb, eqb-refl, eqb→eq, ltb}
 use lib.IntN.{ℤ}
 use Rattle.area.specs.Numbers.{premiumAt}
 use Rattle.game.specs.Lists.{fold, from, has, range}
-use Rattle.game.proofs.Members.{has-cases, has-head, has-range, has-tail, range-has}
+use Rattle.game.proofs.Members.{has-cases, has-head, has-range, has-tail, range-has, suc-across}
 use Rattle.game.proofs.Truth.{and-left, and-right}
 use Rattle.choices.specs.Tests.{lookedAt, topAt}
 use Rattle.choices.specs.Tops.{columnTop, firstOf, higherOf, topWith}
@@ -165,16 +165,10 @@ module _ (openedOnly : Bool) (w : List ℤ) (rows columns : ℕ) where
   led-from : (k i : ℕ) (b : Best) → Led openedOnly w rows columns i b → Led openedOnly w rows columns (i + k) (fold (λ d c. higherOf d (columnTop openedOnly w rows c) c) b (from i k))
   led-from zero i b l = subst (λ (m : ℕ). Led openedOnly w rows columns m b) (sym (add-zero i)) l
   led-from (suc k) i b l =
-      subst (λ (m : ℕ). Led openedOnly w rows columns m (fold (λ d c. higherOf d (columnTop openedOnly w rows c) c) b (from i (suc k)))) (up i k)
+      subst (λ (m : ℕ). Led openedOnly w rows columns m (fold (λ d c. higherOf d (columnTop openedOnly w rows c) c) b (from i (suc k)))) (suc-across i k)
       (led-from k (suc i) (higherOf b (columnTop openedOnly w rows i) i) (led-one i b l))
-    where
-      up : (i k : ℕ) → suc i + k ≡ i + suc k
-      up i k = omega arith
 
   pub led-all : Led openedOnly w rows columns columns (firstOf openedOnly w rows columns columns)
   led-all =
-      subst (λ (m : ℕ). Led openedOnly w rows columns m (firstOf openedOnly w rows columns columns)) (all columns)
+      subst (λ (m : ℕ). Led openedOnly w rows columns m (firstOf openedOnly w rows columns columns)) (add-sub-of-le zero-le)
       (led-from (columns - 0) 0 (record { top = 9; at = columns }) (record { bound = λ c h. absurd (omega arith); which = inl (refl, refl) }))
-    where
-      all : (n : ℕ) → 0 + (n - 0) ≡ n
-      all n = omega arith

@@ -1,7 +1,8 @@
 -- The first cell of a column that passes a test: none before it does. Assumes nothing.
 use Prim.Native.Nat.{ℕ, _*_, _+_, _-_, _<_, _≤_}
 use native.Mathlib.Omega.{arith}
-use mathlib.Core.Path.{_≡_, subst}
+use native.Mathlib.Nat.{add-sub-of-le}
+use mathlib.Core.Path.{_≡_, subst, sym}
 use mathlib.Core.Bool.{Bool, false, true}
 use lib.Dec.{T}
 use lib.ListN.{getD}
@@ -10,10 +11,7 @@ use Rattle.choices.proofs.Passing.{first-at, first-none}
 
 module _ (f : ℕ → Bool) (rows column : ℕ) where
   before : (row : ℕ) → ((k : ℕ) → k < row → f (column * rows + k) ≡ false) → (j : ℕ) → column * rows ≤ j → j < column * rows + row → T (f j) → ⊥
-  before row n j l h t = subst T (n (j - column * rows) (omega arith)) (subst (λ (i : ℕ). T (f i)) (there j l) t)
-    where
-      there : (j : ℕ) → column * rows ≤ j → j ≡ column * rows + (j - column * rows)
-      there j l = omega arith
+  before row n j l h t = subst T (n (j - column * rows) (omega arith)) (subst (λ (i : ℕ). T (f i)) (sym (add-sub-of-le l)) t)
 
   pub column-first : (row i : ℕ) → row < rows → i ≡ column * rows + row → true ≡ f i → ((k : ℕ) → k < row → f (column * rows + k) ≡ false)
       → i ≡ getD (keep f (range (column * rows) (column * rows + rows))) 0 0

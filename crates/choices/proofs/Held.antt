@@ -1,5 +1,5 @@
 -- What the numbers of a work area that stands for a position say of each cell: its premium, whether it is looked at, whether it is a closed unit. Assumes nothing.
-use borrow.Author.Tests.{lt-ltb, le-ltb}
+use borrow.Author.Tests.{le-ltb, lt-ltb, ne-eqb}
 use Prim.Native.Nat.{ℕ, _+_, _-_, _<_, _≤_, suc, zero}
 use native.Mathlib.Omega.{arith}
 use native.Mathlib.Decide.{decLt}
@@ -22,7 +22,7 @@ use Rattle.game.proofs.Labels.{first-label}
 use Rattle.game.proofs.Members.{has-keep, has-range, keep-ext, keep-has}
 use Rattle.game.proofs.Ranges.{cost-range}
 use Rattle.game.proofs.Squares.{cells→, →cells}
-use Rattle.game.proofs.Truth.{T→true, and-both, and-left, and-right, eqb-no, iff, no→false}
+use Rattle.game.proofs.Truth.{T→true, and-both, and-left, and-right, iff, no→false}
 
 -- ---- premiums by what is kept of them
 
@@ -139,7 +139,7 @@ module _ (g : Grid) (s : Position) (w : List ℤ) (r : Holds g s w) where
           ≡ (not b && c && (eqb (number g i) 0 || (not b && eqb (firstLabel g i) 0)))
       go true true = refl
       go true false = refl
-      go false true = rw (eqb-no (1 + number g i) 0 (λ e. omega arith), one-more (number g i))
+      go false true = rw (ne-eqb (1 + number g i) 0 (λ e. omega arith), one-more (number g i))
       go false false = refl
 
   pub units-there : unitCells g s ≡ keep (unitAt w) (range 0 (size g))

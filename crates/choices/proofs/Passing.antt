@@ -5,19 +5,15 @@ use native.Mathlib.Omega.{arith}
 use native.Mathlib.Decide.{ℕ-discrete, decLt}
 use mathlib.Core.Path.{_∙_, _≡_, ap, refl, subst, sym}
 use mathlib.Core.Bool.{Bool, false, true}
-use mathlib.Core.List.{List, [], _∷_}
+use mathlib.Core.List.{List, _∷_}
 use lib.Dec.{T}
 use lib.ListN.{List·getD-eq-default, getD}
 use Rattle.choices.specs.Picks.{foundFirst}
-use Rattle.game.specs.Lists.{bit, count, from, has, keep, range}
+use Rattle.game.specs.Lists.{bit, count, from, keep, range}
 use Rattle.game.proofs.Counts.{count-none, length-keep}
-use Rattle.game.proofs.Members.{first-of, has-from, has-range, keep-has}
+use Rattle.game.proofs.Members.{has-from, has-range, keep-has, none-there}
 
 -- ---- lists in index order
-
-pub none-there : (xs : List ℕ) → ((x : ℕ) → T (has x xs) → ⊥) → xs ≡ []
-none-there [] n = refl
-none-there (x ∷ xs) n = absurd (first-of x xs n)
 
 -- ---- the first that passes
 

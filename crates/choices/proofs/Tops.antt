@@ -26,16 +26,17 @@ use Rattle.game.specs.Position.{Position, opened, premium}
 use Rattle.game.specs.Rounds.{highest, leastChosen, looked, same, topCells}
 use Rattle.choices.proofs.Columns.{Leading, Led, cell-bound, column-has, led-all, top→looked}
 use Rattle.choices.proofs.Held.{looked→, premium→raised, raised→premium, raised→safe, reaches→, →looked, →reaches}
-use Rattle.choices.proofs.Passing.{first-there, found-at, none-there}
+use Rattle.choices.proofs.Passing.{first-there, found-at}
 use Rattle.game.proofs.Choices.{top→, →top}
-use Rattle.game.proofs.Members.{has-keep, keep-has, range-has}
+use Rattle.game.proofs.Members.{has-keep, keep-has, none-there, range-has}
 use Rattle.game.proofs.Orders.{ordered-same, ordered-keep, ordered-range}
 use Rattle.game.proofs.Squares.{cells→, →cells}
-use Rattle.game.proofs.Truth.{and-both, eqb-yes}
+use Rattle.game.proofs.Truth.{and-both}
+use borrow.Author.Tests.{eq-eqb}
 
 looked→top : (openedOnly : Bool) (m : ℕ) (w : List ℤ) (i : ℕ) → T (lookedAt openedOnly w i) → premiumAt w i ≡ m → T (topAt openedOnly m w i)
 looked→top openedOnly m w i t e =
-    and-both (lookedAt openedOnly w i) (eqb (premiumAt w i) m) t (subst T (sym (eqb-yes (premiumAt w i) m e)) tt)
+    and-both (lookedAt openedOnly w i) (eqb (premiumAt w i) m) t (subst T (sym (eq-eqb (premiumAt w i) m e)) tt)
 
 -- ---- none that is looked at has more
 

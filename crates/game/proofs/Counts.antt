@@ -9,7 +9,8 @@ use lib.Dec.{T, eqb, eqb→eq}
 use lib.ListN.{length}
 use Rattle.game.specs.Lists.{Each, bit, count, has, keep, range}
 use Rattle.game.proofs.Members.{first-of, has-cases, has-head, has-tail, range-more, rest-of}
-use Rattle.game.proofs.Truth.{T→true, and-false, and-left, and-true, eqb-no, eqb-yes, no→false}
+use Rattle.game.proofs.Truth.{T→true, and-false, and-left, and-true, no→false}
+use borrow.Author.Tests.{eq-eqb, ne-eqb}
 
 -- ---- counts
 
@@ -126,10 +127,10 @@ count-point f x (y ∷ ys) o t =
           let z : count (λ j. eqb j x && f j) ys ≡ 0 = count-none (λ j. eqb j x && f j) ys
           (λ j u v. o .0 (rw (e ∙ sym (eqb→eq j x (and-left (eqb j x) (f j) v))) u)) in
           let q : bit (eqb y x && f y) ≡ bit (f x) =
-          ap (λ (b : Bool). bit (b && f y)) (eqb-yes y x e) ∙ ap (λ (k : ℕ). bit (f k)) e in
+          ap (λ (b : Bool). bit (b && f y)) (eq-eqb y x e) ∙ ap (λ (k : ℕ). bit (f k)) e in
           omega arith
       | no n ↦
-          let q : bit (eqb y x && f y) ≡ 0 = ap (λ (b : Bool). bit (b && f y)) (eqb-no y x n) in
+          let q : bit (eqb y x && f y) ≡ 0 = ap (λ (b : Bool). bit (b && f y)) (ne-eqb y x n) in
           let r = has-cases x y ys (λ u. absurd (n (sym u))) (λ u. count-point f x ys (o .1) u) t in
           omega arith
     ]
@@ -165,8 +166,8 @@ count-drop f h c xs o e z =
     one : (x : ℕ) → (f x && not (eqb x c)) ≡ h x
     one x =
         elim (ℕ-discrete x c) [
-          | yes q ↦ ap (λ (b : Bool). f x && not b) (eqb-yes x c q) ∙ sym (and-false (f x)) ∙ sym (ap h q ∙ z)
-          | no n ↦ ap (λ (b : Bool). f x && not b) (eqb-no x c n) ∙ sym (and-true (f x)) ∙ e x n
+          | yes q ↦ ap (λ (b : Bool). f x && not b) (eq-eqb x c q) ∙ sym (and-false (f x)) ∙ sym (ap h q ∙ z)
+          | no n ↦ ap (λ (b : Bool). f x && not b) (ne-eqb x c n) ∙ sym (and-true (f x)) ∙ e x n
         ]
 
     point : (b : Bool) → has c xs ≡ b → count (λ x. eqb x c && f x) xs ≡ bit (b && f c)

@@ -17,8 +17,9 @@ use Rattle.game.proofs.Members.{first-of, has-cases, has-head, rest-of,
 use Rattle.game.proofs.Openings.{Apart, Full, In, covered, good}
 use Rattle.game.proofs.Orders.{Ordered}
 use Rattle.game.proofs.Squares.{Close, close-sym, in-own-square, self-close, square→}
-use Rattle.game.proofs.Truth.{T→true, eqb-no, iff, no→false, or-cases, or-left, or-right}
+use Rattle.game.proofs.Truth.{T→true, iff, no→false, or-cases, or-left, or-right}
 use Rattle.game.proofs.Zeros.{Zero, zero→}
+use borrow.Author.Tests.{ne-eqb}
 
 -- ---- at most two labels: of three 0-cells in one square two are joined
 
@@ -167,7 +168,7 @@ places-at g i k (suc n) (o ∷ os) h =
     go (holds g i o) ∙ ap (λ (x : ℕ). has x (places g i (suc k) os)) (sym (suc-across k n)) ∙ places-at g i (suc k) n os (omega arith)
   where
     go : (b : Bool) → has (k + suc n) (elim b [ true ↦ k ∷ places g i (suc k) os | false ↦ places g i (suc k) os ]) ≡ has (k + suc n) (places g i (suc k) os)
-    go true = ap (λ (b : Bool). b || has (k + suc n) (places g i (suc k) os)) (eqb-no (k + suc n) k (λ e. omega arith))
+    go true = ap (λ (b : Bool). b || has (k + suc n) (places g i (suc k) os)) (ne-eqb (k + suc n) k (λ e. omega arith))
     go false = refl
 
 -- one opening more adds its number, if it holds the cell
@@ -202,7 +203,7 @@ pub label-marks : (g : Grid) (i : ℕ) → i < size g → length (labels g i) �
 label-marks g i h = go (labels g i) (at-most-two g i h) (λ x t. labels-range g i x t .0)
   where
     one : (x : ℕ) → 1 ≤ x → bit (not (eqb x 0)) ≡ 1
-    one x k = ap (λ (b : Bool). bit (not b)) (eqb-no x 0 (λ e. omega arith))
+    one x k = ap (λ (b : Bool). bit (not b)) (ne-eqb x 0 (λ e. omega arith))
 
     go : (ls : List ℕ) → length ls ≤ 2 → ((x : ℕ) → T (has x ls) → 1 ≤ x) → length ls ≡ bit (not (eqb (getD ls 0 0) 0)) + bit (not (eqb (getD ls 1 0) 0))
     go [] l f = refl

@@ -24,9 +24,10 @@ use Rattle.game.proofs.Orders.{once-keep}
 use Rattle.game.proofs.Owners.{owner}
 use Rattle.game.proofs.Reveal.{Revealed, no-zero-near, opens, reveal-one, revealed, stays, sweeps}
 use Rattle.game.proofs.Squares.{close-sym, once-square, square→, →square}
-use Rattle.game.proofs.Truth.{T-other, and-both, and-left, and-right, eqb-no, eqb-yes, no→false}
+use Rattle.game.proofs.Truth.{T-other, and-both, and-left, and-right, no→false}
 use Rattle.game.proofs.Units.{after-append}
 use Rattle.game.proofs.Zeros.{Zero}
+use borrow.Author.Tests.{eq-eqb, ne-eqb}
 
 pub legal-append : (g : Grid) (ms ns : List Move) (s : Position) → AllLegal g s ms → AllLegal g (after g s ms) ns → AllLegal g s (ms ++ ns)
 legal-append g [] ns s h k = k
@@ -94,9 +95,9 @@ flags-at g (x ∷ js) t j h =
     flags-at g js (set t x 2) j (rw (length-set t x 2) h)
     ∙ elim (ℕ-discrete j x) [
       | yes e ↦ ap (λ (v : ℕ). cond (has j js) 2 v) (ap (λ (k : ℕ). getD (set t x 2) k 0) e ∙ getD-set-same t x 2 0 (rw (← e) h)) ∙ two (has j js)
-          ∙ sym (ap (λ (b : Bool). cond (b || has j js) 2 (getD t j 0)) (eqb-yes j x e))
+          ∙ sym (ap (λ (b : Bool). cond (b || has j js) 2 (getD t j 0)) (eq-eqb j x e))
       | no n ↦ ap (λ (v : ℕ). cond (has j js) 2 v) (getD-set-other t x j 2 0 n)
-          ∙ sym (ap (λ (b : Bool). cond (b || has j js) 2 (getD t j 0)) (eqb-no j x n))
+          ∙ sym (ap (λ (b : Bool). cond (b || has j js) 2 (getD t j 0)) (ne-eqb j x n))
     ]
   where
     two : (b : Bool) → _≡_ {A = ℕ} (cond b 2 2) 2

@@ -20,8 +20,9 @@ use Rattle.game.proofs.Openings.{Full, good}
 use Rattle.game.proofs.Owners.{Even, even-closed, owner, same-holds}
 use Rattle.game.proofs.Reveal.{Revealed, flag-stays, getD-sweep, mine-off, opens, reveal-opening, revealed, stays, sweeps, unlabelled-off, unlabelled-safe, zero-safe}
 use Rattle.game.proofs.Squares.{once-square, square→}
-use Rattle.game.proofs.Truth.{T→true, and-false, and-inside, and-true, and-under, eqb-no, eqb-yes, no→false}
+use Rattle.game.proofs.Truth.{T→true, and-false, and-inside, and-true, and-under, no→false}
 use Rattle.game.proofs.Zeros.{Zero}
+use borrow.Author.Tests.{eq-eqb, ne-eqb}
 
 -- ---- a difference whose two parts fall
 
@@ -74,11 +75,11 @@ module _ (g : Grid) (s : Position) (c : ℕ) (inside : c < size g) (long : lengt
         | yes e ↦
             let b = ap (λ (k : ℕ). bit (eqb k 0)) (ap (λ (k : ℕ). getD (set s c 1) k 0) e ∙ state-c) in
             let d = bit-yes (closed s x) (rw e shut) in
-            let k = ap bit (eqb-yes x c e) in
+            let k = ap bit (eq-eqb x c e) in
             omega arith
         | no n ↦
             let b = ap bit (closed-off x n) in
-            let k = ap bit (eqb-no x c n) in
+            let k = ap bit (ne-eqb x c n) in
             omega arith
       ]
 

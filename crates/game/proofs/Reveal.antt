@@ -19,8 +19,9 @@ use Rattle.game.proofs.Labels.{zero→labelled}
 use Rattle.game.proofs.Members.{all-ext, all-has, first-of, rest-of, some-yes, yes-some}
 use Rattle.game.proofs.Openings.{Full, joinedTo→, →joinedTo}
 use Rattle.game.proofs.Squares.{Close, close-sym, getD-cells, in-own-square, length-cells, self-close, square→, →square}
-use Rattle.game.proofs.Truth.{T→true, and-both, and-false, and-left, and-right, and-true, eqb-no, eqb-yes, not-or, no→false}
+use Rattle.game.proofs.Truth.{T→true, and-both, and-false, and-left, and-right, and-true, not-or, no→false}
 use Rattle.game.proofs.Zeros.{Zero, zero→}
+use borrow.Author.Tests.{eq-eqb, ne-eqb}
 
 -- a reveal leaves the position, opens one cell, or sweeps an opening
 pub data Revealed (g : Grid) (s : Position) (c : ℕ) : Position → Type 0 where
@@ -153,9 +154,9 @@ pub reveal-unlabelled : (g : Grid) (s : Position) (c j : ℕ) → c < size g →
 reveal-unlabelled g s c j h l k =
     elim (ℕ-discrete j c) [
       | yes e ↦ ap (closed (reveal g s c)) e ∙ reveal-self g s c h l (subst (λ (x : ℕ). T (safe g x)) e (unlabelled-safe g j (k .bare)))
-          ∙ and-false (closed s j) ∙ ap (λ (b : Bool). closed s j && not b) (sym (eqb-yes j c e))
+          ∙ and-false (closed s j) ∙ ap (λ (b : Bool). closed s j && not b) (sym (eq-eqb j c e))
       | no n ↦ reveal-same g s c j (k .inside) n (λ z t. unlabelled-off g j c (k .bare) (record { inside = h; none = z }) t)
-          ∙ and-true (closed s j) ∙ ap (λ (b : Bool). closed s j && not b) (sym (eqb-no j c n))
+          ∙ and-true (closed s j) ∙ ap (λ (b : Bool). closed s j && not b) (sym (ne-eqb j c n))
     ]
 
 -- ---- openings

@@ -1,9 +1,8 @@
 -- Computed tests: what holds of `T`, `&&`, `||` and `not`, each by the cases of its tests. Assumes nothing.
-use Prim.Native.Nat.{ℕ}
 use mathlib.Core.Path.{_≡_, refl, subst, sym}
 use mathlib.Core.Logic.{_⊎_, inl, inr}
 use mathlib.Core.Bool.{Bool, _&&_, _||_, false, not, true}
-use lib.Dec.{T, eqb, eqb-refl, eqb→eq, not-T}
+use lib.Dec.{T, not-T}
 
 pub or-left : (a b : Bool) → T a → T (a || b)
 or-left true b t = tt
@@ -100,11 +99,3 @@ absorb false b c h = refl
 pub and-inside : (a b c d : Bool) → (T a → c ≡ (b && not d)) → (a && b && not d) ≡ (a && c)
 and-inside true b c d h = sym (h tt)
 and-inside false b c d h = refl
-
--- two different numbers
-pub eqb-no : (m n : ℕ) → (m ≡ n → ⊥) → eqb m n ≡ false
-eqb-no m n f = no→false (eqb m n) (λ t. f (eqb→eq m n t))
-
--- two equal numbers
-pub eqb-yes : (m n : ℕ) → m ≡ n → eqb m n ≡ true
-eqb-yes m n e = T→true (eqb m n) (rw e (eqb-refl n))

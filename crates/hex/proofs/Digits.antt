@@ -10,23 +10,12 @@ use Rattle.hex.specs.Hex.{between, hexDigit, hexValue, isDecimal, isLett
 use Rattle.hex.specs.Characters.{characterOf}
 use Rattle.hex.specs.declared.Character.{Character}
 use Rattle.hex.specs.declared.Character.the-variants.{Digit, End, Wrong}
+use Rattle.game.proofs.Truth.{and-no, and-yes}
 
 -- ---- the tests
 
 both : (p q : Bool) → p ≡ true → q ≡ true → (p && q) ≡ true
 both p q e f = ap (λ (x : Bool). x && q) e ∙ f
-
-second-fails : (p q : Bool) → q ≡ false → (p && q) ≡ false
-second-fails true q e = e
-second-fails false q e = refl
-
-first-holds : (p q : Bool) → (p && q) ≡ true → p ≡ true
-first-holds true q e = refl
-first-holds false q e = e
-
-second-holds : (p q : Bool) → (p && q) ≡ true → q ≡ true
-second-holds true q e = e
-second-holds false q e = absurd (let z : _≡_ {A = ℕ} 0 1 = cc in omega arith)
 
 pub inside : (low high b : ℕ) → low ≤ b → b ≤ high → between low high b ≡ true
 inside low high b l h = both (leb low b) (leb b high) (le-leb low b l) (le-leb b high h)
@@ -35,13 +24,13 @@ pub under : (low high b : ℕ) → b < low → between low high b ≡ false
 under low high b h = ap (λ (x : Bool). x && leb b high) (lt-leb low b h)
 
 pub over : (low high b : ℕ) → high < b → between low high b ≡ false
-over low high b h = second-fails (leb low b) (leb b high) (lt-leb b high h)
+over low high b h = and-no (leb low b) (leb b high) (lt-leb b high h)
 
 pub from-low : (low high b : ℕ) → between low high b ≡ true → low ≤ b
-from-low low high b e = leb-true low b (first-holds (leb low b) (leb b high) e)
+from-low low high b e = leb-true low b (and-yes (leb low b) (leb b high) e .0)
 
 pub to-high : (low high b : ℕ) → between low high b ≡ true → b ≤ high
-to-high low high b e = leb-true b high (second-holds (leb low b) (leb b high) e)
+to-high low high b e = leb-true b high (and-yes (leb low b) (leb b high) e .1)
 
 -- ---- what a byte is
 

@@ -1,15 +1,15 @@
 -- Lent runs filled from their start, and tests over a run one place at a time. Assumes nothing.
-use Prim.Native.Nat.{ℕ, zero, suc, _+_, _-_, _<_, _≤_}
+use Prim.Native.Nat.{ℕ, suc, _+_, _-_, _<_, _≤_}
 use native.Mathlib.Omega.{arith}
 use native.Mathlib.Numerals.{add-one}
-use mathlib.Core.Path.{_≡_, ap, refl, sym, _∙_}
+use mathlib.Core.Path.{_≡_, ap, sym, _∙_}
 use mathlib.Core.Bool.{Bool, true, false, _||_}
 use mathlib.Core.List.{List, [], _∷_, _++_, map, map-append}
 use lib.ListN.{drop, getD, length, length-append, length-map, set}
 use lib.Seq.{append-snoc, drop-cons, set-at}
 use Rattle.game.specs.Lists.{from, range, some-of}
 use Rattle.game.specs.Area.{begun}
-use Rattle.game.proofs.Members.{range-more}
+use Rattle.game.proofs.Members.{length-from, range-more}
 
 -- ---- tests over a run
 
@@ -51,13 +51,9 @@ module _ {A : Type 0} where
       ∙ sym (append-snoc front a (drop (suc n) old))
       ∙ ap (λ (k : ℕ). (front ++ (a ∷ [])) ++ drop k old) (sym long)
 
-length-from : (a n : ℕ) → length (from a n) ≡ n
-length-from a zero = refl
-length-from a (suc n) = ap suc (length-from (suc a) n)
-
 module _ {A : Type 0} (f : ℕ → A) where
   pub length-cells : (n : ℕ) → length (map f (range 0 n)) ≡ n
-  length-cells n = length-map (range 0 n) f ∙ length-from 0 (n - 0) ∙ omega arith
+  length-cells n = length-map (range 0 n) f ∙ length-from (n - 0) 0 ∙ omega arith
 
   pub cells-more : (n : ℕ) → map f (range 0 (n + 1)) ≡ map f (range 0 n) ++ (f n ∷ [])
   cells-more n = ap (map f) (range-more 0 n (omega arith)) ∙ map-append f (range 0 n) (n ∷ [])

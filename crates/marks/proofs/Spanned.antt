@@ -18,7 +18,7 @@ use Rattle.game.proofs.Members.{range-has, some-yes, yes-some}
 use Rattle.game.proofs.Openings.{→joinedTo}
 use Rattle.game.proofs.Reveal.{no-zero-near}
 use Rattle.game.proofs.Squares.{close-sym, column-lt, row-lt, square→}
-use Rattle.game.proofs.Truth.{and-both, and-left, eqb-yes, no→false, or-cases, or-left, or-right}
+use Rattle.game.proofs.Truth.{and-both, and-left, no→false, or-cases, or-left, or-right}
 use Rattle.game.proofs.Zeros.{Zero, zero→}
 use Rattle.area.specs.Numbers.{firstAt, kindAt, secondAt}
 use Rattle.area.specs.Stages.{Stands}
@@ -28,6 +28,7 @@ use Rattle.area.proofs.Spans.{Within, held-spans}
 use Rattle.marks.specs.Marks.{Clicked, Far, Marked, MarkedOr, Parted, Quiet, bordersClosed, columnShares, oneOf, sharesAt}
 use Rattle.marks.proofs.Held.{other-kind}
 use Rattle.marks.proofs.Marks.{marked-also, marked-both}
+use borrow.Author.Tests.{eq-eqb}
 
 -- a label that is some k is one of two, of which one is k
 one-label : (first second label k : ℕ) → 1 ≤ k → T (eqb label k) → T (eqb first k || eqb second k) → T (oneOf first second label)
@@ -36,8 +37,8 @@ one-label first second label k h e t =
     and-both (not (eqb label 0)) (eqb label first || eqb label second)
     (not-T (eqb label 0) (λ u. some (eqb→eq label 0 u) q))
     (⊎-elim
-    (λ u. or-left (eqb label first) (eqb label second) (subst T (sym (eqb-yes label first (q ∙ sym (eqb→eq first k u)))) tt))
-    (λ u. or-right (eqb label first) (eqb label second) (subst T (sym (eqb-yes label second (q ∙ sym (eqb→eq second k u)))) tt))
+    (λ u. or-left (eqb label first) (eqb label second) (subst T (sym (eq-eqb label first (q ∙ sym (eqb→eq first k u)))) tt))
+    (λ u. or-right (eqb label first) (eqb label second) (subst T (sym (eq-eqb label second (q ∙ sym (eqb→eq second k u)))) tt))
     (or-cases (eqb first k) (eqb second k) t))
   where
     some : label ≡ 0 → label ≡ k → ⊥
@@ -133,7 +134,7 @@ module _ (rows columns : ℕ) (g : Grid) (s : Position) (old w : List ℤ) (i : 
       bare : safe g i ≡ true → T (unlabelled g i)
       bare b =
           subst T (sym (first-label g i))
-          (and-both (safe g i) (eqb (firstLabel g i) 0) (subst T (sym b) tt) (subst T (sym (eqb-yes (firstLabel g i) 0 (sym (e ∙ held-numbers rows columns g s old w st .firsts i inside)))) tt))
+          (and-both (safe g i) (eqb (firstLabel g i) 0) (subst T (sym b) tt) (subst T (sym (eq-eqb (firstLabel g i) 0 (sym (e ∙ held-numbers rows columns g s old w st .firsts i inside)))) tt))
 
       near : (z : ℕ) → T (has z (square g i)) → Zero g z → (b : Bool) → mine g i ≡ b → ⊥
       near z t n true m = zero→ g z i n inside (close-sym g i z (square→ g i z inside t .1)) (subst T (sym m) tt)

@@ -22,11 +22,12 @@ use Rattle.game.proofs.Members.{keep-ext}
 use Rattle.game.proofs.Counts.{Once}
 use Rattle.game.proofs.Squares.{once-square}
 use Rattle.game.proofs.Tidy.{flag-tidy}
-use Rattle.game.proofs.Truth.{T→true, and-left, and-right, eqb-no, eqb-yes, no→false}
+use Rattle.game.proofs.Truth.{T→true, and-left, and-right, no→false}
 use Rattle.play.proofs.Changes.{flag-count}
 use Rattle.play.proofs.Chords.{square-of}
 use Rattle.play.proofs.Reveals.{inside, is-mine, is-safe, state-read}
 use Rattle.moves.proofs.Joins.{made-none, made-one}
+use borrow.Author.Tests.{eq-eqb, ne-eqb}
 
 -- ---- cells in turn
 
@@ -78,7 +79,7 @@ module _ (rows columns : ℕ) (w : List ℤ) (list : List ℕ) (t : State) (i : 
   pub flag-there : (k : ℕ) → k ≡ stateAt w i → k ≡ 2 → Over flagsFrom (i ∷ []) rows columns w list t w list t
   flag-there k e q =
       unflagged-not (λ g s old st. no→false (unflagged g s i) (λ u. T-not (flagged s i) (and-right (mine g i) (not (flagged s i)) u)
-      (rw (eqb-yes (getD s i 0) 2 (sym (state-read rows columns g s old w i h st k e) ∙ q)) tt)))
+      (rw (eq-eqb (getD s i 0) 2 (sym (state-read rows columns g s old w i h st k e) ∙ q)) tt)))
 
   -- a mine without flag
   pub flag-noted : (k m : ℕ) (w′ : List ℤ) (list′ : List ℕ) (t′ : State) → k ≡ kindAt w i → k ≡ 0 → m ≡ stateAt w i → (m ≡ 2 → ⊥)
@@ -92,7 +93,7 @@ module _ (rows columns : ℕ) (w : List ℤ) (list : List ℕ) (t : State) (i : 
       on g s old st f e =
           let a = is-mine rows columns g s old w i h st k ek zk in
           let ins = inside rows columns g s old w i h st in
-          let no : flagged s i ≡ false = eqb-no (getD s i 0) 2 (λ z. nm (state-read rows columns g s old w i h st m em ∙ z)) in
+          let no : flagged s i ≡ false = ne-eqb (getD s i 0) 2 (λ z. nm (state-read rows columns g s old w i h st m em ∙ z)) in
           let b : T (closed s i) = shut (closed s i) (sym no ∙ f .mines i ins a) in
           let c : unflagged g s i ≡ true = rw (T→true (mine g i) a, no) in
           subst (λ (ms : List Move). Made rows columns g s old ms list t w′ list′ t′) (sym (ap (FlagsFrom g s i []) c))

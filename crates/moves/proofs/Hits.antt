@@ -16,9 +16,10 @@ use Rattle.game.specs.Position.{Position, Tidy, closed, closedSafe}
 use Rattle.game.specs.Rounds.{afterStep, clickStep, movesOf, openingClicks}
 use Rattle.moves.specs.Promises.{Made}
 use Rattle.moves.specs.Walks.{Over, hitsFrom}
-use Rattle.game.proofs.Truth.{and-left, eqb-yes, no→false}
+use Rattle.game.proofs.Truth.{and-left, no→false}
 use Rattle.play.proofs.Reveals.{is-safe, is-zero}
 use Rattle.moves.proofs.Joins.{made-none}
+use borrow.Author.Tests.{eq-eqb}
 
 -- ---- cells in turn
 
@@ -66,7 +67,7 @@ module _ (rows columns : ℕ) (w : List ℤ) (list : List ℕ) (t : State) (i : 
       on : (g : Grid) (s : Position) (old : List ℤ) → Stands rows columns g s old w → Tidy g s → t .closed ≡ closedSafe g s → Made rows columns g s old (hitsFrom g s (i ∷ [])) list t w′ list′ t′
       on g s old st f c =
           let v = is-safe rows columns g s old w i h st k e (λ z. absurd (omega arith)) in
-          let z : zeroCell g i ≡ true = sym (is-zero rows columns g s old w i h st k e) ∙ eqb-yes k 1 one in
+          let z : zeroCell g i ≡ true = sym (is-zero rows columns g s old w i h st k e) ∙ eq-eqb k 1 one in
           subst (λ (ms : List Move). Made rows columns g s old ms list t w′ list′ t′)
           (either g s (closed s i) ∙ ap (λ (b : Bool). HitsFrom g s i [] (b && closed s i)) (sym z)) (q g s old st f v c)
 

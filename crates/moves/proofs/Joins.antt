@@ -16,16 +16,14 @@ use Rattle.game.specs.Position.{Position, Tidy, closedSafe}
 use Rattle.moves.specs.Promises.{Carried, Made}
 use Rattle.moves.specs.Walks.{Over}
 use Rattle.game.proofs.Units.{after-append}
+use Rattle.game.proofs.Members.{suc-across}
 
 -- ---- what is written behind what was written
 
 sets-append : (xs ys l : List ℕ) (i : ℕ) → sets (sets l i xs) (i + length xs) ys ≡ sets l i (xs ++ ys)
 sets-append [] ys l i = ap (λ (k : ℕ). sets l k ys) (add-zero i)
 sets-append (x ∷ xs) ys l i =
-    ap (λ (k : ℕ). sets (sets (set l i x) (suc i) xs) k ys) (up i (length xs)) ∙ sets-append xs ys (set l i x) (suc i)
-  where
-    up : (i n : ℕ) → i + suc n ≡ suc i + n
-    up i n = omega arith
+    ap (λ (k : ℕ). sets (sets (set l i x) (suc i) xs) k ys) (sym (suc-across i (length xs))) ∙ sets-append xs ys (set l i x) (suc i)
 
 module _ (rows columns : ℕ) (g : Grid) (s : Position) (old : List ℤ) where
   pub made-none : (w : List ℤ) (list : List ℕ) (t : State) → Stands rows columns g s old w → Tidy g s → t .closed ≡ closedSafe g s

@@ -1,16 +1,17 @@
 -- One more label at a cell: what it makes of the labels, and that all else stays. Putting it twice is putting it once. Assumes nothing.
 use Prim.Native.Nat.{ℕ, _%_, _<_, _≤_}
 use native.Mathlib.Omega.{arith}
-use mathlib.Core.Path.{_∙_, _≡_, ap, refl, sym}
+use mathlib.Core.Path.{_∙_, _≡_, ap, refl, subst, sym}
 use mathlib.Core.Bool.{Bool, _&&_, cond, false, not, true}
 use mathlib.Core.List.{List}
-use borrow.Author.Tests.{eq-eqb, eqb-false, eqb-true, lt-ltb, ltb-true, ne-eqb}
-use lib.Dec.{eqb, ltb}
+use borrow.Author.Tests.{eq-eqb, eqb-false, eqb-true, lt-ltb, ltb-true, ne-eqb, not-false, not-true}
+use lib.Dec.{T, eqb, ltb}
 use lib.IntN.{pos, ℤ}
 use lib.ListN.{getD, length, length-set, set}
 use lib.Seq.{getD-set-other, getD-set-same}
 use Rattle.area.specs.Numbers.{HasCell, firstAt, firstPlace, kindAt, kindPlace, natural, putAt, secondAt, secondPlace}
 use Rattle.openings.specs.Labels.{Fresh, bordered, edgeFirst, edgeSecond, freshCell, putLabel, numberedOf}
+use Rattle.game.proofs.Truth.{and-yes}
 
 -- a test decides
 pub split : {A : Type 0} (b : Bool) → (b ≡ true → A) → (b ≡ false → A) → A
@@ -98,35 +99,20 @@ module _ (w : List ℤ) (i op : ℕ) where
 
 -- ---- what the tests tell
 
-not-true : (r : Bool) → not r ≡ true → r ≡ false
-not-true true e = sym e
-not-true false e = refl
-
-not-false : (r : Bool) → not r ≡ false → r ≡ true
-not-false true e = refl
-not-false false e = sym e
-
-clash : false ≡ true → ⊥
-clash e = let one : _≡_ {A = ℕ} 1 0 = ap (λ (b : Bool). cond b 0 1) e in omega arith
-
-both : (a b : Bool) → (a && b) ≡ true → (a ≡ true) × (b ≡ true)
-both true b e = (refl, e)
-both false b e = absurd (clash e)
-
 module _ (n : ℕ) (w : List ℤ) (i : ℕ) (r : Bool) where
   pub fresh-yes : r ≡ freshCell n w i → not r ≡ false → Fresh n w i
   fresh-yes e t =
-      let a = both (ltb i n) (eqb (kindAt w i) 1 && eqb (firstAt w i) 0) (sym e ∙ not-false r t) in
-      let b = both (eqb (kindAt w i) 1) (eqb (firstAt w i) 0) (a .1) in
+      let a = and-yes (ltb i n) (eqb (kindAt w i) 1 && eqb (firstAt w i) 0) (sym e ∙ not-false r t) in
+      let b = and-yes (eqb (kindAt w i) 1) (eqb (firstAt w i) 0) (a .1) in
       record { inside = ltb-true i n (a .0); zero-cell = eqb-true (kindAt w i) 1 (b .0); unlabelled = eqb-true (firstAt w i) 0 (b .1) }
 
   pub fresh-no : r ≡ freshCell n w i → not r ≡ true → Fresh n w i → ⊥
   fresh-no e t f =
       let z : true ≡ freshCell n w i = simp (lt-ltb i n (f .inside), eq-eqb (kindAt w i) 1 (f .zero-cell), eq-eqb (firstAt w i) 0 (f .unlabelled)) in
-      clash (sym (not-true r t) ∙ e ∙ sym z)
+      subst T (sym (sym (not-true r t) ∙ e ∙ sym z)) tt
 
   pub numbered-inside : r ≡ numberedOf n w i → not r ≡ false → i < n
-  numbered-inside e t = ltb-true i n (both (ltb i n) (not (eqb (kindAt w i) 1)) (sym e ∙ not-false r t) .0)
+  numbered-inside e t = ltb-true i n (and-yes (ltb i n) (not (eqb (kindAt w i) 1)) (sym e ∙ not-false r t) .0)
 
   pub bordered-not : (op : ℕ) → r ≡ numberedOf n w i → not r ≡ true → w ≡ bordered n w i op
   bordered-not op e t = ap (λ (b : Bool). cond b (putLabel w i op) w) (sym (not-true r t) ∙ e)

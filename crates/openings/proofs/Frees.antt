@@ -2,8 +2,8 @@
 use Prim.Native.Nat.{ℕ, _+_, _-_, _≤_}
 use native.Mathlib.Omega.{arith}
 use native.Mathlib.Decide.{ℕ-discrete, decLe}
-use mathlib.Core.Path.{_∙_, _≡_, ap, refl, sym}
-use mathlib.Core.Bool.{Bool, _&&_, false, true}
+use mathlib.Core.Path.{_∙_, _≡_, ap, sym}
+use mathlib.Core.Bool.{_&&_, false, true}
 use mathlib.Core.List.{List}
 use borrow.Author.Tests.{eq-eqb, ne-eqb}
 use lib.Dec.{T, eqb, eqb→eq}
@@ -16,7 +16,7 @@ use Rattle.openings.specs.Spread.{Change}
 use Rattle.game.proofs.Counts.{bit-yes, count-drop, count-le, count-mono}
 use Rattle.game.proofs.Members.{length-from, range-has}
 use Rattle.game.proofs.Orders.{once-range}
-use Rattle.game.proofs.Truth.{and-both, and-left, and-right}
+use Rattle.game.proofs.Truth.{and-both, and-left, and-no, and-right}
 use Rattle.openings.proofs.Changes.{kind-stays, stays}
 use Rattle.openings.proofs.Edges.{first-some, labelled-first, labelled-other}
 
@@ -66,11 +66,7 @@ free-labelled n op o w i room f =
     gone =
         let b : firstAt (putLabel w i op) i ≡ edgeFirst op (firstAt w i) = ap natural (labelled-first w i op (omega (arith, f .inside))) in
         let s = first-some op o (firstAt w i) in
-        and-no (eqb (kindAt (putLabel w i op) i) 1) (ne-eqb (firstAt (putLabel w i op) i) 0 (λ e. omega arith))
-      where
-        and-no : (a : Bool) {b : Bool} → b ≡ false → (a && b) ≡ false
-        and-no true e = e
-        and-no false e = refl
+        and-no (eqb (kindAt (putLabel w i op) i) 1) (eqb (firstAt (putLabel w i op) i) 0) (ne-eqb (firstAt (putLabel w i op) i) 0 (λ e. omega arith))
 
 pub free-few : (n : ℕ) (w : List ℤ) → freeOf n w ≤ n
 unfolding freeOf

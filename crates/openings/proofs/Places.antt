@@ -1,10 +1,10 @@
 -- Labels as places of the openings so far: a new opening adds its number to the cells that it holds. Assumes nothing.
 use Prim.Native.Nat.{ℕ, _+_, _<_, _≤_, suc}
 use native.Mathlib.Omega.{arith}
-use native.Mathlib.Nat.{zero-add}
-use mathlib.Core.Path.{_∙_, _≡_, ap, refl, sym}
-use mathlib.Core.Bool.{Bool, _||_, false, not, true}
-use mathlib.Core.List.{List, [], _++_, _∷_}
+use native.Mathlib.Nat.{add-comm}
+use mathlib.Core.Path.{_∙_, _≡_, ap, refl}
+use mathlib.Core.Bool.{Bool, _||_, cond, false, not, true}
+use mathlib.Core.List.{List, [], _++_, _∷_, append-nil}
 use borrow.Author.Tests.{ne-eqb}
 use lib.Dec.{T, eqb, eqb·suc-zero}
 use lib.ListN.{getD, length}
@@ -12,8 +12,8 @@ use Rattle.game.specs.Grid.{Grid}
 use Rattle.game.specs.Lists.{Each, has, some-of}
 use Rattle.game.specs.Openings.{holds, places}
 use Rattle.openings.specs.Labels.{edgeFirst, edgeSecond}
-use Rattle.game.proofs.Labels.{holds-zero}
-use Rattle.game.proofs.Members.{first-of, has-cases, rest-of}
+use Rattle.game.proofs.Labels.{holds-zero, places-from, places-snoc}
+use Rattle.game.proofs.Members.{first-of, rest-of}
 use Rattle.game.proofs.Openings.{Full}
 use Rattle.game.proofs.Zeros.{Zero}
 
@@ -41,46 +41,14 @@ module _ (op : ℕ) where
 -- ---- the places of the openings that hold a cell
 
 module _ (g : Grid) (j : ℕ) where
-  places-range : (k : ℕ) (os : List (List ℕ)) (x : ℕ) → T (has x (places g j k os)) → (k ≤ x) × (x < k + length os)
-  places-range k [] x t = absurd t
-  places-range k (o ∷ os) x t = go (holds g j o) t (places-range (suc k) os x)
-    where
-      go : (b : Bool) → T (has x (elim b [ true ↦ k ∷ places g j (suc k) os | false ↦ places g j (suc k) os ]))
-          → (T (has x (places g j (suc k) os)) → (suc k ≤ x) × (x < suc k + length os)) → (k ≤ x) × (x < k + length (o ∷ os))
-      go true u r = has-cases x k (places g j (suc k) os) (λ e. omega arith) (λ v. let h = r v in omega arith) u
-      go false u r = let h = r u in omega arith
-
   pub earlier : (os : List (List ℕ)) → Earlier (length os + 1) (places g j 1 os)
-  earlier os x t = let h = places-range 1 os x t in omega arith
-
-  -- one opening more
-  abbrev with : List ℕ → ℕ → Bool → List ℕ
-  with ls op b = elim b [ true ↦ ls ++ (op ∷ []) | false ↦ ls ]
-
-  places-more : (k : ℕ) (os : List (List ℕ)) (o : List ℕ) → places g j k (os ++ (o ∷ [])) ≡ with (places g j k os) (length os + k) (holds g j o)
-  places-more k [] o = go (holds g j o)
-    where
-      go : (b : Bool) → _≡_ {A = List ℕ} (elim b [ true ↦ k ∷ [] | false ↦ [] ]) (with [] (0 + k) b)
-      go true = ap (λ (m : ℕ). m ∷ []) (sym (zero-add k))
-      go false = refl
-  places-more k (p ∷ os) o = go (holds g j p) (holds g j o) (places-more (suc k) os o ∙ ap (λ (m : ℕ). with (places g j (suc k) os) m (holds g j o)) (move (length os) k))
-    where
-      move : (m n : ℕ) → m + suc n ≡ suc m + n
-      move m n = omega arith
-
-      go : (b c : Bool) → places g j (suc k) (os ++ (o ∷ [])) ≡ with (places g j (suc k) os) (length (p ∷ os) + k) c
-          → _≡_ {A = List ℕ} (elim b [ true ↦ k ∷ places g j (suc k) (os ++ (o ∷ [])) | false ↦ places g j (suc k) (os ++ (o ∷ [])) ])
-          (with (elim b [ true ↦ k ∷ places g j (suc k) os | false ↦ places g j (suc k) os ]) (length (p ∷ os) + k) c)
-      go true true e = ap (λ (l : List ℕ). k ∷ l) e
-      go true false e = ap (λ (l : List ℕ). k ∷ l) e
-      go false true e = e
-      go false false e = e
+  earlier os x t = let h = places-from g j 1 os x t in omega arith
 
   pub places-held : (os : List (List ℕ)) (o : List ℕ) → holds g j o ≡ true → places g j 1 (os ++ (o ∷ [])) ≡ places g j 1 os ++ ((length os + 1) ∷ [])
-  places-held os o e = places-more 1 os o ∙ ap (with (places g j 1 os) (length os + 1)) e
+  places-held os o e = rw (add-comm (length os) 1) (places-snoc g j 1 os o ∙ ap (λ (b : Bool). places g j 1 os ++ cond b ((1 + length os) ∷ []) []) e)
 
   pub places-not : (os : List (List ℕ)) (o : List ℕ) → holds g j o ≡ false → places g j 1 (os ++ (o ∷ [])) ≡ places g j 1 os
-  places-not os o e = places-more 1 os o ∙ ap (with (places g j 1 os) (length os + 1)) e
+  places-not os o e = places-snoc g j 1 os o ∙ ap (λ (b : Bool). places g j 1 os ++ cond b ((1 + length os) ∷ []) []) e ∙ append-nil (places g j 1 os)
 
 -- ---- a 0-cell has a label exactly when it is in one of the openings so far
 

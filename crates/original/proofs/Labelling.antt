@@ -17,11 +17,12 @@ use Rattle.game.proofs.Members.{at-most, first-of, rest-of}
 use Rattle.game.proofs.Openings.{Full, Good, In, good-gather, good-none}
 use Rattle.game.proofs.Reveal.{zero-safe}
 use Rattle.game.proofs.Squares.{cells→}
-use Rattle.game.proofs.Truth.{T→true, and-false, and-left, and-right, eqb-no}
+use Rattle.game.proofs.Truth.{T→true, and-false, and-left, and-right}
 use Rattle.game.proofs.Zeros.{Zero}
 use Rattle.original.proofs.Numbers.{lined}
 use Rattle.original.proofs.Spreads.{Begun, first-of-two, met, second-of-two, whole-opening}
 use Rattle.original.proofs.Tables.{Table, table-ext}
+use borrow.Author.Tests.{ne-eqb}
 
 -- ---- places of the openings that hold a cell
 
@@ -29,16 +30,16 @@ use Rattle.original.proofs.Tables.{Table, table-ext}
 first-more : (op : ℕ) (m : Bool) (ls : List ℕ) → ((x : ℕ) → T (has x ls) → 1 ≤ x) → getD (ls ++ cond m (op ∷ []) []) 0 0 ≡ first-of-two op m (getD ls 0 0)
 first-more op true [] h = refl
 first-more op false [] h = refl
-first-more op true (x ∷ ls) h = simp (eqb-no x 0 (λ e. absurd (omega (arith, first-of x ls h))))
+first-more op true (x ∷ ls) h = simp (ne-eqb x 0 (λ e. absurd (omega (arith, first-of x ls h))))
 first-more op false (x ∷ ls) h = refl
 
 second-more : (op : ℕ) (m : Bool) (ls : List ℕ) → ((x : ℕ) → T (has x ls) → 1 ≤ x) → getD (ls ++ cond m (op ∷ []) []) 1 0 ≡ second-of-two op m (getD ls 0 0) (getD ls 1 0)
 second-more op true [] h = refl
 second-more op false [] h = refl
-second-more op true (x ∷ []) h = simp (eqb-no x 0 (λ e. absurd (omega (arith, first-of x [] h))))
+second-more op true (x ∷ []) h = simp (ne-eqb x 0 (λ e. absurd (omega (arith, first-of x [] h))))
 second-more op false (x ∷ []) h = refl
 second-more op true (x ∷ y ∷ ls) h =
-    simp (eqb-no x 0 (λ e. absurd (omega (arith, first-of x (y ∷ ls) h))), eqb-no y 0 (λ e. absurd (omega (arith, first-of y ls (rest-of x (y ∷ ls) h)))))
+    simp (ne-eqb x 0 (λ e. absurd (omega (arith, first-of x (y ∷ ls) h))), ne-eqb y 0 (λ e. absurd (omega (arith, first-of y ls (rest-of x (y ∷ ls) h)))))
 second-more op false (x ∷ y ∷ ls) h = refl
 
 -- ---- the loop

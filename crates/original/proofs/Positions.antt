@@ -19,9 +19,10 @@ use Rattle.game.proofs.Counts.{bit-yes, count-drop, count-ext}
 use Rattle.game.proofs.Labels.{first-label}
 use Rattle.game.proofs.Premiums.{premium-flag, premium-open}
 use Rattle.game.proofs.Squares.{once-cells, once-square, square-sym, →cells}
-use Rattle.game.proofs.Truth.{T→true, and-both, and-false, and-true, and-under, eqb-no, eqb-yes, no→false}
+use Rattle.game.proofs.Truth.{T→true, and-both, and-false, and-true, and-under, no→false}
 use Rattle.original.proofs.Ready.{plain}
 use Rattle.original.proofs.Tables.{Table, around-square, mixed, reads-celled, table-change, table-ext, table-fold}
+use borrow.Author.Tests.{eq-eqb, ne-eqb}
 
 -- ---- the cells of a round
 
@@ -162,11 +163,11 @@ open-stands g s n st c h f t u z k =
 
     states : (i : ℕ) → Dec (i ≡ c) → ((eqb i c || opened s i) ≡ opened (set s c 1) i) × (flagged s i ≡ flagged (set s c 1) i)
     states i (yes e) = (
-      ap (λ (b : Bool). b || opened s i) (eqb-yes i c e) ∙ sym (ap (λ (x : ℕ). eqb x 1) (ap (λ (x : ℕ). getD (set s c 1) x 0) e ∙ here)),
+      ap (λ (b : Bool). b || opened s i) (eq-eqb i c e) ∙ sym (ap (λ (x : ℕ). eqb x 1) (ap (λ (x : ℕ). getD (set s c 1) x 0) e ∙ here)),
       ap (flagged s) e ∙ not-two (getD s c 0) (f .safes c h t) ∙ sym (ap (λ (x : ℕ). eqb x 2) (ap (λ (x : ℕ). getD (set s c 1) x 0) e ∙ here)),
     )
     states i (no e) = (
-      ap (λ (b : Bool). b || opened s i) (eqb-no i c e) ∙ sym (ap (λ (x : ℕ). eqb x 1) (getD-set-other s c i 1 0 e)),
+      ap (λ (b : Bool). b || opened s i) (ne-eqb i c e) ∙ sym (ap (λ (x : ℕ). eqb x 1) (getD-set-other s c i 1 0 e)),
       sym (ap (λ (x : ℕ). eqb x 2) (getD-set-other s c i 1 0 e)),
     )
 
@@ -223,11 +224,11 @@ flag-stands g s n st m h f t u k = subst (λ (b : Bool). Stands g (set s m 2) (n
     states : (i : ℕ) → Dec (i ≡ m) → (opened s i ≡ opened (set s m 2) i) × ((eqb i m || flagged s i) ≡ flagged (set s m 2) i)
     states i (yes e) = (
       ap (λ (x : ℕ). eqb x 1) (ap (λ (x : ℕ). getD s x 0) e ∙ zero-state) ∙ sym (ap (λ (x : ℕ). eqb x 1) (ap (λ (x : ℕ). getD (set s m 2) x 0) e ∙ here)),
-      ap (λ (b : Bool). b || flagged s i) (eqb-yes i m e) ∙ sym (ap (λ (x : ℕ). eqb x 2) (ap (λ (x : ℕ). getD (set s m 2) x 0) e ∙ here)),
+      ap (λ (b : Bool). b || flagged s i) (eq-eqb i m e) ∙ sym (ap (λ (x : ℕ). eqb x 2) (ap (λ (x : ℕ). getD (set s m 2) x 0) e ∙ here)),
     )
     states i (no e) = (
       sym (ap (λ (x : ℕ). eqb x 1) (getD-set-other s m i 2 0 e)),
-      ap (λ (b : Bool). b || flagged s i) (eqb-no i m e) ∙ sym (ap (λ (x : ℕ). eqb x 2) (getD-set-other s m i 2 0 e)),
+      ap (λ (b : Bool). b || flagged s i) (ne-eqb i m e) ∙ sym (ap (λ (x : ℕ). eqb x 2) (getD-set-other s m i 2 0 e)),
     )
 
     premiums : (i : ℕ) → i < size g → T (safe g i) → P i ≡ premium g (set s m 2) i

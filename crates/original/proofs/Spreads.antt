@@ -19,11 +19,12 @@ use Rattle.game.proofs.Counts.{bit-yes, count-drop, count-le, count-mono, count
 use Rattle.game.proofs.Members.{first-of, has-cases, rest-of, some-yes, yes-some}
 use Rattle.game.proofs.Openings.{joinedTo→, →joinedTo}
 use Rattle.game.proofs.Squares.{Close, close-sym, in-own-square, length-cells, once-cells, square→, →cells, →square}
-use Rattle.game.proofs.Truth.{T→true, and-both, and-false, and-left, and-right, eqb-no, iff, or-cases, or-left, or-right}
+use Rattle.game.proofs.Truth.{T→true, and-both, and-false, and-left, and-right, iff, or-cases, or-left, or-right}
 use Rattle.game.proofs.Zeros.{Zero}
 use Rattle.game.proofs.Reveal.{joined-held}
 use Rattle.original.proofs.Numbers.{lined}
 use Rattle.original.proofs.Tables.{Celled, Table, around-square, reads-celled, table-change, table-ext}
+use borrow.Author.Tests.{ne-eqb}
 
 -- ---- the labels of a cell before and after it is marked
 
@@ -56,13 +57,13 @@ unfolding border
 border-lined g op i m x y h n = go m (eqb x 0) refl (eqb y 0) refl
   where
     op-some : eqb op 0 ≡ false
-    op-some = eqb-no op 0 (λ e. absurd (omega arith))
+    op-some = ne-eqb op 0 (λ e. absurd (omega arith))
 
     op-itself : eqb op op ≡ true
     op-itself = T→true (eqb op op) (eqb-refl op)
 
     off : eqb x op ≡ false
-    off = eqb-no x op n
+    off = ne-eqb x op n
 
     go : (m p : Bool) → eqb x 0 ≡ p → (q : Bool) → eqb y 0 ≡ q
         → border op (lined g i (first-of-two op m x) (second-of-two op m x y)) ≡ lined g i (first-of-two op true x) (second-of-two op true x y)
@@ -102,7 +103,7 @@ module _ (g : Grid) (op c : ℕ) (a b : ℕ → ℕ) (k : Begun g op c a b) wher
     where
       one : (j : ℕ) → Dec (j ≡ i) → cond (eqb j i) (f (met M j)) (met M j) ≡ met (with-cell i M) j
       one j (yes q) = rw (q, T→true (eqb i i) (eqb-refl i)) e
-      one j (no q) = rw (eqb-no j i q) refl
+      one j (no q) = rw (ne-eqb j i q) refl
 
   mark-border : (M : ℕ → Bool) (cs : Cells) (i : ℕ) → Table (size g) (met M) cs → Table (size g) (met (with-cell i M)) (setopeningborder cs op i)
   mark-border M cs i t =
@@ -153,7 +154,7 @@ module _ (g : Grid) (op c : ℕ) (a b : ℕ → ℕ) (k : Begun g op c a b) wher
   unfolding left
   left-less M i z e =
       let d = count-drop (λ j. zeroCell g j && not (M j)) (λ j. zeroCell g j && not (eqb j i || M j)) i (cells g) (once-cells g)
-      (λ j n. ap (λ (b : Bool). zeroCell g j && not (b || M j)) (sym (eqb-no j i n)))
+      (λ j n. ap (λ (b : Bool). zeroCell g j && not (b || M j)) (sym (ne-eqb j i n)))
       (ap (λ (b : Bool). zeroCell g i && not (b || M i)) (T→true (eqb i i) (eqb-refl i)) ∙ sym (and-false (zeroCell g i))) in
       let q = bit-yes (has i (cells g) && (zeroCell g i && not (M i))) (and-both (has i (cells g)) (zeroCell g i && not (M i)) (→cells g i (z .inside))
       (and-both (zeroCell g i) (not (M i)) (z .none) (rw e tt))) in
@@ -214,7 +215,7 @@ module _ (g : Grid) (op c : ℕ) (a b : ℕ → ℕ) (k : Begun g op c a b) wher
             or-left (eqb x x) (M x) (eqb-refl x),
           )
       go true e true q =
-          subst₂ Done (sym (number-is true e)) (sym (opening-is true q (rw e tt) ∙ eqb-no op 0 (λ f. absurd (omega (arith, k .some-op)))))
+          subst₂ Done (sym (number-is true e)) (sym (opening-is true q (rw e tt) ∙ ne-eqb op 0 (λ f. absurd (omega (arith, k .some-op)))))
           (record { now = M; table = t; spread = no-more M }, rw q tt)
       go true e false q =
           subst₂ Done (sym (number-is true e)) (sym (opening-is false q (rw e tt))) (call M cs x (onward j u (rw e tt)) q l t)

@@ -26,9 +26,10 @@ use Rattle.game.proofs.Tidy.{tidy-even}
 use Rattle.game.proofs.Premiums.{premium-sweep, reveal-sweep}
 use Rattle.game.proofs.Reveal.{Revealed, getD-sweep, mine-off, opens, revealed, stays, sweeps}
 use Rattle.game.proofs.Squares.{cells→, once-cells, →cells}
-use Rattle.game.proofs.Truth.{T→true, and-false, and-inside, and-true, and-under, eqb-no, eqb-yes, iff, no→false, or-cases, or-left, or-right}
+use Rattle.game.proofs.Truth.{T→true, and-false, and-inside, and-true, and-under, iff, no→false, or-cases, or-left, or-right}
 use Rattle.game.proofs.Zeros.{Zero}
 use Rattle.original.proofs.Positions.{Board, Stands, after-open, board-ext, board-premium, not-opened, not-two, one-at, open-board, open-stands, shift}
+use borrow.Author.Tests.{eq-eqb, ne-eqb}
 
 -- ---- the label of a 0-cell stands at what its opening holds
 
@@ -37,8 +38,8 @@ abbrev carries : Grid → ℕ → ℕ → Bool
 carries g o j = eqb (secondLabel g j) o || eqb (firstLabel g j) o
 
 of-two : (ls : List ℕ) (o : ℕ) → length ls ≤ 2 → 1 ≤ o → (eqb (getD ls 1 0) o || eqb (getD ls 0 0) o) ≡ has o ls
-of-two [] o l h = ap (λ (b : Bool). b || b) (eqb-no 0 o (λ e. omega arith))
-of-two (x ∷ []) o l h = ap (λ (b : Bool). b || eqb x o) (eqb-no 0 o (λ e. omega arith)) ∙ eqb-sym x o ∙ or-false (eqb o x)
+of-two [] o l h = ap (λ (b : Bool). b || b) (ne-eqb 0 o (λ e. omega arith))
+of-two (x ∷ []) o l h = ap (λ (b : Bool). b || eqb x o) (ne-eqb 0 o (λ e. omega arith)) ∙ eqb-sym x o ∙ or-false (eqb o x)
   where
     eqb-sym : (a b : ℕ) → eqb a b ≡ eqb b a
     eqb-sym a b = iff (eqb a b) (eqb b a) (λ t. rw (eqb→eq a b t) (eqb-refl b)) (λ t. rw (eqb→eq b a t) (eqb-refl a))
@@ -67,8 +68,8 @@ carries-held g c j z h =
 -- a cell that carries a label has a first one
 carries-some : (g : Grid) (o j : ℕ) → 1 ≤ o → T (carries g o j) → eqb (firstLabel g j) 0 ≡ false
 carries-some g o j h t =
-    ⊎-elim (λ u. eqb-no (firstLabel g j) 0 (λ e. go (labels g j) (λ x v. labels-range g j x v .0) e (eqb→eq (secondLabel g j) o u)))
-    (λ u. eqb-no (firstLabel g j) 0 (λ e. omega (arith, eqb→eq (firstLabel g j) o u))) (or-cases (eqb (secondLabel g j) o) (eqb (firstLabel g j) o) t)
+    ⊎-elim (λ u. ne-eqb (firstLabel g j) 0 (λ e. go (labels g j) (λ x v. labels-range g j x v .0) e (eqb→eq (secondLabel g j) o u)))
+    (λ u. ne-eqb (firstLabel g j) 0 (λ e. omega (arith, eqb→eq (firstLabel g j) o u))) (or-cases (eqb (secondLabel g j) o) (eqb (firstLabel g j) o) t)
   where
     go : (ls : List ℕ) → ((x : ℕ) → T (has x ls) → 1 ≤ x) → getD ls 0 0 ≡ 0 → getD ls 1 0 ≡ o → ⊥
     go [] r e d = omega arith
@@ -104,8 +105,8 @@ module _ (g : Grid) (o : ℕ) (some-label : 1 ≤ o) (fl : ℕ → Bool) where
 
       -- x alone is met
       hit : (p : Bool) → carries g o x ≡ p → (j : ℕ) → Dec (j ≡ x) → ((eqb j x || false) && carries g o j) ≡ (eqb j x && p)
-      hit p e j (yes d) = ap₂ (λ a b. (a || false) && b) (eqb-yes j x d) (ap (carries g o) d ∙ e) ∙ sym (ap (λ (a : Bool). a && p) (eqb-yes j x d))
-      hit p e j (no d) = ap (λ (a : Bool). (a || false) && carries g o j) (eqb-no j x d) ∙ sym (ap (λ (a : Bool). a && p) (eqb-no j x d))
+      hit p e j (yes d) = ap₂ (λ a b. (a || false) && b) (eq-eqb j x d) (ap (carries g o) d ∙ e) ∙ sym (ap (λ (a : Bool). a && p) (eq-eqb j x d))
+      hit p e j (no d) = ap (λ (a : Bool). (a || false) && carries g o j) (ne-eqb j x d) ∙ sym (ap (λ (a : Bool). a && p) (ne-eqb j x d))
 
       op-there : (q : Bool) → op x ≡ q → (j : ℕ) → T (eqb j x) → op j ≡ q
       op-there q e j u = ap op (eqb→eq j x u) ∙ e

@@ -15,7 +15,7 @@ use Rattle.original.specs.Cells.{Cells, Zcell, around, at, change, nough
 use Rattle.game.proofs.Counts.{Once, count-ext}
 use Rattle.game.proofs.Members.{has-head, has-tail}
 use Rattle.game.proofs.Squares.{column-lt, row-lt, square→}
-use Rattle.game.proofs.Truth.{eqb-no, eqb-yes}
+use borrow.Author.Tests.{eq-eqb, ne-eqb}
 
 -- ---- what a list holds at each index
 
@@ -33,14 +33,14 @@ table-change n F cs f k t =
       reads = λ i h.
           elim (ℕ-discrete i k) [
             | yes e ↦ here i h e
-            | no d ↦ getD-set-other cs k i (f (at cs k)) nought d ∙ t .reads i h ∙ sym (ap (λ (b : Bool). cond b (f (F i)) (F i)) (eqb-no i k d))
+            | no d ↦ getD-set-other cs k i (f (at cs k)) nought d ∙ t .reads i h ∙ sym (ap (λ (b : Bool). cond b (f (F i)) (F i)) (ne-eqb i k d))
           ];
     }
   where
     here : (i : ℕ) → i < n → i ≡ k → at (change f cs k) i ≡ cond (eqb i k) (f (F i)) (F i)
     here i h e =
         ap (at (change f cs k)) e ∙ getD-set-same cs k (f (at cs k)) nought (omega (arith, t .long)) ∙ ap (λ (x : ℕ). f (at cs x)) (sym e)
-        ∙ ap f (t .reads i h) ∙ sym (ap (λ (b : Bool). cond b (f (F i)) (F i)) (eqb-yes i k e))
+        ∙ ap f (t .reads i h) ∙ sym (ap (λ (b : Bool). cond b (f (F i)) (F i)) (eq-eqb i k e))
 
 -- the cells that M names changed, each by its own f
 abbrev pub mixed : (ℕ → Zcell → Zcell) → (ℕ → Zcell) → (ℕ → Bool) → ℕ → Zcell
@@ -65,16 +65,16 @@ table-fold n f F step (x ∷ xs) M cs o d h t =
     swap false false c = refl
 
     fresh : (y : ℕ) → T (has y xs) → (eqb y x || M y) ≡ false
-    fresh y u = ap (λ (b : Bool). b || M y) (eqb-no y x (λ e. o .0 (rw e at u))) ∙ d y (has-tail y x xs u)
+    fresh y u = ap (λ (b : Bool). b || M y) (ne-eqb y x (λ e. o .0 (rw e at u))) ∙ d y (has-tail y x xs u)
 
     once : (i : ℕ) → Dec (i ≡ x) → cond (eqb i x) (f x (mixed f F M i)) (mixed f F M i) ≡ mixed f F (λ i. eqb i x || M i) i
     once i (yes e) =
-        ap (λ (b : Bool). cond b (f x (mixed f F M i)) (mixed f F M i)) (eqb-yes i x e)
+        ap (λ (b : Bool). cond b (f x (mixed f F M i)) (mixed f F M i)) (eq-eqb i x e)
         ∙ ap (λ (k : ℕ). f k (mixed f F M i)) (sym e) ∙ ap (λ (b : Bool). f i (cond b (f i (F i)) (F i))) (ap M e ∙ d x (has-head x x xs refl))
-        ∙ sym (ap (λ (b : Bool). cond (b || M i) (f i (F i)) (F i)) (eqb-yes i x e))
+        ∙ sym (ap (λ (b : Bool). cond (b || M i) (f i (F i)) (F i)) (eq-eqb i x e))
     once i (no k) =
-        ap (λ (b : Bool). cond b (f x (mixed f F M i)) (mixed f F M i)) (eqb-no i x k)
-        ∙ sym (ap (λ (b : Bool). cond (b || M i) (f i (F i)) (F i)) (eqb-no i x k))
+        ap (λ (b : Bool). cond b (f x (mixed f F M i)) (mixed f F M i)) (ne-eqb i x k)
+        ∙ sym (ap (λ (b : Bool). cond (b || M i) (f i (F i)) (F i)) (ne-eqb i x k))
 
 -- ---- the cells of a grid
 

@@ -22,8 +22,8 @@ use Rattle.game.proofs.Labels.{first-label}
 use Rattle.game.proofs.Tidy.{tidy-even}
 use Rattle.game.proofs.Premiums.{flag-cost, flag-gain, open-cost, open-gain, reveal-sweep, sweep-cost, sweep-gain}
 use Rattle.game.proofs.Reveal.{getD-sweep, mine-off}
-use Rattle.game.proofs.Squares.{cells→, close-sym, in-own-square, once-cells, once-square, square→, →cells, →square}
-use Rattle.game.proofs.Truth.{T→false, T→true, and-both, and-false, and-true, and-under, eqb-no, eqb-yes, iff}
+use Rattle.game.proofs.Squares.{cells→, in-own-square, once-cells, once-square, square-sym, square→, →cells}
+use Rattle.game.proofs.Truth.{T→false, T→true, and-both, and-false, and-true, and-under}
 use Rattle.game.proofs.Zeros.{Zero}
 use Rattle.area.specs.Numbers.{HasCells, putState}
 use Rattle.area.specs.Stages.{held, raised}
@@ -31,12 +31,7 @@ use Rattle.play.specs.Walks.{Swept, openedOne, sweptOn}
 use Rattle.play.proofs.Cells.{fold-sweep, labelledCell, opensCell, stated, sweepCell}
 use Rattle.play.proofs.Held.{level, moved, restated, up-down}
 use Rattle.area.proofs.Marks.{marked-held}
-
--- two cells are in each other's squares, or not
-near-sym : (g : Grid) (i x : ℕ) → i < size g → x < size g → has i (square g x) ≡ has x (square g i)
-near-sym g i x h k =
-    iff (has i (square g x)) (has x (square g i)) (λ t. →square g i x h k (close-sym g x i (square→ g x i k t .1)))
-    (λ t. →square g x i k h (close-sym g i x (square→ g i x h t .1)))
+use borrow.Author.Tests.{eq-eqb, ne-eqb}
 
 module _ (g : Grid) (s : Position) (old : List ℤ) (i : ℕ) (room : HasCells old (size g)) (inside : i < size g) (long : length s ≡ size g) where
   -- a cell that keeps its state
@@ -60,7 +55,7 @@ module _ (g : Grid) (s : Position) (old : List ℤ) (i : ℕ) (room : HasCells o
     gain-falls : (x : ℕ) → x < size g → gain g s x ≡ gain g (set s i 1) x + bit (has x (square g i) && bare)
     gain-falls x h =
         open-gain g s i inside long shut nonzero x
-        ∙ ap (λ (b : Bool). gain g (set s i 1) x + bit (b && unlabelled g i)) (near-sym g i x inside h)
+        ∙ ap (λ (b : Bool). gain g (set s i 1) x + bit (b && unlabelled g i)) (square-sym g i x inside h)
         ∙ ap (λ (b : Bool). gain g (set s i 1) x + bit (has x (square g i) && b))
         (first-label g i ∙ ap (λ (b : Bool). b && eqb (firstLabel g i) 0) (T→true (safe g i) is-safe))
 
@@ -75,7 +70,7 @@ module _ (g : Grid) (s : Position) (old : List ℤ) (i : ℕ) (room : HasCells o
         kept = getD-set-other s i x 1 0 n
 
         none : bit (eqb x i) ≡ 0
-        none = ap bit (eqb-no x i n)
+        none = ap bit (ne-eqb x i n)
 
         by : (p : ℕ) → bit (has x (square g i) && bare) ≡ p → p ≤ 1 → shiftCell 0 p (heldCell g s x) ≡ heldCell g (set s i 1) x
         by p q l =
@@ -95,7 +90,7 @@ module _ (g : Grid) (s : Position) (old : List ℤ) (i : ℕ) (room : HasCells o
         now-open = getD-set-same s i 1 0 (omega (arith, long))
 
         one : bit (eqb i i) ≡ 1
-        one = ap bit (eqb-yes i i refl)
+        one = ap bit (eq-eqb i i refl)
 
         by : (p : ℕ) → bit bare ≡ p → p ≤ 1 → shiftCell 1 p (stated 1 (heldCell g s i)) ≡ heldCell g (set s i 1) i
         by p q l =
@@ -174,7 +169,7 @@ module _ (g : Grid) (s : Position) (old : List ℤ) (i : ℕ) (room : HasCells o
   module _ (is-mine : T (mine g i)) (shut : T (closed s i)) where
     flag-other : (x : ℕ) → x < size g → (x ≡ i → ⊥) → (b : Bool) → has x (square g i) ≡ b
         → cond b (shiftCell 1 0 (heldCell g s x)) (heldCell g s x) ≡ heldCell g (set s i 2) x
-    flag-other x h n b e = go b (ap bit (near-sym g i x inside h ∙ e))
+    flag-other x h n b e = go b (ap bit (square-sym g i x inside h ∙ e))
       where
         by : (q : ℕ) → bit (has i (square g x)) ≡ q → q ≤ 1 → shiftCell q 0 (heldCell g s x) ≡ heldCell g (set s i 2) x
         by q r l =

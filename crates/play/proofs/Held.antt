@@ -10,9 +10,9 @@ use Rattle.game.specs.Grid.{Grid, mine, number, safe, size}
 use Rattle.game.specs.Openings.{firstLabel, secondLabel}
 use Rattle.game.specs.Position.{Position, cost, gain}
 use Rattle.game.proofs.Ranges.{cost-range, gain-range}
-use Rattle.game.proofs.Truth.{eqb-no}
 use Rattle.area.proofs.Held.{heldCell}
 use Rattle.area.specs.Stages.{kind, raised}
+use borrow.Author.Tests.{ne-eqb}
 
 -- a cell with another state
 abbrev pub restated : ℕ → Cell → Cell
@@ -64,4 +64,4 @@ moved g s t x p q h pb qb e f = go (mine g x) refl
         let b = cost-range g s x h u in
         let c = e u in
         let d = f u in
-        rw (eqb-no (1 + number g x) 0 (λ z. absurd (omega arith))) (ap (cell (1 + number g x)) (omega arith))
+        rw (ne-eqb (1 + number g x) 0 (λ z. absurd (omega arith))) (ap (cell (1 + number g x)) (omega arith))

@@ -1,11 +1,11 @@
 -- L by its branches, and F: what is read of a cell says which case of the reveal it is. Assumes nothing.
 use Prim.Native.Nat.{ℕ, _*_, _+_, _<_}
 use native.Mathlib.Omega.{arith}
-use mathlib.Core.Path.{_∙_, _≡_, ap, ap₂, refl, subst, sym}
+use mathlib.Core.Path.{_∙_, _≡_, ap, ap₂, subst, sym}
 use mathlib.Core.List.{List}
 use lib.Dec.{T, T-not, eqb, eqb→eq, not-T}
 use lib.IntN.{ℤ}
-use lib.ListN.{getD, length-set, set}
+use lib.ListN.{getD, length-set}
 use Rattle.area.proofs.Held.{Holds, held-numbers, kind-mine, kind-zero}
 use Rattle.area.specs.Squares.{shifted, squareOf}
 use Rattle.game.specs.Grid.{Grid, mine, safe, size, zeroCell}
@@ -14,32 +14,14 @@ use Rattle.game.specs.Moves.{flag, play, reveal}
 use Rattle.game.specs.Openings.{firstLabel}
 use Rattle.game.specs.Position.{Position, Tidy, closed, closedSafe}
 use Rattle.game.proofs.Tidy.{reveal-tidy}
-use Rattle.game.proofs.Reveal.{Revealed, opens, reveal-length, revealed, stays, sweeps}
-use Rattle.game.proofs.Truth.{eqb-yes}
+use Rattle.game.proofs.Reveal.{reveal-length, reveal-none, reveal-one}
 use Rattle.area.specs.Numbers.{firstAt, kindAt, putState, stateAt}
 use Rattle.area.specs.Stages.{Stands, held, kind}
 use Rattle.play.specs.Promises.{Revealing}
 use Rattle.play.specs.declared.Opened.{Opened}
 use Rattle.play.specs.Walks.{SweptOver, openedOne}
 use Rattle.play.proofs.Changes.{flag-area, open-area, open-count, sweep-area}
-
--- a closed safe cell of number 1 or more
-reveal-one : (g : Grid) (s : Position) (i : ℕ) → T (safe g i) → T (closed s i) → (T (zeroCell g i) → ⊥) → reveal g s i ≡ set s i 1
-reveal-one g s i t u n = go (reveal g s i) (revealed g s i)
-  where
-    go : (p : Position) → Revealed g s i p → p ≡ set s i 1
-    go p (stays m) = absurd (m t u)
-    go p (opens a b m) = refl
-    go p (sweeps a b z) = absurd (n z)
-
--- any other cell than a closed safe one
-reveal-none : (g : Grid) (s : Position) (i : ℕ) → (T (safe g i) → T (closed s i) → ⊥) → reveal g s i ≡ s
-reveal-none g s i n = go (reveal g s i) (revealed g s i)
-  where
-    go : (p : Position) → Revealed g s i p → p ≡ s
-    go p (stays m) = refl
-    go p (opens a b m) = absurd (n a b)
-    go p (sweeps a b z) = absurd (n a b)
+use borrow.Author.Tests.{eq-eqb}
 
 module _ (rows columns : ℕ) (g : Grid) (s : Position) (old w : List ℤ) (i : ℕ) (h : i < rows * columns) (st : Stands rows columns g s old w) where
   pub size-is : size g ≡ rows * columns
@@ -64,7 +46,7 @@ module _ (rows columns : ℕ) (g : Grid) (s : Position) (old w : List ℤ) (i : 
 
   -- the kind tells mines and 0-cells
   pub is-mine : (k : ℕ) → k ≡ kindAt w i → k ≡ 0 → T (mine g i)
-  is-mine k e z = subst T (sym (eqb-yes (kind g i) 0 (sym (kind-read k e) ∙ z)) ∙ kind-mine g i) tt
+  is-mine k e z = subst T (sym (eq-eqb (kind g i) 0 (sym (kind-read k e) ∙ z)) ∙ kind-mine g i) tt
 
   pub is-safe : (k : ℕ) → k ≡ kindAt w i → (k ≡ 0 → ⊥) → T (safe g i)
   is-safe k e n = not-T (mine g i) (λ t. n (kind-read k e ∙ eqb→eq (kind g i) 0 (subst T (sym (kind-mine g i)) t)))
@@ -73,7 +55,7 @@ module _ (rows columns : ℕ) (g : Grid) (s : Position) (old w : List ℤ) (i : 
   is-zero k e = ap (λ (m : ℕ). eqb m 1) (kind-read k e) ∙ kind-zero g i inside
 
   pub is-closed : (k : ℕ) → k ≡ stateAt w i → k ≡ 0 → T (closed s i)
-  is-closed k e z = subst T (sym (eqb-yes (getD s i 0) 0 (sym (state-read k e) ∙ z))) tt
+  is-closed k e z = subst T (sym (eq-eqb (getD s i 0) 0 (sym (state-read k e) ∙ z))) tt
 
   pub not-closed : (k : ℕ) → k ≡ stateAt w i → (k ≡ 0 → ⊥) → T (closed s i) → ⊥
   not-closed k e n t = n (state-read k e ∙ eqb→eq (getD s i 0) 0 t)
@@ -130,7 +112,7 @@ module _ (rows columns : ℕ) (g : Grid) (s : Position) (old w : List ℤ) (i : 
           → (T (zeroCell g i) → l ≡ firstLabel g i → SweptOver l 0 (rows * columns) w r v)
           → Revealing rows columns g s old i (record { cells = r }) v
       by-zero l r v o e q =
-          opening-swept l r v (is-closed m em zm) (subst T (sym (eqb-yes k 1 o) ∙ is-zero k ek) tt) e q
+          opening-swept l r v (is-closed m em zm) (subst T (sym (eq-eqb k 1 o) ∙ is-zero k ek) tt) e q
 
       pub by-one : (v : List ℤ) → (k ≡ 1 → ⊥) → v ≡ openedOne rows columns w i → Revealing rows columns g s old i (record { cells = 1 }) v
       by-one v n e =

@@ -1,5 +1,5 @@
 -- The small functions by their branches: each branch is what the definition gives where its tests hold. Assumes nothing.
-use Prim.Native.Nat.{ℕ, _-_, _≤_}
+use Prim.Native.Nat.{ℕ, _-_}
 use mathlib.Core.Path.{_≡_, _∙_}
 use mathlib.Core.Bool.{Bool, false, true}
 use mathlib.Core.List.{List}
@@ -7,19 +7,18 @@ use lib.Dec.{eqb}
 use lib.IntN.{ℤ}
 use Rattle.area.specs.Squares.{shifted, squareOf}
 use Rattle.game.specs.Lists.{bit, fold}
-use Rattle.game.proofs.Counts.{bit-le}
-use Rattle.game.proofs.Truth.{eqb-no, eqb-yes}
 use Rattle.area.specs.Numbers.{firstAt, kindAt, premiumAt, putPremium, putState, secondAt, stateAt}
 use Rattle.play.specs.Walks.{CellSwept, unflaggedAt, labelledAt, openedOne, opensAt, sweptCell}
+use borrow.Author.Tests.{eq-eqb, ne-eqb}
 
 -- ---- a label is looked for
 
 module _ (label : ℕ) (w : List ℤ) (i a : ℕ) (e : a ≡ firstAt w i) where
   pub label-first : a ≡ label → true ≡ labelledAt label w i
-  label-first t = rw (← e, eqb-yes a label t)
+  label-first t = rw (← e, eq-eqb a label t)
 
   pub label-second : (b : ℕ) → (a ≡ label → ⊥) → b ≡ secondAt w i → eqb b label ≡ labelledAt label w i
-  label-second b t f = rw (← e, eqb-no a label t, ← f)
+  label-second b t f = rw (← e, ne-eqb a label t, ← f)
 
 -- ---- a cell is swept
 
@@ -38,20 +37,17 @@ module _ (label : ℕ) (w : List ℤ) (i : ℕ) (b : Bool) (e : b ≡ labelledAt
   unfolding sweptCell opensAt
   sweep-opened k p q v t f h g d s =
       record {
-        area = s ∙ rw (← e, t, ← f, eqb-no k 0 h, ← g, ← d);
-        opened-it = rw (← e, t, ← f, eqb-no k 0 h);
+        area = s ∙ rw (← e, t, ← f, ne-eqb k 0 h, ← g, ← d);
+        opened-it = rw (← e, t, ← f, ne-eqb k 0 h);
         found-it = rw (← e, t);
       }
-
-pub bit-small : (b : Bool) → bit b ≤ 1
-bit-small b = bit-le b true (λ t. tt)
 
 -- ---- a cell is opened
 
 module _ (rows columns : ℕ) (w u v : List ℤ) (i k : ℕ) (p : u ≡ putState w i 1) (q : v ≡ shifted 1 0 u i) (e : k ≡ firstAt v i) where
   pub open-labelled : (k ≡ 0 → ⊥) → v ≡ openedOne rows columns w i
   unfolding openedOne
-  open-labelled n = rw (← p, ← q, ← e, eqb-no k 0 n)
+  open-labelled n = rw (← p, ← q, ← e, ne-eqb k 0 n)
 
   pub open-bare : (z : List ℤ) → k ≡ 0 → z ≡ fold (shifted 0 1) v (squareOf rows columns i) → z ≡ openedOne rows columns w i
   unfolding openedOne
@@ -62,7 +58,7 @@ module _ (rows columns : ℕ) (w u v : List ℤ) (i k : ℕ) (p : u ≡ putState
 module _ (w : List ℤ) (i k : ℕ) (e : k ≡ kindAt w i) where
   pub unflagged-safe : (k ≡ 0 → ⊥) → 0 ≡ bit (unflaggedAt w i)
   unfolding unflaggedAt
-  unflagged-safe n = rw (← e, eqb-no k 0 n)
+  unflagged-safe n = rw (← e, ne-eqb k 0 n)
 
   pub unflagged-flagged : (m : ℕ) → m ≡ stateAt w i → k ≡ 0 → m ≡ 2 → 0 ≡ bit (unflaggedAt w i)
   unfolding unflaggedAt
@@ -70,4 +66,4 @@ module _ (w : List ℤ) (i k : ℕ) (e : k ≡ kindAt w i) where
 
   pub unflagged-mine : (m : ℕ) → m ≡ stateAt w i → k ≡ 0 → (m ≡ 2 → ⊥) → 1 ≡ bit (unflaggedAt w i)
   unfolding unflaggedAt
-  unflagged-mine m f z n = rw (← e, z, ← f, eqb-no m 2 n)
+  unflagged-mine m f z n = rw (← e, z, ← f, ne-eqb m 2 n)

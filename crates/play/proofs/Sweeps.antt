@@ -1,7 +1,7 @@
 -- Sweeps of runs of cells and of columns: cells are swept independently of each other, labels stay, and a cell without the label is left as it is. Assumes nothing.
 use Prim.Native.Nat.{ℕ, _%_, _*_, _+_, _-_, _<_, _≤_, suc, zero}
 use native.Mathlib.Omega.{arith}
-use native.Mathlib.Nat.{add-zero, mul-le-mul-right}
+use native.Mathlib.Nat.{add-assoc, add-sub-of-le, add-zero, mul-le-mul-right}
 use mathlib.Core.Path.{_∙_, _≡_, ap, ap₂, refl, sym}
 use mathlib.Core.Bool.{Bool, _&&_, _||_, cond, false, true}
 use mathlib.Core.List.{List, [], _∷_}
@@ -9,12 +9,12 @@ use lib.Dec.{T, eqb}
 use lib.IntN.{pos, ℤ}
 use lib.Seq.{getD-set-other, set-comm}
 use Rattle.game.specs.Lists.{bit, count, fold, has, range}
-use Rattle.game.proofs.Counts.{count-ext, count-more}
+use Rattle.game.proofs.Counts.{bit-small, count-ext, count-more}
 use Rattle.game.proofs.Members.{first-of, fold-more, has-head, has-range, has-tail, range-none, rest-of}
 use Rattle.game.proofs.Truth.{no→false}
+use Rattle.game.proofs.Squares.{next-column}
 use Rattle.area.specs.Numbers.{firstPlace, natural, numberAt, premiumAt, premiumPlace, putAt, putPremium, putState, secondPlace, stateAt, statePlace}
 use Rattle.play.specs.Walks.{CellSwept, LeftSwept, RightSwept, RunSwept, Swept, SweptOver, labelledAt, labelledIn, opensAt, sweptCell, sweptOn}
-use Rattle.play.proofs.Steps.{bit-small}
 
 -- ---- one cell: what is put in it is seen nowhere else
 
@@ -123,11 +123,8 @@ unfolding sweptOn
 fold-opened label m t [] = refl
 fold-opened label m t (x ∷ xs) =
     ap (λ (u : Swept). fold (sweptOn label) u xs)
-    (ap (λ (k : ℕ). record { area = sweptCell label (t .area) x; opened = k }) (step (t .opened) (bit (opensAt label (t .area) x))))
+    (ap (λ (k : ℕ). record { area = sweptCell label (t .area) x; opened = k }) (add-assoc m (t .opened) (bit (opensAt label (t .area) x))))
     ∙ fold-opened label m (sweptOn label t x) xs
-  where
-    step : (a b : ℕ) → m + a + b ≡ m + (a + b)
-    step a b = omega arith
 
 -- a run in two parts
 fold-parts : {S : Type 0} (f : S → ℕ → S) (s : S) (a b n : ℕ) → a ≤ b → fold f s (range a (b + n)) ≡ fold f (fold f s (range a b)) (range b (b + n))
@@ -142,10 +139,7 @@ fold-parts f s a b (suc n) h =
     next b n = omega arith
 
 fold-both : {S : Type 0} (f : S → ℕ → S) (s : S) (a b c : ℕ) → a ≤ b → b ≤ c → fold f s (range a c) ≡ fold f (fold f s (range a b)) (range b c)
-fold-both f s a b c h k = rw whole at (fold-parts f s a b (c - b) h)
-  where
-    whole : b + (c - b) ≡ c
-    whole = omega arith
+fold-both f s a b c h k = rw (add-sub-of-le k) at (fold-parts f s a b (c - b) h)
 
 module _ (label a b c : ℕ) (w v u : List ℤ) (r q : ℕ) (h : a ≤ b) (k : b ≤ c) where
   -- a sweep that goes on from where one ended
@@ -233,10 +227,7 @@ column-on rows columns column h = omega (arith, mul-le-mul-right rows h)
 
 -- no column yet
 pub left-none : (rows label column : ℕ) (w : List ℤ) → SweptOver label ((column + 1) * rows) (column * rows + rows) w 0 w
-left-none rows label column w = rw seam (over-none label (column * rows + rows) w)
-  where
-    seam : (column + 1) * rows ≡ column * rows + rows
-    seam = omega arith
+left-none rows label column w = rw (← next-column rows column) (over-none label (column * rows + rows) w)
 
 module _ (rows label column left : ℕ) (w v u : List ℤ) (r q n : ℕ) (some : 0 < left) (few : left ≤ column + 1)
     (s : SweptOver label (left * rows) (column * rows + rows) w r v) (t : RunSwept label ((left - 1) * rows) ((left - 1) * rows + rows) v q n u) where

@@ -13,8 +13,9 @@ use Rattle.premiums.specs.Laying.{alonePremium}
 use Rattle.game.proofs.Counts.{count-ext, count-none}
 use Rattle.game.proofs.Labels.{label-marks}
 use Rattle.game.proofs.Ranges.{cost-range, untouched-cost, untouched-gain}
-use Rattle.game.proofs.Squares.{cells→, close-sym, count-square, square→, →square}
-use Rattle.game.proofs.Truth.{and-right, eqb-no, iff}
+use Rattle.game.proofs.Squares.{cells→, count-square, square-sym}
+use Rattle.game.proofs.Truth.{and-right}
+use borrow.Author.Tests.{ne-eqb}
 
 -- ---- the raised premium before any move, in two parts
 
@@ -26,17 +27,11 @@ alone g i = alonePremium (bit (not (eqb (firstLabel g i) 0)) + bit (not (eqb (se
 abbrev pub raises : Grid → ℕ → ℕ → Bool
 raises g i j = unlabelled g j && (has i (square g j) && safe g i)
 
--- two cells are in each other's squares, or not
-near-sym : (g : Grid) (i j : ℕ) → i < size g → j < size g → has i (square g j) ≡ has j (square g i)
-near-sym g i j h k =
-    iff (has i (square g j)) (has j (square g i)) (λ t. →square g i j h k (close-sym g j i (square→ g j i k t .1)))
-    (λ t. →square g j i k h (close-sym g i j (square→ g i j h t .1)))
-
 -- the unlabelled cells whose squares have the cell are those of its square
 raised-near : (g : Grid) (i : ℕ) → i < size g → mine g i ≡ false → count (raises g i) (cells g) ≡ count (unlabelled g) (square g i)
 raised-near g i h e =
     count-ext (raises g i) (λ j. has j (square g i) && unlabelled g j) (cells g) (λ j t.
-    ap (λ (b : Bool). unlabelled g j && (b && safe g i)) (near-sym g i j h (cells→ g j t))
+    ap (λ (b : Bool). unlabelled g j && (b && safe g i)) (square-sym g i j h (cells→ g j t))
     ∙ ap (λ (b : Bool). unlabelled g j && (has j (square g i) && not b)) e
     ∙ turned (unlabelled g j) (has j (square g i)))
     ∙ sym (count-square g (unlabelled g) i h)
@@ -62,7 +57,7 @@ raised-parts g i h = go (mine g i) refl
     go true e = omega (arith, mine-stays g i e)
     go false e =
         ap (λ (b : Bool). cond b 0 (9 + (bit (not (eqb (firstLabel g i) 0)) + bit (not (eqb (secondLabel g i) 0))) - (1 + number g i)) + count (raises g i) (cells g))
-        (eqb-no (1 + number g i) 0 (λ q. omega arith))
+        (ne-eqb (1 + number g i) 0 (λ q. omega arith))
         ∙ omega (
           arith,
           raised-near g i h e,

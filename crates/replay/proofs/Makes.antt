@@ -19,7 +19,7 @@ use Rattle.game.proofs.Counts.{count-ext}
 use Rattle.game.proofs.Legal.{legal-flag, legal-left}
 use Rattle.game.proofs.Tidy.{legal-inside}
 use Rattle.game.proofs.Squares.{square→}
-use Rattle.game.proofs.Truth.{T→true, and-both, and-left, and-right, eqb-no, eqb-yes, no→false}
+use Rattle.game.proofs.Truth.{T→true, and-both, and-left, and-right, no→false}
 use Rattle.area.specs.Stages.{Stands}
 use Rattle.play.specs.Promises.{Chording, Revealing}
 use Rattle.replay.specs.Replays.{Making}
@@ -30,6 +30,7 @@ use Rattle.replay.specs.declared.Made.the-variants.{Illegal, Played}
 use Rattle.play.proofs.Changes.{flag-count}
 use Rattle.play.proofs.Chords.{square-of}
 use Rattle.play.proofs.Reveals.{inside, is-closed, is-mine, is-safe, is-zero, kind-read, not-closed, size-is, state-read}
+use borrow.Author.Tests.{eq-eqb, ne-eqb}
 
 -- ---- all pass a test where none passes its opposite
 
@@ -38,7 +39,7 @@ all-none f h [] e = refl
 all-none f h (x ∷ xs) e = ap (λ (b : Bool). b && all-of f xs) (e x) ∙ go (h x) (all-none f h xs e)
   where
     go : (b : Bool) → all-of f xs ≡ eqb (count h xs) 0 → (not b && all-of f xs) ≡ eqb (bit b + count h xs) 0
-    go true r = sym (eqb-no (1 + count h xs) 0 (λ q. absurd (omega arith)))
+    go true r = sym (ne-eqb (1 + count h xs) 0 (λ q. absurd (omega arith)))
     go false r = r ∙ ap (λ (k : ℕ). eqb k 0) same
       where
         same : count h xs ≡ 0 + count h xs
@@ -132,12 +133,12 @@ module _ (rows columns : ℕ) (g : Grid) (s : Position) (old w : List ℤ) (i : 
     zero-opened k e o =
         sym (no→false (chordable g s i) (λ t. T-not (zeroCell g i)
         (and-right (opened s i) (not (zeroCell g i)) (and-left (opened s i && not (zeroCell g i)) (all-of (λ j. not (mine g j) || flagged s j) (square g i)) t))
-        (subst T (sym (eqb-yes k 1 o) ∙ is-zero rows columns g s old w i h st k e) tt)))
+        (subst T (sym (eq-eqb k 1 o) ∙ is-zero rows columns g s old w i h st k e) tt)))
 
     pub mines-decide : (k n : ℕ) → k ≡ kindAt w i → (k ≡ 1 → ⊥) → n ≡ count (unflaggedAt w) (squareOf rows columns i) → eqb n 0 ≡ chordable g s i
     unfolding chordable
     mines-decide k n ek nk en =
-        rw (mines-counted n en, state-one, ← is-zero rows columns g s old w i h st k ek, eqb-no k 1 nk)
+        rw (mines-counted n en, state-one, ← is-zero rows columns g s old w i h st k ek, ne-eqb k 1 nk)
 
   pub chord-refused : (b : Bool) → b ≡ chordable g s i → b ≡ false → Making rows columns g s old (legal g s (chord i)) (some (chord i)) Illegal w w
   unfolding legal
@@ -178,7 +179,7 @@ module _ (rows columns : ℕ) (g : Grid) (s : Position) (old w : List ℤ) (word
       → Making rows columns g s old (legalRead g s (readMove word)) (readMove word) Illegal w w
   unfolding readMove
   other-kind a b c =
-      refused (rw (eqb-no (word / 65536) 1 a, eqb-no (word / 65536) 2 b, eqb-no (word / 65536) 3 c))
+      refused (rw (ne-eqb (word / 65536) 1 a, ne-eqb (word / 65536) 2 b, ne-eqb (word / 65536) 3 c))
 
   -- the move that was read
   pub as-read : (m : Move) (r : Made) (v : List ℤ) → readMove word ≡ some m → Making rows columns g s old (legal g s m) (some m) r w v

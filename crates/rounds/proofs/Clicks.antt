@@ -2,7 +2,7 @@
 use Prim.Native.Nat.{ℕ, _*_, _+_, _-_, _<_, _≤_}
 use native.Mathlib.Omega.{arith}
 use native.Mathlib.Decide.{ℕ-discrete}
-use mathlib.Core.Path.{_∙_, _≡_, ap, refl, subst, sym}
+use mathlib.Core.Path.{_∙_, _≡_, ap, subst, sym}
 use mathlib.Core.Bool.{Bool, _||_, cond, false, not, true}
 use mathlib.Core.List.{List, [], _∷_}
 use lib.Dec.{T, T-not, eqb}
@@ -18,12 +18,12 @@ use Rattle.choices.proofs.Below.{in-column}
 use Rattle.choices.proofs.Columns.{column-low}
 use Rattle.choices.proofs.Tops.{none-reaches}
 use Rattle.game.specs.Grid.{Grid, columnOf, mine, safe, size, square, zeroCell}
-use Rattle.game.specs.Moves.{after, left, play, reveal}
+use Rattle.game.specs.Moves.{after, left, play}
 use Rattle.game.specs.Openings.{unlabelled}
 use Rattle.game.specs.Position.{Position, cellUnit, closed, cost, gain}
 use Rattle.game.specs.Rounds.{topCells}
 use Rattle.game.proofs.Counts.{count-mono}
-use Rattle.game.proofs.Reveal.{Revealed, opens, revealed, stays, sweeps}
+use Rattle.game.proofs.Reveal.{reveal-one}
 use Rattle.game.proofs.Truth.{and-both, and-left, and-right}
 use Rattle.rounds.proofs.Quiet.{same-cost, same-openings, same-units}
 
@@ -31,12 +31,7 @@ module _ (g : Grid) (s : Position) (i : ℕ) (is-safe : T (safe g i)) (shut : T 
   -- it alone is opened
   opened-alone : after g s (left i ∷ []) ≡ set s i 1
   unfolding play
-  opened-alone = go (reveal g s i) (revealed g s i)
-    where
-      go : (p : Position) → Revealed g s i p → p ≡ set s i 1
-      go p (stays m) = absurd (m is-safe shut)
-      go p (opens a b m) = refl
-      go p (sweeps a b z) = absurd (numbered z)
+  opened-alone = reveal-one g s i is-safe shut numbered
 
   other : (j : ℕ) → (j ≡ i → ⊥) → getD (set s i 1) j 0 ≡ getD s j 0
   other j n = getD-set-other s i j 1 0 n

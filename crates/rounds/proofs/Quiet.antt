@@ -27,7 +27,7 @@ use Rattle.game.proofs.Chains.{joined-trans}
 use Rattle.game.proofs.Counts.{count-each, count-ext, each-map}
 use Rattle.game.proofs.Members.{all-ext, first-of, fold-inv, has-range, keep-has, rest-of, some-yes, yes-some}
 use Rattle.game.proofs.Openings.{Full, good, →joinedTo}
-use Rattle.game.proofs.Reveal.{Revealed, getD-sweep, held-joined, mine-off, opens, revealed, stays, sweeps, unlabelled-off, zero-safe}
+use Rattle.game.proofs.Reveal.{Revealed, getD-sweep, held-joined, mine-off, opens, revealed, stays, sweep-closed, sweeps, unlabelled-off, zero-safe}
 use Rattle.game.proofs.Squares.{in-own-square, square→}
 use Rattle.game.proofs.Truth.{and-left, and-under, no→false}
 use Rattle.game.proofs.Zeros.{Zero}
@@ -97,12 +97,8 @@ module _ (g : Grid) (s : Position) (i : ℕ) (inside : i < size g) where
             getD-sweep g s′ c j h
             ∙ ap (λ (x : Bool). cond x 1 (getD s′ j 0)) (no→false (holds g j (joinedTo g c)) (off c t z (k .shut c (square→ g i c inside t .0) z b)))
             ∙ k .same j h f off;
-        shut = λ j h y u. k .shut j h y (still (holds g j (joinedTo g c)) (getD s′ j 0) (subst (λ (x : ℕ). T (eqb x 0)) (getD-sweep g s′ c j h) u));
+        shut = λ j h y u. k .shut j h y (sweep-closed g s′ c j h u);
       }
-    where
-      still : (x : Bool) (n : ℕ) → T (eqb (cond x 1 n) 0) → T (eqb n 0)
-      still true n u = absurd u
-      still false n u = u
 
   kept-reveal : (s′ : Position) (c : ℕ) → T (has c (square g i)) → Kept g i s s′ → Kept g i s (reveal g s′ c)
   kept-reveal s′ c t k = go (reveal g s′ c) (revealed g s′ c)

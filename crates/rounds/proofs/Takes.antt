@@ -16,7 +16,7 @@ use Rattle.game.specs.Lists.{has}
 use Rattle.game.specs.Moves.{Move, left}
 use Rattle.game.specs.Position.{Position, Tidy, closed, closedSafe}
 use Rattle.game.specs.Rounds.{Choice, choice, chords, clicks, movesAt, stepOf, topCells, unitCells, width}
-use Rattle.game.proofs.Choices.{looked→, never-stuck, premium-pays, top→, unit→}
+use Rattle.game.proofs.Choices.{choice-none, looked→, never-stuck, premium-pays, top→, unit→}
 use Rattle.game.proofs.Legal.{zero-poor}
 use Rattle.game.proofs.Members.{has-head}
 use Rattle.rounds.specs.Promises.{columnAfter}
@@ -29,10 +29,6 @@ found-has (x ∷ xs) r i e f = let q : x ≡ i = cc in (has-head i x xs (sym q),
 found-none : (xs : List ℕ) (r : Found) → r ≡ Nothing → r ≡ foundFirst xs → xs ≡ []
 found-none [] r e f = refl
 found-none (x ∷ xs) r e f = let z : _≡_ {A = ℕ} 0 1 = cc in absurd (omega arith)
-
-no-top : (g : Grid) (s : Position) (openedOnly : Bool) → topCells openedOnly g s ≡ [] → choice openedOnly g s ≡ clicks (unitCells g s)
-unfolding choice
-no-top g s openedOnly e = ap (λ (ts : List ℕ). elim ts as (λ _. Choice) [ [] ↦ clicks (unitCells g s) | x ∷ xs ↦ chords (x ∷ xs) ]) e
 
 module _ (rows columns : ℕ) (w : List ℤ) (r : Found) where
   -- it lies on the grid
@@ -92,6 +88,6 @@ module _ (rows columns : ℕ) (w : List ℤ) (r : Found) where
           → P (stepOf g s (choice openedOnly g s) 0 .moves) (columnAfter g (choice openedOnly g s) from)
       click-taken p h e q =
           let z = found-none (topCells openedOnly g s) r e f in
-          let n = no-top g s openedOnly z in
+          let n = choice-none openedOnly g s z in
           let l : 1 ≤ length (unitCells g s) = subst (λ (c : Choice). 1 ≤ width c) n (never-stuck openedOnly g s p h) in
           rw n (q l z)

@@ -4,7 +4,7 @@ use native.Mathlib.Omega.{arith}
 use native.Mathlib.Nat.{zero-add}
 use native.Mathlib.Numerals.{add-one}
 use mathlib.Core.Path.{_≡_, ap, refl, sym, _∙_}
-use mathlib.Core.List.{List, [], _∷_, _++_, append-assoc}
+use mathlib.Core.List.{List, [], _∷_, _++_}
 use lib.ListN.{drop, getD, length, length-drop, set, take}
 use lib.Seq.{getD-drop, length-take-le, sets, sets-eq, take-suc}
 use Rattle.game.specs.Lists.{concat-map}
@@ -14,6 +14,7 @@ use Rattle.stored.specs.MoveLine.{moveLine, wordBytes, wordDigits, words
 use Rattle.hex.proofs.Bytes.{length-bytes, sets-more}
 use Rattle.lines.proofs.Priced.{twoDigits}
 use Rattle.lines.proofs.Runs.{begun-more}
+use Rattle.game.proofs.Members.{concat-map-append}
 
 -- ---- moves read
 
@@ -79,10 +80,6 @@ word-digits w = λ i. concat-map byteDigits (first i ∷ w / 65536 % 256 ∷ thi
     fourth : w % 65536 % 256 ≡ w % 256
     fourth = omega arith
 
-concat-append : (f : ℕ → List ℕ) (xs ys : List ℕ) → concat-map f (xs ++ ys) ≡ concat-map f xs ++ concat-map f ys
-concat-append f [] ys = refl
-concat-append f (x ∷ xs) ys = ap (λ (r : List ℕ). f x ++ r) (concat-append f xs ys) ∙ sym (append-assoc (f x) (concat-map f xs) (concat-map f ys))
-
 pub length-digits : (ws : List ℕ) → length (wordDigits ws) ≡ 8 * length ws
 length-digits [] = refl
 length-digits (w ∷ ws) = let h = length-digits ws in omega arith
@@ -95,8 +92,8 @@ length-line rows columns ws = let h = length-digits ws in omega arith
 pub digits-more : (ws : List ℕ) (k : ℕ) → k < length ws → wordDigits (take (k + 1) ws) ≡ wordDigits (take k ws) ++ concat-map byteDigits (wordBytes (getD ws k 0))
 digits-more ws k h =
     ap wordDigits (ap (λ (n : ℕ). take n ws) (add-one k) ∙ take-suc ws k 0 h)
-    ∙ ap (concat-map byteDigits) (concat-append wordBytes (take k ws) (getD ws k 0 ∷ []))
-    ∙ concat-append byteDigits (concat-map wordBytes (take k ws)) (wordBytes (getD ws k 0))
+    ∙ ap (concat-map byteDigits) (concat-map-append wordBytes (take k ws) (getD ws k 0 ∷ []))
+    ∙ concat-map-append byteDigits (concat-map wordBytes (take k ws)) (wordBytes (getD ws k 0))
 
 -- digits put at the start of a run
 pub sets-begun : (front old : List ℕ) → length front ≤ length old → sets old 0 front ≡ begun front old

@@ -1,8 +1,7 @@
 -- A column that is passed over has no candidate: all of its premiums are lower. Assumes nothing.
 use Prim.Native.Nat.{ℕ, _*_, _+_, _-_, _<_, _≤_, suc, zero}
 use native.Mathlib.Omega.{arith}
-use native.Mathlib.Nat.{add-zero, mul-le-mul-right, suc-mul}
-use native.Mathlib.Numerals.{add-one}
+use native.Mathlib.Nat.{add-sub-of-le, add-zero, mul-le-mul-right, zero-mul}
 use mathlib.Core.Path.{_∙_, _≡_, ap, subst, sym}
 use mathlib.Core.Bool.{Bool, cond, false, not}
 use mathlib.Core.List.{List}
@@ -49,10 +48,7 @@ module _ (w : List ℤ) (rows columns : ℕ) (tops : List ℕ) (top column : ℕ
   skipped-none t =
       sym (count-none (candidateAt top w) (range (column * rows) (column * rows + rows)) (λ j u v.
       let r = has-range (column * rows) (column * rows + rows) j u in
-      none-there t (j - column * rows) (omega (arith, r .0, r .1)) (subst (λ (i : ℕ). T (candidateAt top w i)) (there j (r .0)) v)))
-    where
-      there : (j : ℕ) → column * rows ≤ j → j ≡ column * rows + (j - column * rows)
-      there j l = omega arith
+      none-there t (j - column * rows) (omega (arith, r .0, r .1)) (subst (λ (i : ℕ). T (candidateAt top w i)) (sym (add-sub-of-le (r .0))) v)))
 
 -- ---- column after column
 
@@ -73,19 +69,12 @@ count-join f b (suc k) =
 
 -- no column yet
 pub count-no-column : (f : ℕ → Bool) (rows : ℕ) → 0 ≡ count f (range 0 (0 * rows))
-count-no-column f rows = count-none-yet f 0 ∙ ap (λ (k : ℕ). count f (range 0 k)) (none rows)
-  where
-    none : (r : ℕ) → 0 ≡ 0 * r
-    none r = omega arith
+count-no-column f rows = count-none-yet f 0 ∙ ap (λ (k : ℕ). count f (range 0 k)) (sym (zero-mul rows))
 
 -- one column more
 pub count-column-more : (f : ℕ → Bool) (rows column m n : ℕ) → m ≡ count f (range 0 (column * rows)) → n ≡ count f (range (column * rows) (column * rows + rows))
     → m + n ≡ count f (range 0 (column * rows + rows))
 count-column-more f rows column m n e q = omega (arith, e, q, count-join f (column * rows) rows)
-
--- where the next column begins
-pub next-column : (rows column : ℕ) → column * rows + rows ≡ (column + 1) * rows
-next-column rows column = sym (rw (add-one, suc-mul))
 
 -- so many columns have few cells
 pub passed-few : (rows columns column : ℕ) → Shape rows columns → column < columns → column * rows + rows ≤ 65025

@@ -1,12 +1,12 @@
 -- The highest raised premium alone tells what a random step chooses among. Assumes nothing.
 use Prim.Native.Nat.{ℕ, _*_}
 use native.Mathlib.Omega.{arith}
-use mathlib.Core.Path.{_∙_, _≡_, ap, ap₂, refl, sym}
+use mathlib.Core.Path.{_∙_, _≡_, ap, ap₂, sym}
 use mathlib.Core.Logic.{⊎-elim}
 use mathlib.Core.Bool.{Bool, cond, false, true}
-use mathlib.Core.List.{List, [], _∷_}
+use mathlib.Core.List.{List}
 use borrow.Author.Tests.{lt-ltb, le-ltb}
-use lib.Dec.{T, eqb, ltb}
+use lib.Dec.{eqb, ltb}
 use lib.IntN.{ℤ}
 use Rattle.area.proofs.Held.{held-numbers}
 use Rattle.area.specs.Numbers.{premiumAt}
@@ -15,26 +15,14 @@ use Rattle.choices.specs.Tests.{unitAt}
 use Rattle.choices.specs.Tops.{firstOf}
 use Rattle.ties.specs.Candidates.{candidateAt, candidatesOf, forClick}
 use Rattle.game.specs.Grid.{Grid}
-use Rattle.game.specs.Lists.{has, keep, range}
+use Rattle.game.specs.Lists.{keep, range}
 use Rattle.game.specs.Position.{Position}
-use Rattle.game.specs.Rounds.{Choice, choice, chords, clicks, topCells, unitCells}
+use Rattle.game.specs.Rounds.{choice}
 use Rattle.choices.proofs.Columns.{Leading, led-all}
 use Rattle.choices.proofs.Held.{units-there}
 use Rattle.choices.proofs.Tops.{no-tops, top-there, tops-there}
 use Rattle.game.proofs.Members.{keep-ext}
-
--- without a premium of 0 or more the choice is for one L
-choice-none : (openedOnly : Bool) (g : Grid) (s : Position) → topCells openedOnly g s ≡ [] → choice openedOnly g s ≡ clicks (unitCells g s)
-unfolding choice
-choice-none openedOnly g s e = ap (λ (ts : List ℕ). elim ts [ [] ↦ clicks (unitCells g s) | x ∷ xs ↦ chords (x ∷ xs) ]) e
-
-choice-some : (openedOnly : Bool) (g : Grid) (s : Position) (x : ℕ) → T (has x (topCells openedOnly g s)) → choice openedOnly g s ≡ chords (topCells openedOnly g s)
-unfolding choice
-choice-some openedOnly g s x t = go (topCells openedOnly g s) t
-  where
-    go : (ts : List ℕ) → T (has x ts) → _≡_ {A = Choice} (elim ts [ [] ↦ clicks (unitCells g s) | x ∷ xs ↦ chords (x ∷ xs) ]) (chords ts)
-    go [] u = absurd u
-    go (y ∷ ys) u = refl
+use Rattle.game.proofs.Choices.{choice-none, choice-some}
 
 module _ (rows columns : ℕ) (g : Grid) (s : Position) (old w : List ℤ) (st : Stands rows columns g s old w) where
   abbrev top : ℕ

@@ -7,7 +7,7 @@ use mathlib.Core.List.{List, [], _∷_, _++_, map}
 use mathlib.Core.Option.{Option, none, some}
 use lib.IntN.{ℤ}
 use lib.ListN.{drop, getD, length, length-map, take}
-use lib.Seq.{take-append-seam}
+use lib.Seq.{take-at}
 use borrow.Author.Tests.{ne-eqb}
 use Rattle.game.specs.Draws.{lent}
 use Rattle.game.specs.Grid.{Grid, size}
@@ -39,16 +39,12 @@ not-turned-down : (o : Option Refusal) (w w′ : List ℤ) (x : Outcome) (vs : L
 not-turned-down none w w′ x vs k = (refl, k)
 not-turned-down (some f) w w′ x vs k = absurd (let e : 0 ≡ numberOf f = ap (λ (a : Answer). a .number) (k .answers) in omega (arith, numbered f))
 
--- the first words of a list that moves were written into
-pub first-words : (xs ys : List ℕ) (n : ℕ) → n ≡ length xs → take n (xs ++ ys) ≡ xs
-first-words xs ys n e = ap (λ (k : ℕ). take k (xs ++ ys)) e ∙ take-append-seam xs ys
-
 -- the round's moves stand in the list
 stands-written : (g : Grid) (ts : List Step) (l l′ : List ℕ) (n : ℕ) → size g ≤ 65536 → Sound g ts → n ≡ length (movesOf ts) → l′ ≡ listOf (movesOf ts) l → Written g n l′
 unfolding listOf
 stands-written g ts l l′ n h d e q =
     let words : take n l′ ≡ map word (movesOf ts) =
-    ap (take n) q ∙ first-words (map word (movesOf ts)) (drop (length (map word (movesOf ts))) l) n (e ∙ sym (length-map (movesOf ts) word)) in
+    ap (take n) q ∙ take-at (map word (movesOf ts)) (drop (length (map word (movesOf ts))) l) n (sym (e ∙ sym (length-map (movesOf ts) word))) in
     record { steps = ts; sound = d; clicks = e; words = words; replays = ap (replayFrom g 0 (untouched g)) words ∙ round-replays g ts h d }
 
 -- a grid that was not refused is small

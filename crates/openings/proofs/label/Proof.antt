@@ -2,13 +2,13 @@
 use Rattle.openings.proofs.label.Statement.{statement}
 use Rattle.openings.proofs.label.Tie as tie
 use native.Mathlib.Omega.{arith}
-use native.Mathlib.Nat.{mul-comm, suc-mul}
-use native.Mathlib.Numerals.{add-one}
-use Prim.Native.Nat.{ℕ, _*_, _+_, _-_, _≤_}
+use native.Mathlib.Nat.{mul-comm, zero-mul}
+use Prim.Native.Nat.{ℕ, _*_, _-_, _≤_}
 use mathlib.Core.Path.{_∙_, _≡_, ap, refl, subst, sym}
 use lib.ListN.{length}
 use Rattle.openings.specs.Spread.{Numbered}
 use Rattle.openings.proofs.Numbers.{numbered-all, numbered-none}
+use Rattle.game.proofs.Squares.{next-column}
 
 abbrev Inv-loop : tie.InvT-loop
 Inv-loop work₀ rows columns count₀ column₀ work count column =
@@ -18,10 +18,7 @@ abbrev μ-loop : tie.MeasureT-loop
 μ-loop work₀ rows columns count₀ column₀ work count column = columns - column
 
 loop-holds : tie.Need-loop-holds Inv-loop μ-loop
-loop-holds c = (omega arith, refl, omega arith, subst (λ (k : ℕ). Numbered (c .args .rows) (c .args .columns) (c .args .work .now) k 0 (c .args .work .now)) (none (c .args .rows)) (numbered-none (c .args .rows) (c .args .columns) (c .args .work .now)))
-  where
-    none : (rows : ℕ) → 0 ≡ 0 * rows
-    none rows = omega arith
+loop-holds c = (omega arith, refl, omega arith, subst (λ (k : ℕ). Numbered (c .args .rows) (c .args .columns) (c .args .work .now) k 0 (c .args .work .now)) (sym (zero-mul (c .args .rows))) (numbered-none (c .args .rows) (c .args .columns) (c .args .work .now)))
 
 label-column-requires : tie.Need-label-column-requires Inv-loop μ-loop
 label-column-requires c κs = let l = c .before .before .loop .inv in (c .before .before .before .pre .0, (omega (arith, l .1), omega arith, l .2))
@@ -31,10 +28,6 @@ add-column c = omega arith
 
 loop-less : tie.Need-loop-less Inv-loop μ-loop
 loop-less c = omega arith
-
--- one column more
-next-column : (rows column : ℕ) → column * rows + rows ≡ (column + 1) * rows
-next-column rows column = sym (rw (add-one, suc-mul))
 
 loop-again : tie.Need-loop-again Inv-loop μ-loop
 loop-again c =

@@ -3,10 +3,9 @@
 --     At i     the loop's invariant: the run is owned at zs i, the list is owned, and the locals are as they are before the test
 -- Assumes nothing.
 use mathlib.Core.Path.{_≡_, refl, sym, ap, subst, _∙_}
-use Prim.Native.Nat.{ℕ, suc, _+_, _-_, _<_, _≤_, _^_, zero-le}
+use Prim.Native.Nat.{ℕ, _+_, _-_, _<_, _≤_, _^_, zero-le}
 use native.Mathlib.Nat.{le-antisymm, le-trans, lt-of-le-of-lt, lt-of-lt-of-le}
-use native.Mathlib.Numerals.{add-one-le, add-one-dec}
-use native.Mathlib.Omega.{arith}
+use native.Mathlib.Numerals.{add-one-dec, add-one-le, suc-eq-add-one}
 use mathlib.Core.WellFounded.{WellFounded, InvImage·wf}
 use mathlib.Core.List.{List, [], _∷_, map}
 use lib.WfN.{Nat·lt-wfRel}
@@ -73,9 +72,6 @@ use Rattle.records.proofs.records_of.Code.Mir as parts
 
 abbrev stayed : Stays (f.ended .signature .params) (f.ended .kept)
 stayed = (stay-slice (0 ∷ []) tt (plain (λ _. T.the-row)), (stay-none-slice (1 ∷ []) tt (plain (λ _. u32)) yes, (stay-none (λ _. usize) yes, (stay-none (λ _. usize) yes, tt))))
-
-one-more : (k : ℕ) → suc k ≡ k + 1
-one-more k = omega arith
 
 -- what comes after a part's first statement: a turn is its test, its exit, and the rest
 abbrev tail : Body → Body
@@ -215,7 +211,7 @@ module _ {M : Type 1} (𝓤 : URA M) (H : Heap 𝓤) (A : Atoms 𝓤) (W : Given
 
   -- one more record
   next-run : (k : ℕ) (m : MoveRecord) → k < length (s .now) → m ≡ found k → set (zs k) k m ≡ zs (k + 1)
-  next-run k m l e = ap (set (zs k) k) e ∙ (over-more (recordOf rows) 0 k (s .now) ys l ∙ ap zs (one-more k))
+  next-run k m l e = ap (set (zs k) k) e ∙ (over-more (recordOf rows) 0 k (s .now) ys l ∙ ap zs (suc-eq-add-one k))
 
   module _ (n : ℕ) (low : Lowest n) (𝓣 : Tables 𝓤 H) (known : Triple 𝓤 (𝓣 .C #records·record-at) (RecordAt 𝓤 H A at-mem run)) (known-write : Triple 𝓤 (𝓣 .C #records·write-record) (Write 𝓤 H A at-mem run)) (l₀ l₁ l₂ l₃ l₄ l₅ l₆ l₇ l₈ l₉ la lb lc ld : ℕ) where
     abbrev Upto : Type 0

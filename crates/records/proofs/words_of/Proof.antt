@@ -3,9 +3,9 @@
 --     At i     the loop's invariant: the list is owned at zs i, the run is owned, and the locals are as they are before the test
 -- Assumes nothing.
 use mathlib.Core.Path.{_≡_, refl, sym, ap, subst, _∙_}
-use Prim.Native.Nat.{ℕ, suc, _+_, _-_, _*_, _<_, _≤_, _^_, zero-le}
+use Prim.Native.Nat.{ℕ, _+_, _-_, _*_, _<_, _≤_, _^_, zero-le}
 use native.Mathlib.Nat.{le-antisymm, le-trans, lt-of-le-of-lt, lt-of-lt-of-le}
-use native.Mathlib.Numerals.{add-one-le, add-one-dec}
+use native.Mathlib.Numerals.{add-one-dec, add-one-le, suc-eq-add-one}
 use native.Mathlib.Omega.{arith}
 use mathlib.Core.WellFounded.{WellFounded, InvImage·wf}
 use mathlib.Core.List.{List, [], _∷_, map}
@@ -72,9 +72,6 @@ stayed = (stay-slice (0 ∷ []) tt (plain (λ _. u32)), (stay-none-slice (1 ∷ 
 -- the offset of element k fits, by the slice's room
 fits-at : (k n : ℕ) → k < n → n * 4 < 2 ^ 63 → k * 4 < 2 ^ 64
 fits-at k n l r = omega arith
-
-one-more : (k : ℕ) → suc k ≡ k + 1
-one-more k = omega arith
 
 -- what comes after a part's first statement: a turn is its test, its exit, and the rest
 abbrev tail : Body → Body
@@ -190,7 +187,7 @@ module _ {M : Type 1} (𝓤 : URA M) (H : Heap 𝓤) (A : Atoms 𝓤) (W : Given
 
   -- one more word
   next-run : (k : ℕ) (m : ℕ) → k < length (s .now) → m ≡ found k → set (zs k) k m ≡ zs (k + 1)
-  next-run k m l e = ap (set (zs k) k) e ∙ (over-more (moveWord rows) noMove k (s .now) ys l ∙ ap zs (one-more k))
+  next-run k m l e = ap (set (zs k) k) e ∙ (over-more (moveWord rows) noMove k (s .now) ys l ∙ ap zs (suc-eq-add-one k))
 
   module _ (n : ℕ) (low : Lowest n) (𝓣 : Tables 𝓤 H) (known : Triple 𝓤 (𝓣 .C #records·word-at) (WordAt 𝓤 H A at-mem run)) (l₀ l₁ l₂ l₃ l₄ l₅ l₆ l₇ l₈ l₉ la lb lc : ℕ) where
     abbrev Upto : Type 0

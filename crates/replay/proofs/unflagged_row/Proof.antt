@@ -7,9 +7,9 @@ use Rattle.game.specs.Lists.{count}
 use Rattle.play.specs.Walks.{unflaggedAt}
 use Rattle.area.proofs.Cells.{cell-below}
 use Rattle.area.proofs.Rows.{count-row, row-none}
-use Rattle.play.proofs.Steps.{bit-small}
 use Rattle.replay.proofs.unflagged_row.Statement.{statement}
 use Rattle.replay.proofs.unflagged_row.Tie as tie
+use Rattle.game.proofs.Counts.{bit-small}
 
 abbrev Inv-loop : tie.InvT-loop
 Inv-loop work rows columns row from to mines₀ column₀ mines column = (from ≤ column) × (column ≤ to) × (mines ≤ column - from) × (mines ≡ count (unflaggedAt work) (rowCells rows row from column))

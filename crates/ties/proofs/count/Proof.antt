@@ -7,9 +7,10 @@ use Rattle.game.specs.Lists.{count, range}
 use lib.ListN.{length}
 use Rattle.ties.specs.Candidates.{candidateAt}
 use Rattle.choices.specs.Tops.{UnitsKept}
-use Rattle.ties.proofs.Skips.{count-column-more, count-no-column, next-column, passed-few}
+use Rattle.ties.proofs.Skips.{count-column-more, count-no-column, passed-few}
 use Rattle.ties.proofs.count.Statement.{statement}
 use Rattle.ties.proofs.count.Tie as tie
+use Rattle.game.proofs.Squares.{next-column}
 
 abbrev Inv-loop : tie.InvT-loop
 Inv-loop work rows columns tops units₀ top candidates₀ column₀ units candidates column =

@@ -8,9 +8,10 @@ use lib.ListN.{length}
 use Rattle.ties.specs.Candidates.{candidateAt}
 use Rattle.choices.specs.Tops.{UnitsKept}
 use Rattle.choices.proofs.Passing.{kept-past}
-use Rattle.ties.proofs.Skips.{count-column-more, count-no-column, next-column, passed-few}
+use Rattle.ties.proofs.Skips.{count-column-more, count-no-column, passed-few}
 use Rattle.ties.proofs.pick.Statement.{statement}
 use Rattle.ties.proofs.pick.Tie as tie
+use Rattle.game.proofs.Squares.{next-column}
 
 abbrev Inv-loop : tie.InvT-loop
 Inv-loop work rows columns tops units₀ top place passed₀ column₀ units passed column =

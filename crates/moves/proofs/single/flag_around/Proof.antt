@@ -1,6 +1,7 @@
 -- `moves::single::flag_around`: the rows passed were flagged in turn; all rows are the square. Assumes nothing.
 use Prim.Native.Nat.{ℕ, _*_, _+_, _-_, _<_, _≤_}
 use native.Mathlib.Omega.{arith}
+use native.Mathlib.Nat.{le-antisymm}
 use mathlib.Core.Path.{_≡_, refl}
 use lib.ListN.{length}
 use borrow.Author.Needs.{needs}
@@ -40,9 +41,6 @@ module _ (r last : ℕ) (t : r < last) where
 
   less : (r + 1 ≤ last) × (last - (r + 1) < last - r)
   less = (omega arith, omega arith)
-
-all-rows : {r last : ℕ} → r ≤ last → last ≤ r → r ≡ last
-all-rows h k = omega arith
 
 -- ---- the code
 
@@ -121,7 +119,7 @@ returns c =
     let q = l .before .around .ensures in
     let s = l .before .around .result in
     let a = l .before .before .before .args in
-    let e : l .loop .row ≡ s .last = all-rows (l .loop .inv .1) (c .loop-test .left) in (
+    let e : l .loop .row ≡ s .last = le-antisymm (l .loop .inv .1) (c .loop-test .left) in (
       ends (a .state .moves) (l .loop .flagged .moves) (s .first) (l .loop .row) (l .loop .inv .4) (s .last) (l .loop .inv .1) (q .few-rows),
       flags-square (a .rows) (a .columns) (a .work .now) (a .list .now) (a .state) (a .index) (l .loop .work) (l .loop .list) (l .loop .flagged) (rw (q .cells) (rw e at (l .loop .inv .5))),
     )

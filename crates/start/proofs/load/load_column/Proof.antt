@@ -8,12 +8,13 @@ use mathlib.Core.Bool.{Bool, cond}
 use mathlib.Core.List.{List}
 use lib.IntN.{ℤ}
 use lib.ListN.{length}
+use lib.Arith.{digits-lt}
 use Rattle.game.specs.Lists.{range, fold}
 use Rattle.game.specs.Grid.{mine}
 use Rattle.game.proofs.Members.{fold-more}
 use Rattle.area.specs.Numbers.{gridOf, rowMine}
 use Rattle.area.specs.Stages.{kind}
-use Rattle.area.proofs.Cells.{cell-below, cells-few, mine-here, place-below}
+use Rattle.area.proofs.Cells.{cell-below, cells-few, mine-here}
 use Rattle.start.specs.Passes.{loadAt, loadCell, minesOf}
 use Rattle.start.proofs.Loaded.{length-load, mines-none, mines-row, number-by-rows}
 use Rattle.start.proofs.load.load_column.Statement.{statement}
@@ -83,7 +84,7 @@ mines-below-requires c κs = search needs
 place : (c : tie.In-loop Inv-loop μ-loop) → c .before .loop .row * c .before .before .before .before .before .args .columns + c .before .before .before .before .before .args .column < c .before .before .before .before .before .args .rows * c .before .before .before .before .before .args .columns
 place c =
     let a = c .before .before .before .before .before .args in
-    place-below (a .rows) (a .columns) (c .before .loop .row) (a .column) (omega arith) (omega arith)
+    digits-lt {q = c .before .loop .row} {m = a .rows} {r = a .column} {c = a .columns} (omega arith) (omega arith)
 
 below : (c : tie.In-loop Inv-loop μ-loop) → c .before .before .before .before .before .args .column * c .before .before .before .before .before .args .rows + c .before .loop .row < c .before .before .before .before .before .args .rows * c .before .before .before .before .before .args .columns
 below c =
