@@ -15,7 +15,7 @@ use Rattle.game.proofs.Areas.{laid-at, laid-length, laid-only, laid-past}
 use Rattle.game.proofs.Counts.{Once}
 use Rattle.game.proofs.Members.{first-of, rest-of}
 use Rattle.game.proofs.Truth.{no→false}
-use Rattle.area.specs.Numbers.{firstAt, five, kindAt, natural, numberAt, premiumAt, putAt, putPremium, secondAt, stateAt}
+use Rattle.area.specs.Numbers.{firstAt, five, kindAt, natural, numberAt, premiumAt, putAt, putPremium, putState, secondAt, stateAt}
 use Rattle.area.specs.Squares.{shifted}
 use borrow.Author.Tests.{eq-eqb, ne-eqb}
 
@@ -88,6 +88,14 @@ set-five five other l m n old room i j v h k e f =
               ∙ ap (λ (z : List ℤ). getD z y (pos 0)) (sym (f x q))
         ]
 
+-- a cell with another premium
+abbrev pub priced : ℕ → Cell → Cell
+priced p c = record { first = c .first; second = c .second; premium = p % 2147483648; state = c .state; kind = c .kind }
+
+-- with another state
+abbrev pub stated : ℕ → Cell → Cell
+stated k c = record { first = c .first; second = c .second; premium = c .premium; state = k % 2147483648; kind = c .kind }
+
 module _ (n : ℕ) (old : List ℤ) (room : 5 * n ≤ length old) where
   -- areas whose cells are the same
   pub same-area : (C D : ℕ → Cell) → ((x : ℕ) → x < n → C x ≡ D x) → cellArea C n old ≡ cellArea D n old
@@ -97,18 +105,30 @@ module _ (n : ℕ) (old : List ℤ) (room : 5 * n ≤ length old) where
       (λ k h. laid-past (λ i. numbers (C i)) (λ i. refl) n old k h)
 
   -- a number put
-  pub put-area : (C : ℕ → Cell) (i j v : ℕ) (c : Cell) → i < n → j < 5 → numbers c ≡ set (numbers (C i)) j (pos (v % 2147483648))
+  put-area : (C : ℕ → Cell) (i j v : ℕ) (c : Cell) → i < n → j < 5 → numbers c ≡ set (numbers (C i)) j (pos (v % 2147483648))
       → putAt (cellArea C n old) (5 * i + j) v ≡ cellArea (at C i c) n old
   put-area C i j v c h k e =
       set-five (λ x. numbers (C x)) (λ x. numbers (at C i c x)) (λ x. refl) (λ x. refl) n old room i j (pos (v % 2147483648)) h k
       (ap numbers (at-here C i c i refl) ∙ e) (λ x q. ap numbers (at-other C i c x q))
 
   -- another number of the same cell
-  pub put-again : (C : ℕ → Cell) (i j v : ℕ) (c d : Cell) → i < n → j < 5 → numbers d ≡ set (numbers c) j (pos (v % 2147483648))
+  put-again : (C : ℕ → Cell) (i j v : ℕ) (c d : Cell) → i < n → j < 5 → numbers d ≡ set (numbers c) j (pos (v % 2147483648))
       → putAt (cellArea (at C i c) n old) (5 * i + j) v ≡ cellArea (at C i d) n old
   put-again C i j v c d h k e =
       put-area (at C i c) i j v d h k (e ∙ ap (λ (x : Cell). set (numbers x) j (pos (v % 2147483648))) (sym (at-here C i c i refl)))
       ∙ same-area (at (at C i c) i d) (at C i d) (λ x _. at-again C i c d x)
+
+  -- a premium put
+  pub put-premium : (C : ℕ → Cell) (i v : ℕ) → i < n → putPremium (cellArea C n old) i v ≡ cellArea (at C i (priced v (C i))) n old
+  put-premium C i v h = put-area C i 4 v (priced v (C i)) h (omega arith) refl
+
+  -- a state put
+  pub put-state : (C : ℕ → Cell) (i v : ℕ) → i < n → putState (cellArea C n old) i v ≡ cellArea (at C i (stated v (C i))) n old
+  put-state C i v h = put-area C i 3 v (stated v (C i)) h (omega arith) refl
+
+  -- a state put where another number was put before
+  pub put-state-again : (C : ℕ → Cell) (i v : ℕ) (c : Cell) → i < n → putState (cellArea (at C i c) n old) i v ≡ cellArea (at C i (stated v c)) n old
+  put-state-again C i v c h = put-again C i 3 v c (stated v c) h (omega arith) refl
 
   -- a number read
   pub read-area : (C : ℕ → Cell) (i j : ℕ) → i < n → j < 5 → numberAt (cellArea C n old) (5 * i + j) ≡ natural (getD (numbers (C i)) j (pos 0))
@@ -140,9 +160,6 @@ module _ (n : ℕ) (old : List ℤ) (room : 5 * n ≤ length old) where
 
 -- ---- a premium shifts
 
-abbrev pub priced : ℕ → Cell → Cell
-priced p c = record { first = c .first; second = c .second; premium = p % 2147483648; state = c .state; kind = c .kind }
-
 abbrev pub shiftCell : ℕ → ℕ → Cell → Cell
 shiftCell up down c = cond (eqb (c .kind) 0) c (priced (c .premium + up - down) c)
 
@@ -154,7 +171,7 @@ shift-acts n old room up down C i h = rw (read-kind n old room C i h, read-premi
     go : (b : Bool) → cond b (cellArea C n old) (putPremium (cellArea C n old) i (C i .premium + up - down))
         ≡ cellArea (at C i (cond b (C i) (priced (C i .premium + up - down) (C i)))) n old
     go true = same-at n old room C i
-    go false = put-area n old room C i 4 (C i .premium + up - down) (priced (C i .premium + up - down) (C i)) h (omega arith) refl
+    go false = put-premium n old room C i (C i .premium + up - down) h
 
 -- ---- and with each of a list of cells
 

@@ -1,5 +1,5 @@
 -- A sweep cell by cell: what it does with one cell, and with each of a list of cells. Assumes nothing.
-use Prim.Native.Nat.{ℕ, _%_, _+_, _-_, _<_}
+use Prim.Native.Nat.{ℕ, _+_, _-_, _<_}
 use native.Mathlib.Omega.{arith}
 use native.Mathlib.Nat.{add-zero}
 use mathlib.Core.Path.{_∙_, _≡_, ap, refl, sym}
@@ -11,13 +11,10 @@ use Rattle.game.specs.Lists.{bit, count, fold, has}
 use Rattle.game.proofs.Counts.{Once, count-ext}
 use Rattle.game.proofs.Members.{first-of, rest-of}
 use Rattle.area.specs.Numbers.{HasCells, putPremium, putState}
-use Rattle.area.proofs.CellByCell.{Cell, at, at-other, cellArea, made, made-more, priced, put-area, read-first, read-premium, read-second, read-state, same-area, same-at}
+use Rattle.area.proofs.CellByCell.{Cell, at, at-other, cellArea, made, made-more, priced, put-premium, put-state, read-first, read-premium, read-second, read-state, same-area, same-at, stated}
 use Rattle.play.specs.Walks.{Swept, opensAt, sweptCell, sweptOn}
 
 -- ---- what the small functions do with one cell
-
-abbrev pub stated : ℕ → Cell → Cell
-stated k c = record { first = c .first; second = c .second; premium = c .premium; state = k % 2147483648; kind = c .kind }
 
 abbrev pub labelledCell : ℕ → Cell → Bool
 labelledCell label c = eqb (c .first) label || eqb (c .second) label
@@ -38,8 +35,8 @@ module _ (n : ℕ) (old : List ℤ) (room : HasCells old n) where
     where
       go : (a b : Bool) → cond a (cond b (putState (cellArea C n old) i 1) (putPremium (cellArea C n old) i (C i .premium - 1))) (cellArea C n old)
           ≡ cellArea (at C i (cond a (cond b (stated 1 (C i)) (priced (C i .premium - 1) (C i))) (C i))) n old
-      go true true = put-area n old room C i 3 1 (stated 1 (C i)) h (omega arith) refl
-      go true false = put-area n old room C i 2 (C i .premium - 1) (priced (C i .premium - 1) (C i)) h (omega arith) refl
+      go true true = put-state n old room C i 1 h
+      go true false = put-premium n old room C i (C i .premium - 1) h
       go false b = same-at n old room C i
 
 -- ---- and with each of a list of cells

@@ -10,7 +10,7 @@ use lib.IntN.{ℤ}
 use lib.ListN.{getD, length, set}
 use lib.Seq.{getD-set-other, getD-set-same}
 use Rattle.area.proofs.Held.{held-cells, heldCell, kind-mine, raised-small}
-use Rattle.area.proofs.CellByCell.{Cell, at, at-again, at-here, at-other, cellArea, fold-acts, made, priced, put-area, read-first, same-area, shift-acts, shiftCell}
+use Rattle.area.proofs.CellByCell.{Cell, at, at-again, at-here, at-other, cellArea, fold-acts, made, priced, put-state, read-first, same-area, shift-acts, shiftCell, stated}
 use Rattle.area.specs.Squares.{shifted, squareOf}
 use Rattle.game.specs.Grid.{Grid, cells, mine, safe, size, square, zeroCell}
 use Rattle.game.specs.Lists.{bit, count, fold, has}
@@ -28,7 +28,7 @@ use Rattle.game.proofs.Zeros.{Zero}
 use Rattle.area.specs.Numbers.{HasCells, putState}
 use Rattle.area.specs.Stages.{held, raised}
 use Rattle.play.specs.Walks.{Swept, openedOne, sweptOn}
-use Rattle.play.proofs.Cells.{fold-sweep, labelledCell, opensCell, stated, sweepCell}
+use Rattle.play.proofs.Cells.{fold-sweep, labelledCell, opensCell, sweepCell}
 use Rattle.play.proofs.Held.{level, moved, restated, up-down}
 use Rattle.area.proofs.Marks.{marked-held}
 use borrow.Author.Tests.{eq-eqb, ne-eqb}
@@ -110,7 +110,7 @@ module _ (g : Grid) (s : Position) (old : List ℤ) (i : ℕ) (room : HasCells o
     unfolding open-cell
     open-stated =
         ap (λ (w : List ℤ). shifted 1 0 (putState w i 1) i) (held-cells g s old)
-        ∙ ap (λ (w : List ℤ). shifted 1 0 w i) (put-area (size g) old room (heldCell g s) i 3 1 (stated 1 (heldCell g s i)) inside (omega arith) refl)
+        ∙ ap (λ (w : List ℤ). shifted 1 0 w i) (put-state (size g) old room (heldCell g s) i 1 inside)
         ∙ shift-acts (size g) old room 1 0 (at (heldCell g s) i (stated 1 (heldCell g s i))) i inside
         ∙ ap (λ (c : Cell). cellArea (at (at (heldCell g s) i (stated 1 (heldCell g s i))) i (shiftCell 1 0 c)) (size g) old)
         (at-here (heldCell g s) i (stated 1 (heldCell g s i)) i refl)
@@ -190,7 +190,7 @@ module _ (g : Grid) (s : Position) (old : List ℤ) (i : ℕ) (room : HasCells o
     unfolding square
     flag-area =
         ap (λ (w : List ℤ). fold (shifted 1 0) (putState w i 2) (square g i)) (held-cells g s old)
-        ∙ ap (λ (w : List ℤ). fold (shifted 1 0) w (square g i)) (put-area (size g) old room (heldCell g s) i 3 2 (stated 2 (heldCell g s i)) inside (omega arith) refl)
+        ∙ ap (λ (w : List ℤ). fold (shifted 1 0) w (square g i)) (put-state (size g) old room (heldCell g s) i 2 inside)
         ∙ fold-acts (size g) old room (shifted 1 0) (shiftCell 1 0) (λ D j h. shift-acts (size g) old room 1 0 D j h) (square g i) E (once-square g i) (λ x t. square→ g i x inside t .0)
         ∙ same-area (size g) old room (made (shiftCell 1 0) (square g i) E) (heldCell g (set s i 2)) each
         ∙ sym (held-cells g (set s i 2) old)

@@ -20,7 +20,7 @@ use Rattle.game.proofs.Labels.{first-label}
 use Rattle.game.proofs.Members.{first-of, fold-inv, length-fold, range-has, rest-of}
 use Rattle.game.proofs.Squares.{cells→, once-cells, once-square, square→}
 use Rattle.game.proofs.Truth.{T→true}
-use Rattle.area.proofs.CellByCell.{Cell, at, cellArea, fold-acts, made, priced, put-again, put-area, read-first, read-kind, read-second, same-area, shift-acts, shiftCell}
+use Rattle.area.proofs.CellByCell.{Cell, at, cellArea, fold-acts, made, priced, put-premium, put-state-again, read-first, read-kind, read-second, same-area, shift-acts, shiftCell}
 use Rattle.area.proofs.Held.{held-cells, heldCell, kind-mine, raised-small}
 use Rattle.area.proofs.Puts.{put-length, put-there}
 use Rattle.area.proofs.Rows.{same-square}
@@ -88,8 +88,8 @@ module _ (g : Grid) (old : List ℤ) (room : HasCells old (size g)) where
   lay-acts C i h =
       rw (read-kind n old room C i h, read-first n old room C i h, read-second n old room C i h)
       (let v = alonePremium (bit (not (eqb (C i .first) 0)) + bit (not (eqb (C i .second) 0))) (C i .kind) in
-      ap (λ (w : List ℤ). putState w i 0) (put-area n old room C i 4 v (priced v (C i)) h (omega arith) refl)
-      ∙ put-again n old room C i 3 0 (priced v (C i)) (laidCell (C i)) h (omega arith) refl)
+      ap (λ (w : List ℤ). putState w i 0) (put-premium n old room C i v h)
+      ∙ put-state-again n old room C i 0 (priced v (C i)) h)
 
   -- from any work area of labels and kinds
   pub laid-alone : (C : ℕ → Cell) → ((i : ℕ) → C i .first ≡ firstLabel g i) → ((i : ℕ) → C i .second ≡ secondLabel g i) → ((i : ℕ) → C i .kind ≡ kind g i)
