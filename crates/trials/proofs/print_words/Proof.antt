@@ -1,16 +1,16 @@
--- `trials::print_list`: the moves printed are within the list. Assumes nothing.
+-- `trials::print_words`: the places are within the run. Assumes nothing.
 use Prim.Native.Nat.{_≤_, _-_}
 use native.Mathlib.Omega.{arith}
 use borrow.Author.Needs.{needs}
 use lib.ListN.{length}
-use Rattle.trials.proofs.print_list.Statement.{statement}
-use Rattle.trials.proofs.print_list.Tie as tie
+use Rattle.trials.proofs.print_words.Statement.{statement}
+use Rattle.trials.proofs.print_words.Tie as tie
 
 abbrev Inv-loop : tie.InvT-loop
-Inv-loop list k₀ t4 k = k ≤ length list
+Inv-loop list k₀ k = k ≤ length list
 
 abbrev μ-loop : tie.MeasureT-loop
-μ-loop list k₀ t4 k = length list - k
+μ-loop list k₀ k = length list - k
 
 loop-holds : tie.Need-loop-holds Inv-loop μ-loop
 loop-holds c = search needs
@@ -42,17 +42,11 @@ loop-less c = search needs
 loop-again : tie.Need-loop-again Inv-loop μ-loop
 loop-again c = search needs
 
-slice-aggregate-write-all : tie.Need-slice-aggregate-write-all Inv-loop μ-loop
-slice-aggregate-write-all c = search needs
-
-write-all-requires : tie.Need-write-all-requires Inv-loop μ-loop
-write-all-requires c κs = search needs
-
 returns : tie.Need-returns Inv-loop μ-loop
 returns c = search needs
 
-pub print-list-spec : {M : Type 1} → statement M
-print-list-spec =
+pub print-words-spec : {M : Type 1} → statement M
+print-words-spec =
     tie.close
     (tie.spec
     Inv-loop
@@ -67,6 +61,4 @@ print-list-spec =
     add-k
     loop-less
     loop-again
-    slice-aggregate-write-all
-    write-all-requires
     returns)

@@ -1,15 +1,15 @@
--- `trials::print_area`: the numbers printed are within the work area. Assumes nothing.
+-- `trials::print_numbers`: the places are within the run. Assumes nothing.
 use Prim.Native.Nat.{_≤_, _-_}
 use borrow.Author.Needs.{needs}
 use lib.ListN.{length}
-use Rattle.trials.proofs.print_area.Statement.{statement}
-use Rattle.trials.proofs.print_area.Tie as tie
+use Rattle.trials.proofs.print_numbers.Statement.{statement}
+use Rattle.trials.proofs.print_numbers.Tie as tie
 
 abbrev Inv-loop : tie.InvT-loop
-Inv-loop work k₀ t4 k = k ≤ length work
+Inv-loop work k₀ k = k ≤ length work
 
 abbrev μ-loop : tie.MeasureT-loop
-μ-loop work k₀ t4 k = length work - k
+μ-loop work k₀ k = length work - k
 
 loop-holds : tie.Need-loop-holds Inv-loop μ-loop
 loop-holds c = search needs
@@ -32,17 +32,11 @@ loop-less c = search needs
 loop-again : tie.Need-loop-again Inv-loop μ-loop
 loop-again c = search needs
 
-slice-aggregate-write-all : tie.Need-slice-aggregate-write-all Inv-loop μ-loop
-slice-aggregate-write-all c = search needs
-
-write-all-requires : tie.Need-write-all-requires Inv-loop μ-loop
-write-all-requires c κs = search needs
-
 returns : tie.Need-returns Inv-loop μ-loop
 returns c = search needs
 
-pub print-area-spec : {M : Type 1} → statement M
-print-area-spec =
+pub print-numbers-spec : {M : Type 1} → statement M
+print-numbers-spec =
     tie.close
     (tie.spec
     Inv-loop
@@ -54,6 +48,4 @@ print-area-spec =
     add-k
     loop-less
     loop-again
-    slice-aggregate-write-all
-    write-all-requires
     returns)
