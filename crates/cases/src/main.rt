@@ -12,51 +12,41 @@
 // For a case its name is printed with the answer's number and two values; then its list, if it has one, kind and index of each word; then its work area.
 // Of a list or a work area of more than 255 numbers the length and two sums are printed. A line that begins with # is printed as it is.
 use trials::answers;
+use trials::answers::Plain;
 use trials::fields;
+use zini::count;
+use zini::prices;
+use zini::replays;
+use zini::rolls;
 ghost use Prim.Native.Nat.{_≤_};
 ghost use lib.ListN.{length};
 
-// Runs a case's call on what is lent to it, and prints its answer.
-fn call(text: &[u8], grid: &[i32], work: &mut [i32], list: &mut [u32], draws: &[u8]) {
+// Runs a case's call on what is lent to it.
+fn call(text: &[u8], grid: &[i32], work: &mut [i32], list: &mut [u32], draws: &[u8]) -> Plain {
     let rows = fields::number(text, b"rows=");
     let columns = fields::number(text, b"columns=");
     if fields::is(text, 2, b"3bv ") {
-        trials::print_answer(answers::of_counted(zini::count::three_bv(rows, columns, grid, work)));
-        return;
+        return answers::of_counted(count::three_bv(rows, columns, grid, work));
     }
     if fields::is(text, 2, b"greedy ") {
-        trials::print_answer(answers::of_priced(zini::prices::greedy(
-            rows, columns, grid, work, list,
-        )));
-        return;
+        return answers::of_priced(prices::greedy(rows, columns, grid, work, list));
     }
     if fields::is(text, 2, b"openings-first ") {
-        trials::print_answer(answers::of_priced(zini::prices::openings_first(
-            rows, columns, grid, work, list,
-        )));
-        return;
+        return answers::of_priced(prices::openings_first(rows, columns, grid, work, list));
     }
     if fields::is(text, 2, b"random-round ") {
-        trials::print_answer(answers::of_rolled(zini::rolls::random_round(
-            rows, columns, grid, work, list, draws,
-        )));
-        return;
+        return answers::of_rolled(rolls::random_round(rows, columns, grid, work, list, draws));
     }
     if fields::is(text, 2, b"random-search ") {
         let rounds = fields::number(text, b"rounds=");
-        trials::print_answer(answers::of_rolled(zini::rolls::random_search(
-            rows, columns, grid, work, draws, rounds,
-        )));
-        return;
+        return answers::of_rolled(rolls::random_search(rows, columns, grid, work, draws, rounds));
     }
     if fields::is(text, 2, b"replay ") {
-        let count = fields::number(text, b"count=");
-        trials::print_answer(answers::of_replayed(zini::replays::replay(
-            rows, columns, grid, work, list, count,
-        )));
-        return;
+        let moves = fields::number(text, b"count=");
+        return answers::of_replayed(replays::replay(rows, columns, grid, work, list, moves));
     }
-    io::write_all(1, b" no such call\n");
+    io::write_all(1, b" no such call");
+    answers::numbers(0, 0, 0)
 }
 
 // Prints a case's list, if it has one.
@@ -72,7 +62,8 @@ fn run_on(text: &[u8], grid: &mut [i32], work: &mut [i32], list: &mut [u32], dra
     fields::lay_values(text, b"work=", work);
     fields::lay_words(text, b"list=", list);
     fields::lay_bytes(text, b"draws=", draws);
-    call(text, grid, work, list, draws);
+    let answer = call(text, grid, work, list, draws);
+    trials::print_answer(answer);
     print_list(list);
     trials::print_area(work);
 }

@@ -1,10 +1,13 @@
 // The fields of a case line: words parted by spaces, NAME=NUMBER or NAME=RUN.
-ghost use Prim.Native.Nat.{_<_, _≤_};
-ghost use lib.ListN.{length};
+ghost use mathlib.Core.Path.{_≡_};
+ghost use Prim.Native.Nat.{_+_, _<_, _≤_};
+ghost use lib.ListN.{drop, length};
+ghost use Rattle.trials.specs.Text.{before, digitsOn, withDigit};
 
 // The place of the first such byte from a place on, or the text's length.
 pub fn until(text: &[u8], from: usize, mark: u8) -> usize
     requires { ⌜ from ≤ length (now text) ⌝ }
+    ensures { λ r. ⌜ r ≡ from + before mark (drop from (now (text .entry))) ⌝ }
     ensures { λ r. ⌜ (from ≤ r) × (r ≤ length (now (text .entry))) ⌝ }
 {
     let mut at = from;
@@ -69,6 +72,7 @@ fn field(text: &[u8], name: &[u8]) -> usize
 // A number with a digit more; the largest number where that is larger.
 fn with_digit(value: usize, digit: usize) -> usize
     requires { ⌜ digit ≤ 9 ⌝ }
+    ensures { λ r. ⌜ r ≡ withDigit value digit ⌝ }
 {
     if (usize::MAX - digit) / 10 < value {
         return usize::MAX;
@@ -77,7 +81,9 @@ fn with_digit(value: usize, digit: usize) -> usize
 }
 
 // The number whose digits stand from a place on.
-fn number_from(text: &[u8], from: usize) -> usize {
+fn number_from(text: &[u8], from: usize) -> usize
+    ensures { λ r. ⌜ r ≡ digitsOn 0 (drop from (now (text .entry))) ⌝ }
+{
     let mut value: usize = 0;
     let mut at = from;
     while at < text.len() {
