@@ -16,8 +16,8 @@ use trials::answers::Plain;
 use trials::fields;
 use zini::count;
 use zini::prices;
-use zini::replays;
 use zini::random_calls;
+use zini::replays;
 ghost use Prim.Native.Nat.{_≤_};
 ghost use lib.ListN.{length};
 
@@ -35,11 +35,25 @@ fn call(text: &[u8], grid: &[i32], work: &mut [i32], list: &mut [u32], draws: &[
         return answers::of_priced(prices::openings_first(rows, columns, grid, work, list));
     }
     if fields::is(text, 2, b"random-round ") {
-        return answers::of_rolled(random_calls::random_round(rows, columns, grid, work, list, draws));
+        return answers::of_rolled(random_calls::random_round(
+            rows,
+            columns,
+            grid,
+            work,
+            list,
+            draws,
+        ));
     }
     if fields::is(text, 2, b"random-search ") {
         let rounds = fields::number(text, b"rounds=");
-        return answers::of_rolled(random_calls::random_search(rows, columns, grid, work, draws, rounds));
+        return answers::of_rolled(random_calls::random_search(
+            rows,
+            columns,
+            grid,
+            work,
+            draws,
+            rounds,
+        ));
     }
     if fields::is(text, 2, b"replay ") {
         let moves = fields::number(text, b"count=");
