@@ -5,9 +5,10 @@ use rounds::steps;
 ghost use mathlib.Core.Path.{_≡_};
 ghost use mathlib.Core.Bool.{cond, false};
 ghost use mathlib.Core.List.{List, []};
-ghost use Prim.Native.Nat.{_*_, _^_, _<_, _≤_, min};
+ghost use Prim.Native.Nat.{_*_, _^_, _<_, _≤_};
 ghost use lib.Dec.{T, eqb};
 ghost use lib.IntN.{ℤ};
+ghost use lib.ListN.{length};
 ghost use Rattle.area.specs.Numbers.{HasCells};
 ghost use Rattle.game.specs.Grid.{Grid, safe, zeroCell};
 ghost use Rattle.game.specs.Position.{Position, Tidy, closed as isClosed, closedSafe, untouched};
@@ -76,7 +77,7 @@ fn count_candidates(
     units: &mut [u8],
 ) -> Candidates
     requires { ⌜ Shape rows columns ⌝ }
-    requires { ⌜ (5 * (rows * columns) ≤ length (now work)) × Kept false (now work) rows columns (now tops) × UnitsKept (now work) rows columns (now tops) (now units) ⌝ }
+    requires { ⌜ HasCells (now work) (rows * columns) × Kept false (now work) rows columns (now tops) × UnitsKept (now work) rows columns (now tops) (now units) ⌝ }
     ensures { λ _. ⌜ (length (now (tops .exit)) ≡ length (now (tops .entry))) × Kept false (now (work .entry)) rows columns (now (tops .exit)) ⌝ }
     ensures { λ _. ⌜ (length (now (units .exit)) ≡ length (now (units .entry))) × UnitsKept (now (work .entry)) rows columns (now (units .exit)) (now (units .exit)) ⌝ }
     ensures { λ r. ⌜ ((g : Grid) (s : Position) (old : List ℤ) → Stands rows columns g s old (now (work .entry)) → Tells g s (now (work .entry)) (rows * columns) (r .top) × (r .count ≡ width (choice false g s))) ⌝ }
@@ -99,7 +100,7 @@ fn take_place(
     place: usize,
 ) -> State
     requires { ⌜ Shape rows columns ⌝ }
-    requires { ⌜ (5 * (rows * columns) ≤ length (now work)) × (state .moves ≤ 2 ^ 45) ⌝ }
+    requires { ⌜ HasCells (now work) (rows * columns) × (state .moves ≤ 2 ^ 45) ⌝ }
     requires { ⌜ Kept false (now work) rows columns (now tops) × UnitsKept (now work) rows columns (now units) (now units) ⌝ }
     ensures { λ r. ⌜ ((g : Grid) (s : Position) (old : List ℤ) → Stands rows columns g s old (now (work .entry)) → Tidy g s → Tells g s (now (work .entry)) (rows * columns) top
         → place < width (choice false g s) → state .closed ≡ closedSafe g s
@@ -250,13 +251,6 @@ fn again(
     unlisted(work, rows, columns, draws, safe, next)
 }
 
-// The fewer clicks.
-fn fewer(least: usize, clicks: usize) -> usize
-    ensures { λ r. ⌜ r ≡ min least clicks ⌝ }
-{
-    if clicks < least { clicks } else { least }
-}
-
 // The rounds still to play: none after one that stayed at its place, since each later one would be the same.
 fn rounds_left(rounds: usize, began: usize, next: usize) -> usize
     ensures { λ r. ⌜ (r ≡ cond (eqb next began) 0 rounds) × (r ≤ rounds) ⌝ }
@@ -289,7 +283,7 @@ fn search_on(
         let Finish::Ended(paid, onward) = rolled else {
             return Finish::Dry;
         };
-        least = fewer(least, paid);
+        least = area::fewer(least, paid);
         left = rounds_left(left - 1, at, onward);
         at = onward;
     }
