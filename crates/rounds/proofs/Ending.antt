@@ -105,11 +105,11 @@ fresh-going rows columns w t f =
     record { grid = f .grid; position = untouched (f .grid); old = f .old; stands = f .stands; tidy = untouched-tidy (f .grid); counts = f .counts }
 
 pub rounded : (rows columns : ℕ) (g : Grid) (old w : List ℤ) (first : Bool) (list : List ℕ) (t : State) (w′ : List ℤ) (list′ : List ℕ) (t′ : State)
-    → t .moves ≡ 0 → Fresh rows columns w (t .closed) → Stands rows columns g (untouched g) old w → rows * columns ≤ length list
+    → Fresh rows columns w (t .closed) → Stands rows columns g (untouched g) old w → rows * columns ≤ length list
     → (Tidy g (untouched g) → t .closed ≡ closedSafe g (untouched g)
     → Made rows columns g (untouched g) old (movesOf (stepsOn first g (untouched g))) list t w′ list′ t′)
-    → Round rows columns g old (movesOf (roundSteps first g)) list (t′ .moves) w′ list′
-rounded rows columns g old w first list t w′ list′ t′ none f st room goes =
+    → t .moves ≡ 0 → Round rows columns g old (movesOf (roundSteps first g)) list (t′ .moves) w′ list′
+rounded rows columns g old w first list t w′ list′ t′ f st room goes none =
     let ms = movesOf (roundSteps first g) in
     let m : Made rows columns g (untouched g) old ms list t w′ list′ t′ =
     rw (round-on first g)

@@ -24,7 +24,7 @@ returns c =
     let b = c .before .before .before .before .before .before .before in
     let a = b .args in
     λ g old st room. rounded (a .rows) (a .columns) g old (a .work .now) (a .openings-first) (a .list .now) _ (y .last .0) (y .last .1 .1 .1 .0) (y .result)
-    refl (b .pre .1 .1) st room (y .ensures g _ old st)
+    (b .pre .1 .1) st room (y .ensures g _ old st) refl
 
 pub round-spec : {M : Type 1} → statement M
 round-spec = tie.close (tie.spec go-on-requires same-length same-length-2 returns)
