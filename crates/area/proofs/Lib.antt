@@ -3,7 +3,7 @@ pub mod Cells
 pub mod Tests
 pub mod Puts
 pub mod Rows
-pub mod Shifts
+pub mod Shifting
 pub mod CellByCell
 pub mod Held
 pub mod Sides

@@ -3,7 +3,7 @@ pub mod numbers; // one number of the work area
 pub mod five; // a cell's five numbers by name
 pub mod mines; // the mines of the grid
 pub mod squares; // a cell by its row and column, and its square
-pub mod premiums; // the premiums of a square, up or down
+pub mod shifts; // the premiums of a square, up or down
 pub mod counts; // numbers alone
 
 pub use counts::fewer;
@@ -26,8 +26,8 @@ pub use mines::mine_at;
 pub use mines::mines_in_row;
 pub use numbers::get;
 pub use numbers::put;
-pub use premiums::shift;
-pub use premiums::shift_square;
+pub use shifts::shift;
+pub use shifts::shift_square;
 pub use squares::Sides;
 pub use squares::around;
 pub use squares::cell;

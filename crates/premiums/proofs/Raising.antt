@@ -24,7 +24,7 @@ use Rattle.area.proofs.CellByCell.{Cell, at, cellArea, fold-acts, made, priced,
 use Rattle.area.proofs.Held.{held-cells, heldCell, kind-mine, raised-small}
 use Rattle.area.proofs.Puts.{put-length, put-there}
 use Rattle.area.proofs.Rows.{same-square}
-use Rattle.area.proofs.Shifts.{length-shift}
+use Rattle.area.proofs.Shifting.{length-shift}
 use Rattle.premiums.proofs.Priced.{alone, raised-parts, raises}
 
 -- ---- laid

@@ -1,4 +1,4 @@
--- `area::premiums::shift_square`: the run up to the row is the fold over the rows passed. Assumes nothing.
+-- `area::shifts::shift_square`: the run up to the row is the fold over the rows passed. Assumes nothing.
 use Prim.Native.Nat.{_≤_, _-_}
 use native.Mathlib.Omega.{arith}
 use mathlib.Core.Path.{_≡_, refl}
@@ -7,8 +7,8 @@ use borrow.Author.Needs.{needs}
 use Rattle.game.specs.Lists.{fold}
 use Rattle.area.specs.Squares.{blockCells, shifted}
 use Rattle.area.proofs.Rows.{block-begin, block-on}
-use Rattle.area.proofs.premiums.shift_square.Statement.{statement}
-use Rattle.area.proofs.premiums.shift_square.Tie as tie
+use Rattle.area.proofs.shifts.shift_square.Statement.{statement}
+use Rattle.area.proofs.shifts.shift_square.Tie as tie
 
 abbrev Inv-loop : tie.InvT-loop
 Inv-loop work₀ rows columns index up down first last from to row₀ work row = (first ≤ row) × (row ≤ last) × (length work ≡ length work₀) × (work ≡ fold (shifted up down) work₀ (blockCells rows first row from to))

@@ -1,8 +1,8 @@
--- `area::premiums::shift`: a mine is left; a safe cell's premium is put. Assumes nothing.
-use Rattle.area.proofs.Shifts.{shift-mine, shift-safe}
+-- `area::shifts::shift`: a mine is left; a safe cell's premium is put. Assumes nothing.
+use Rattle.area.proofs.Shifting.{shift-mine, shift-safe}
 use borrow.Author.Needs.{needs}
-use Rattle.area.proofs.premiums.shift.Statement.{statement}
-use Rattle.area.proofs.premiums.shift.Tie as tie
+use Rattle.area.proofs.shifts.shift.Statement.{statement}
+use Rattle.area.proofs.shifts.shift.Tie as tie
 
 kind-requires : tie.Need-kind-requires
 kind-requires c κs = search needs

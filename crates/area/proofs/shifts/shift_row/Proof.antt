@@ -1,4 +1,4 @@
--- `area::premiums::shift_row`: the run up to the column is the fold over the columns passed. Assumes nothing.
+-- `area::shifts::shift_row`: the run up to the column is the fold over the columns passed. Assumes nothing.
 use Prim.Native.Nat.{_≤_, _<_, _+_, _*_, _-_}
 use native.Mathlib.Omega.{arith}
 use mathlib.Core.Path.{_≡_, refl}
@@ -8,8 +8,8 @@ use Rattle.game.specs.Lists.{fold}
 use Rattle.area.specs.Squares.{rowCells, shifted}
 use Rattle.area.proofs.Cells.{cell-below}
 use Rattle.area.proofs.Rows.{row-begin, row-on}
-use Rattle.area.proofs.premiums.shift_row.Statement.{statement}
-use Rattle.area.proofs.premiums.shift_row.Tie as tie
+use Rattle.area.proofs.shifts.shift_row.Statement.{statement}
+use Rattle.area.proofs.shifts.shift_row.Tie as tie
 
 abbrev Inv-loop : tie.InvT-loop
 Inv-loop work₀ rows columns row from to up down column₀ work column =
