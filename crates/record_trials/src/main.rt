@@ -1,7 +1,8 @@
 // Runs the calls over move records and by a draw reader on P7 and P11, and their refusals: each prints its answer and what was lent.
 use draws::Drawn;
 use records::MoveRecord;
-use trials::Plain;
+use trials::answers;
+use trials::answers::Plain;
 use zini::Priced;
 use zini::Replayed;
 use zini::Rolled;
@@ -125,38 +126,10 @@ fn read_twice(
     }
 }
 
-// An answer with its values.
-fn plain(number: u64, first: u64, second: u64) -> Plain {
-    Plain {
-        number,
-        first,
-        second,
-    }
-}
-
-// What greedy or openings-first answered.
-fn of_priced(answer: Priced) -> Plain {
-    match answer {
-        Priced::Clicks(clicks) => plain(0, clicks as u64, 0),
-        Priced::Refused(refusal) => plain(refusals::number_of(refusal) as u64, 0, 0),
-    }
-}
-
-// What a random call answered.
-fn of_rolled(answer: Rolled) -> Plain {
-    match answer {
-        Rolled::Clicks(clicks, used) => plain(0, clicks as u64, used as u64),
-        Rolled::Refused(refusal) => plain(refusals::number_of(refusal) as u64, 0, 0),
-    }
-}
-
-// What a replay answered.
-fn of_replayed(answer: Replayed) -> Plain {
-    match answer {
-        Replayed::Played(made, closed) => plain(0, made as u64, closed as u64),
-        Replayed::Move(place) => plain(7, place as u64, 0),
-        Replayed::Refused(refusal) => plain(refusals::number_of(refusal) as u64, 0, 0),
-    }
+// Prints a case's name and its answer.
+fn report(name: &[u8], answer: Plain) {
+    io::write_all(1, name);
+    trials::print_answer(answer);
 }
 
 // A record of so many numbers.
@@ -200,12 +173,11 @@ fn greedy(
     grid: &[i32],
     work: &mut [i32],
     list: &mut [u32],
-    want: Plain,
 ) {
     let priced = greedy_run(rows, columns, grid, work, list, unwritten());
     let answer = priced.answer;
     let run = priced.run;
-    trials::report(name, of_priced(answer), want);
+    report(name, answers::of_priced(answer));
     print_lent(run, list, work);
 }
 
@@ -217,12 +189,11 @@ fn openings_first(
     grid: &[i32],
     work: &mut [i32],
     list: &mut [u32],
-    want: Plain,
 ) {
     let priced = openings_first_run(rows, columns, grid, work, list, unwritten());
     let answer = priced.answer;
     let run = priced.run;
-    trials::report(name, of_priced(answer), want);
+    report(name, answers::of_priced(answer));
     print_lent(run, list, work);
 }
 
@@ -235,21 +206,20 @@ fn rolls(
     work: &mut [i32],
     list: &mut [u32],
     draws: &[u8],
-    want: Plain,
 ) {
     let rolled = random_run(rows, columns, grid, work, list, unwritten(), draws);
     let answer = rolled.answer;
     let run = rolled.run;
-    trials::report(name, of_rolled(answer), want);
+    report(name, answers::of_rolled(answer));
     print_lent(run, list, work);
 }
 
 // The first records of a run on P11 are replayed: the answer, and what was lent.
-fn replays(name: &[u8], run: [MoveRecord; 9], count: usize, list: &mut [u32], want: Plain) {
+fn replays(name: &[u8], run: [MoveRecord; 9], count: usize, list: &mut [u32]) {
     let mut work = [7i32; 46];
     let grid = [0i32, 0, 0, 0, -1, 0, 0, 0, 0];
     let answer = replay_run(3, 3, &grid, &mut work, list, run, count);
-    trials::report(name, of_replayed(answer), want);
+    report(name, answers::of_replayed(answer));
     print_lent(run, list, &work);
 }
 
@@ -258,31 +228,14 @@ fn seven() {
     let grid = [-1i32, 0, 0, 0];
     let mut w = [7i32; 21];
     let mut l = [4294967295u32; 5];
-    greedy(b"P7", 2, 2, &grid, &mut w, &mut l, plain(0, 3, 0));
+    greedy(b"P7", 2, 2, &grid, &mut w, &mut l);
     let mut w2 = [7i32; 21];
     let mut l2 = [4294967295u32; 5];
-    openings_first(
-        b"P7 openings-first",
-        2,
-        2,
-        &grid,
-        &mut w2,
-        &mut l2,
-        plain(0, 3, 0),
-    );
+    openings_first(b"P7 openings-first", 2, 2, &grid, &mut w2, &mut l2);
     let mut w3 = [7i32; 21];
     let mut l3 = [4294967295u32; 5];
     let draws = [5u8, 0, 0, 0];
-    rolls(
-        b"P7, 05 00 00 00",
-        2,
-        2,
-        &grid,
-        &mut w3,
-        &mut l3,
-        &draws,
-        plain(0, 3, 4),
-    );
+    rolls(b"P7, 05 00 00 00", 2, 2, &grid, &mut w3, &mut l3, &draws);
 }
 
 // P7's records replayed: its three moves, and then one that is no move.
@@ -295,12 +248,12 @@ fn replayed_7() {
     let mut w = [7i32; 21];
     let mut l = [4294967295u32; 5];
     let whole = replay_run(2, 2, &grid, &mut w, &mut l, run, 3);
-    trials::report(b"P7 replayed", of_replayed(whole), plain(0, 3, 0));
+    report(b"P7 replayed", answers::of_replayed(whole));
     print_lent(run, &l, &w);
     let mut w2 = [7i32; 21];
     let mut l2 = [4294967295u32; 5];
     let onward = replay_run(2, 2, &grid, &mut w2, &mut l2, run, 4);
-    trials::report(b"P7, a record more", of_replayed(onward), plain(7, 3, 0));
+    report(b"P7, a record more", answers::of_replayed(onward));
     print_lent(run, &l2, &w2);
 }
 
@@ -309,37 +262,25 @@ fn eleven() {
     let grid = [0i32, 0, 0, 0, -1, 0, 0, 0, 0];
     let mut w = [7i32; 46];
     let mut l = [4294967295u32; 10];
-    greedy(b"P11", 3, 3, &grid, &mut w, &mut l, plain(0, 5, 0));
+    greedy(b"P11", 3, 3, &grid, &mut w, &mut l);
     let mut w2 = [7i32; 46];
     let mut l2 = [4294967295u32; 10];
-    openings_first(
-        b"P11 openings-first",
-        3,
-        3,
-        &grid,
-        &mut w2,
-        &mut l2,
-        plain(0, 6, 0),
-    );
+    openings_first(b"P11 openings-first", 3, 3, &grid, &mut w2, &mut l2);
 }
 
 // A random round on P11 over a run.
-fn round_11(name: &[u8], draws: &[u8], want: Plain) {
+fn round_11(name: &[u8], draws: &[u8]) {
     let grid = [0i32, 0, 0, 0, -1, 0, 0, 0, 0];
     let mut work = [7i32; 46];
     let mut list = [4294967295u32; 10];
-    rolls(name, 3, 3, &grid, &mut work, &mut list, draws, want);
+    rolls(name, 3, 3, &grid, &mut work, &mut list, draws);
 }
 
 // Document 01's random rounds on P11, and DRAWS.
 fn rounds_11() {
-    round_11(b"P11, 12 zero bytes", &[0u8; 12], plain(0, 5, 12));
-    round_11(b"P11, 11 zero bytes", &[0u8; 11], plain(6, 0, 0));
-    round_11(
-        b"P11, 07 and seven 00",
-        &[7u8, 0, 0, 0, 0, 0, 0, 0],
-        plain(0, 5, 8),
-    );
+    round_11(b"P11, 12 zero bytes", &[0u8; 12]);
+    round_11(b"P11, 11 zero bytes", &[0u8; 11]);
+    round_11(b"P11, 07 and seven 00", &[7u8, 0, 0, 0, 0, 0, 0, 0]);
 }
 
 // TRACE: nine records for ten cells.
@@ -347,10 +288,9 @@ fn short_run() {
     let grid = [0i32; 10];
     let mut w = [7i32; 50];
     let mut l = [4294967295u32; 10];
-    let trace = plain(4, 0, 0);
-    greedy(b"2 by 5, nine records", 2, 5, &grid, &mut w, &mut l, trace);
-    openings_first(b" openings-first", 2, 5, &grid, &mut w, &mut l, trace);
-    rolls(b" random", 2, 5, &grid, &mut w, &mut l, &[0u8; 12], trace);
+    greedy(b"2 by 5, nine records", 2, 5, &grid, &mut w, &mut l);
+    openings_first(b" openings-first", 2, 5, &grid, &mut w, &mut l);
+    rolls(b" random", 2, 5, &grid, &mut w, &mut l, &[0u8; 12]);
 }
 
 // TRACE: a list of eight words for nine cells.
@@ -358,10 +298,9 @@ fn short_list() {
     let grid = [0i32, 0, 0, 0, -1, 0, 0, 0, 0];
     let mut w = [7i32; 46];
     let mut l = [4294967295u32; 8];
-    let trace = plain(4, 0, 0);
-    greedy(b"P11, eight words", 3, 3, &grid, &mut w, &mut l, trace);
-    openings_first(b" openings-first", 3, 3, &grid, &mut w, &mut l, trace);
-    rolls(b" random", 3, 3, &grid, &mut w, &mut l, &[0u8; 12], trace);
+    greedy(b"P11, eight words", 3, 3, &grid, &mut w, &mut l);
+    openings_first(b" openings-first", 3, 3, &grid, &mut w, &mut l);
+    rolls(b" random", 3, 3, &grid, &mut w, &mut l, &[0u8; 12]);
 }
 
 // P11's greedy moves as records, and the rest of the run as it is lent.
@@ -379,33 +318,33 @@ fn moves_11() -> [MoveRecord; 9] {
 fn replayed_11() {
     let run = moves_11();
     let mut list = [4294967295u32; 10];
-    replays(b"P11 replayed", run, 5, &mut list, plain(0, 5, 0));
+    replays(b"P11 replayed", run, 5, &mut list);
     let mut none = [4294967295u32; 10];
-    replays(b"P11, no record", run, 0, &mut none, plain(0, 0, 8));
+    replays(b"P11, no record", run, 0, &mut none);
     let mut bad = run;
     bad[2] = record(3, 0, 1);
     let mut bad_list = [4294967295u32; 10];
-    replays(b"P11, a closed cell", bad, 5, &mut bad_list, plain(7, 2, 0));
+    replays(b"P11, a closed cell", bad, 5, &mut bad_list);
     let mut off = run;
     off[3] = record(3, 3, 0);
     let mut off_list = [4294967295u32; 10];
-    replays(b"P11, a fourth row", off, 5, &mut off_list, plain(7, 3, 0));
+    replays(b"P11, a fourth row", off, 5, &mut off_list);
     let mut over = [4294967295u32; 10];
-    replays(b"P11, ten of nine", run, 10, &mut over, plain(4, 0, 0));
+    replays(b"P11, ten of nine", run, 10, &mut over);
     let mut few = [4294967295u32; 4];
-    replays(b"P11, a list of four", run, 5, &mut few, plain(4, 0, 0));
+    replays(b"P11, a list of four", run, 5, &mut few);
 }
 
 // A random round and then a search on P11 by one reader: both answers, where it stands, and what was lent.
-fn reads_11(name: &[u8], bytes: &[u8], place: usize, rounds: usize, round: Plain, search: Plain) {
+fn reads_11(name: &[u8], bytes: &[u8], place: usize, rounds: usize) {
     let grid = [0i32, 0, 0, 0, -1, 0, 0, 0, 0];
     let mut work = [7i32; 46];
     let mut list = [4294967295u32; 10];
     let both = read_twice(3, 3, &grid, &mut work, &mut list, bytes, place, rounds);
     let first = both.round;
     let second = both.search;
-    trials::report(name, of_rolled(first), round);
-    trials::report(b" then a search", of_rolled(second), search);
+    report(name, answers::of_rolled(first));
+    report(b" then a search", answers::of_rolled(second));
     io::write_all(1, b" stands at");
     trials::print_number(both.place as u64);
     io::write_all(1, b"\n");
@@ -416,32 +355,32 @@ fn reads_11(name: &[u8], bytes: &[u8], place: usize, rounds: usize, round: Plain
 // A reader goes on over two calls, stays where it is after ROUNDS and DRAWS, and may stand past its bytes.
 fn readers() {
     let bytes = [7u8, 0, 0, 0, 0, 0, 0, 0, 0, 0, 0, 0, 0, 0, 0, 0, 0, 0, 0, 0];
-    reads_11(b"20 bytes", &bytes, 0, 1, plain(0, 5, 8), plain(0, 5, 12));
-    reads_11(b"no rounds", &bytes, 0, 0, plain(0, 5, 8), plain(5, 0, 0));
-    reads_11(b"two rounds", &bytes, 0, 2, plain(0, 5, 8), plain(6, 0, 0));
-    reads_11(b"from 8", &bytes, 8, 1, plain(0, 5, 12), plain(6, 0, 0));
-    reads_11(b"from 21", &bytes, 21, 1, plain(6, 0, 0), plain(6, 0, 0));
+    reads_11(b"20 bytes", &bytes, 0, 1);
+    reads_11(b"no rounds", &bytes, 0, 0);
+    reads_11(b"two rounds", &bytes, 0, 2);
+    reads_11(b"from 8", &bytes, 8, 1);
+    reads_11(b"from 21", &bytes, 21, 1);
 }
 
 // The random calls by the bytes from a place on.
-fn from_11(name: &[u8], bytes: &[u8], place: usize, round: Plain, search: Plain) {
+fn from_11(name: &[u8], bytes: &[u8], place: usize) {
     let grid = [0i32, 0, 0, 0, -1, 0, 0, 0, 0];
     let mut work = [7i32; 46];
     let mut list = [4294967295u32; 10];
     let rolled = by_reader::round_from(3, 3, &grid, &mut work, &mut list, bytes, place);
-    trials::report(name, of_rolled(rolled), round);
+    report(name, answers::of_rolled(rolled));
     trials::print_list(&list);
     trials::print_area(&work);
     let searched = by_reader::search_from(3, 3, &grid, &mut work, bytes, place, 1);
-    trials::report(b" a search", of_rolled(searched), search);
+    report(b" a search", answers::of_rolled(searched));
     trials::print_area(&work);
 }
 
 // The bytes from 0, from 4 and from past their end on.
 fn froms() {
     let bytes = [9u8, 9, 9, 9, 7, 0, 0, 0, 0, 0, 0, 0];
-    from_11(b"from 4", &bytes, 4, plain(0, 5, 8), plain(0, 5, 8));
-    from_11(b"from 13", &bytes, 13, plain(6, 0, 0), plain(6, 0, 0));
+    from_11(b"from 4", &bytes, 4);
+    from_11(b"from 13", &bytes, 13);
 }
 
 // A draw among 8 by a reader at a place: what is taken, and where the next draw reads.

@@ -1,4 +1,8 @@
-// What the trial programs share: boards with mines laid out, and answers printed beside what they should be.
+// What the programs share that run the calls: case lines, answers as numbers, and what is printed.
+use answers::Plain;
+
+pub mod answers; // answers as numbers
+pub mod fields; // what a case line says
 
 // Whether the program was started with an argument, which none of them takes: then the text is on standard error.
 pub fn usage(text: &[u8]) -> bool {
@@ -9,34 +13,17 @@ pub fn usage(text: &[u8]) -> bool {
     true
 }
 
-// An answer: its number, 0 for success, and its two values, 0 for none.
-pub struct Plain {
-    pub number: u64,
-    pub first: u64,
-    pub second: u64,
-}
-
 // A space and a number.
 pub fn print_number(n: u64) {
     io::write_all(1, b" ");
     io::print_decimal(1, n);
 }
 
-// Prints a case with its answer, and says so where the answer is not the one expected.
-pub fn report(name: &[u8], got: Plain, want: Plain) {
-    io::write_all(1, name);
-    print_number(got.number);
-    print_number(got.first);
-    print_number(got.second);
-    if got.number != want.number {
-        io::write_all(1, b" WRONG");
-    }
-    if got.first != want.first {
-        io::write_all(1, b" WRONG");
-    }
-    if got.second != want.second {
-        io::write_all(1, b" WRONG");
-    }
+// Prints an answer: its number and its two values.
+pub fn print_answer(answer: Plain) {
+    print_number(answer.number);
+    print_number(answer.first);
+    print_number(answer.second);
     io::write_all(1, b"\n");
 }
 
@@ -51,31 +38,42 @@ fn print_signed(v: i32) {
     print_number(v as u64);
 }
 
-// Prints a work area whole.
-pub fn print_area(work: &[i32]) {
+// Prints numbers whole.
+fn print_numbers(work: &[i32]) {
     let mut k = 0;
     while k < work.len() {
         let v = work[k];
         print_signed(v);
         k += 1;
     }
-    io::write_all(1, b"\n");
 }
 
-// Prints what the numbers of a work area that are above 0 come to.
-pub fn print_sum(work: &[i32]) {
+// Prints what the numbers above 0 come to, and what the sums up to each come to, which tells their order.
+fn print_sums(work: &[i32]) {
     let mut sum: u64 = 0;
+    let mut sums: u64 = 0;
     let mut k = 0;
     while k < work.len() {
         sum = std::num::wrapping_add_u64(sum, area::get(work, k) as u64);
+        sums = std::num::wrapping_add_u64(sums, sum);
         k += 1;
     }
     print_number(sum);
+    print_number(sums);
+}
+
+// Prints a work area: whole, or the sums of more than 255 numbers.
+pub fn print_area(work: &[i32]) {
+    if 255 < work.len() {
+        print_sums(work);
+    } else {
+        print_numbers(work);
+    }
     io::write_all(1, b"\n");
 }
 
-// Prints a move list: kind, then index, of each.
-pub fn print_list(list: &[u32]) {
+// Prints words whole: kind, then index, of each.
+fn print_words(list: &[u32]) {
     let mut k = 0;
     while k < list.len() {
         let word = list[k];
@@ -83,23 +81,28 @@ pub fn print_list(list: &[u32]) {
         print_number((word % 65536) as u64);
         k += 1;
     }
-    io::write_all(1, b"\n");
 }
 
-// A mine where the place is a multiple of the step.
-fn value(place: usize, step: usize) -> i32 {
-    if step == 0 {
-        return 0;
-    }
-    if place % step == 0 { -1 } else { 0 }
-}
-
-// A mine at every place that is a multiple of the step.
-pub fn lay_mines(grid: &mut [i32], step: usize) {
+// Prints what words come to, and what the sums up to each come to.
+fn print_word_sums(list: &[u32]) {
+    let mut sum: u64 = 0;
+    let mut sums: u64 = 0;
     let mut k = 0;
-    while k < grid.len() {
-        let v = value(k, step);
-        grid[k] = v;
+    while k < list.len() {
+        sum = std::num::wrapping_add_u64(sum, list[k] as u64);
+        sums = std::num::wrapping_add_u64(sums, sum);
         k += 1;
     }
+    print_number(sum);
+    print_number(sums);
+}
+
+// Prints a move list: whole, or the sums of more than 255 words.
+pub fn print_list(list: &[u32]) {
+    if 255 < list.len() {
+        print_word_sums(list);
+    } else {
+        print_words(list);
+    }
+    io::write_all(1, b"\n");
 }

@@ -1,6 +1,8 @@
 // Replays the Rust's stored answers (docs/VECTORS.md) from standard input, and says how many boards there were and how many differ.
+use trials::answers;
+use trials::answers::Plain;
+use trials::fields::byte_at;
 use zini::Priced;
-use zini::Rolled;
 ghost use Prim.Native.Nat.{_≤_};
 
 // What is said of a line.
@@ -8,33 +10,6 @@ enum Seen {
     End,
     Right,
     Wrong,
-}
-
-// A random search's answer: its number, 0 for success, and its clicks and bytes, 0 for none.
-struct Search {
-    number: usize,
-    clicks: usize,
-    used: usize,
-}
-
-// The value of the digit at a place, 0 past the end.
-fn digit_at(line: &[u8], place: usize) -> usize
-    ensures { λ r. ⌜ r ≤ 15 ⌝ }
-{
-    if place >= line.len() {
-        return 0;
-    }
-    hex::value_of(line[place])
-}
-
-// The byte at a place, two digits each.
-fn byte_at(line: &[u8], place: usize) -> usize
-    ensures { λ r. ⌜ r ≤ 255 ⌝ }
-{
-    if place >= 65535 {
-        return 0;
-    }
-    16 * digit_at(line, 2 * place) + digit_at(line, 2 * place + 1)
 }
 
 // The number of two bytes, high first.
@@ -116,16 +91,16 @@ fn take_draws(line: &[u8], from: usize, draws: &mut [u8]) {
 }
 
 // A figure beside the Rust's: 1 and a line printed where they differ.
-fn differs(number: u64, name: &[u8], ours: usize, rust: usize) -> u64
+fn differs(number: u64, name: &[u8], ours: u64, rust: usize) -> u64
     ensures { λ r. ⌜ r ≤ 1 ⌝ }
 {
-    if ours == rust {
+    if ours == rust as u64 {
         return 0;
     }
     io::write_all(1, b"line ");
     io::print_decimal(1, number);
     io::write_all(1, name);
-    io::print_decimal(1, ours as u64);
+    io::print_decimal(1, ours);
     io::write_all(1, b", the Rust ");
     io::print_decimal(1, rust as u64);
     io::write_all(1, b"\n");
@@ -133,26 +108,10 @@ fn differs(number: u64, name: &[u8], ours: usize, rust: usize) -> u64
 }
 
 // A round's clicks, or more than any round has where it was refused.
-fn clicks_of(answer: Priced) -> usize {
+fn clicks_of(answer: Priced) -> u64 {
     match answer {
-        Priced::Clicks(clicks) => clicks,
+        Priced::Clicks(clicks) => clicks as u64,
         Priced::Refused(_refusal) => 65536,
-    }
-}
-
-// A random search's answer taken apart.
-fn taken_apart(answer: Rolled) -> Search {
-    match answer {
-        Rolled::Clicks(clicks, used) => Search {
-            number: 0,
-            clicks,
-            used,
-        },
-        Rolled::Refused(refusal) => Search {
-            number: refusals::number_of(refusal) as usize,
-            clicks: 0,
-            used: 0,
-        },
     }
 }
 
@@ -194,12 +153,12 @@ fn openings_first(number: u64, line: &[u8], grid: &[i32]) -> u64
 }
 
 // A random search's three figures beside the Rust's.
-fn search_differs(number: u64, line: &[u8], search: Search) -> u64
+fn search_differs(number: u64, line: &[u8], search: Plain) -> u64
     ensures { λ r. ⌜ r ≤ 3 ⌝ }
 {
     differs(number, b": search answer ", search.number, byte_at(line, 7))
-        + differs(number, b": search clicks ", search.clicks, pair_at(line, 8))
-        + differs(number, b": search bytes ", search.used, pair_at(line, 10))
+        + differs(number, b": search clicks ", search.first, pair_at(line, 8))
+        + differs(number, b": search bytes ", search.second, pair_at(line, 10))
 }
 
 // Random search beside the Rust.
@@ -216,7 +175,7 @@ fn random_search(number: u64, line: &[u8], grid: &[i32], draws: &mut [u8]) -> u6
         draws,
         byte_at(line, 2),
     );
-    search_differs(number, line, taken_apart(answer))
+    search_differs(number, line, answers::of_rolled(answer))
 }
 
 // Random search with the draws of a line.

@@ -1,0 +1,2 @@
+-- What a case line says.
+pub mod Text

@@ -1,0 +1,54 @@
+// What the calls answer, as three numbers.
+use zini::Counted;
+use zini::Priced;
+use zini::Replayed;
+use zini::Rolled;
+
+// An answer: its number, 0 for success, and its two values, 0 for none.
+pub struct Plain {
+    pub number: u64,
+    pub first: u64,
+    pub second: u64,
+}
+
+// An answer of three numbers.
+pub fn numbers(number: u64, first: u64, second: u64) -> Plain {
+    Plain {
+        number,
+        first,
+        second,
+    }
+}
+
+// What the 3BV count answered.
+pub fn of_counted(answer: Counted) -> Plain {
+    match answer {
+        Counted::Units(units) => numbers(0, units as u64, 0),
+        Counted::Refused(refusal) => numbers(refusals::number_of(refusal) as u64, 0, 0),
+    }
+}
+
+// What greedy or openings-first answered.
+pub fn of_priced(answer: Priced) -> Plain {
+    match answer {
+        Priced::Clicks(clicks) => numbers(0, clicks as u64, 0),
+        Priced::Refused(refusal) => numbers(refusals::number_of(refusal) as u64, 0, 0),
+    }
+}
+
+// What a random call answered.
+pub fn of_rolled(answer: Rolled) -> Plain {
+    match answer {
+        Rolled::Clicks(clicks, used) => numbers(0, clicks as u64, used as u64),
+        Rolled::Refused(refusal) => numbers(refusals::number_of(refusal) as u64, 0, 0),
+    }
+}
+
+// What a replay answered.
+pub fn of_replayed(answer: Replayed) -> Plain {
+    match answer {
+        Replayed::Played(made, closed) => numbers(0, made as u64, closed as u64),
+        Replayed::Move(place) => numbers(7, place as u64, 0),
+        Replayed::Refused(refusal) => numbers(refusals::number_of(refusal) as u64, 0, 0),
+    }
+}
