@@ -1,4 +1,4 @@
--- Where a reader of draw bytes stands after a random call. Assumes nothing.
+-- Where a reader of draw bytes stands after a random call (RULES 5.4). Assumes nothing.
 use Prim.Native.Nat.{ℕ, _+_, _≤_}
 use mathlib.Core.Path.{_≡_}
 use mathlib.Core.Logic.{_⊎_}

@@ -1,4 +1,4 @@
--- The calls over runs of move records: the promises of the flat calls, with TRACE by the run's length, and what the run holds. Assumes nothing.
+-- The calls over runs of move records (RULES 6.4): the promises of the flat calls, with TRACE by the run's length, and what the run holds. Assumes nothing.
 use Prim.Native.Nat.{ℕ}
 use mathlib.Core.Path.{_≡_}
 use mathlib.Core.Bool.{Bool, cond}

@@ -1,4 +1,4 @@
--- A draw's answer in document 01's terms. Assumes nothing.
+-- What a draw's answer stands for (RULES 5.1). Assumes nothing.
 use mathlib.Core.Option.{Option, none, some}
 use Rattle.game.specs.Draws as Game
 use Rattle.draws.specs.declared.Drawn.{Drawn}

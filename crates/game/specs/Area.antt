@@ -1,4 +1,4 @@
--- What lent memory holds: the work area, the move list, numbers and room past the end. Assumes nothing.
+-- What lent memory holds: the work area, the move list, numbers and room past the end (RULES 6). Assumes nothing.
 use Prim.Native.Nat.{ℕ, _*_}
 use mathlib.Core.Bool.{cond}
 use mathlib.Core.List.{List, [], _∷_, _++_, map}

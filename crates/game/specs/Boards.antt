@@ -1,4 +1,4 @@
--- The twelve boards of document 01 as one table. Assumes nothing.
+-- The twelve boards of RULES 11.1 as one table. Assumes nothing.
 use Prim.Native.Nat.{ℕ}
 use mathlib.Core.List.{List, [], _∷_}
 use lib.IntN.{negsuc, pos, ℤ}

@@ -1,4 +1,4 @@
--- The whole promise of each public call: its answer, and each lent run at exit, for all inputs. Assumes nothing.
+-- The whole promise of each public call: its answer, and each lent run at exit, for all inputs (RULES 6.2, 7, 8). Assumes nothing.
 use Prim.Native.Nat.{ℕ, _*_}
 use mathlib.Core.Bool.{Bool, true, false, not, _||_}
 use mathlib.Core.List.{List, [], _∷_, _++_}

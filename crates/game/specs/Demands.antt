@@ -1,4 +1,4 @@
--- Demand 3 as definitions: what holds of a round's steps. Assumes nothing.
+-- Demand 3 (RULES 10.3) as definitions: what holds of a round's steps. Assumes nothing.
 use Prim.Native.Nat.{ℕ, _<_, _≤_, min, suc, zero}
 use mathlib.Core.Path.{_≡_}
 use mathlib.Core.Bool.{cond}

@@ -1,4 +1,4 @@
--- The grid, a cell's square and its number. Assumes nothing.
+-- The grid, a cell's square and its number (RULES 1, 2.1, 2.2). Assumes nothing.
 use Prim.Native.Nat.{ℕ, zero, suc, _+_, _-_, _*_, _/_, _%_, min}
 use mathlib.Core.Bool.{Bool, true, false, not}
 use mathlib.Core.List.{List, map}

@@ -1,4 +1,4 @@
--- Document 01 as definitions: what a reader of the contracts has to believe.
+-- docs/RULES.md as definitions: what a reader of the contracts has to believe.
 pub mod Lists
 pub mod Grid
 pub mod Openings

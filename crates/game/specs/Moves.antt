@@ -1,4 +1,4 @@
--- Legal play: the moves L, F and C, what each does, and the replay of a list. Assumes nothing.
+-- Legal play: the moves L, F and C, what each does, and the replay of a list (RULES 3, 6.3). Assumes nothing.
 use Prim.Native.Nat.{ℕ, _%_, _*_, _+_, _/_, suc}
 use mathlib.Core.Path.{_≡_}
 use mathlib.Core.Bool.{Bool, _&&_, _||_, cond, false, not, true}

@@ -1,4 +1,4 @@
--- Openings, labels, units and 3BV. Assumes nothing.
+-- Openings, labels, units and 3BV (RULES 2.3 to 2.5). Assumes nothing.
 use Prim.Native.Nat.{ℕ, suc, _+_, _<_}
 use mathlib.Core.Bool.{Bool, true, false, not, _&&_}
 use mathlib.Core.List.{List, [], _∷_, _++_}

@@ -1,4 +1,4 @@
--- A position: states, closed units, the premium. Assumes nothing.
+-- A position: states, closed units, the premium (RULES 2.5, 3.1, 4.1), and tidy positions (3.6). Assumes nothing.
 use Prim.Native.Nat.{ℕ, _+_, _<_}
 use mathlib.Core.Path.{_≡_}
 use mathlib.Core.Bool.{Bool, not, _&&_}

@@ -1,4 +1,4 @@
--- One step and one round: greedy, openings-first and random; random search. Assumes nothing.
+-- One step and one round: greedy, openings-first and random; random search (RULES 4, 5.2). Assumes nothing.
 use Prim.Native.Nat.{ℕ, _-_, min, suc, zero}
 use mathlib.Core.Bool.{Bool, _&&_, _||_, cond, false, not, true}
 use mathlib.Core.List.{List, [], _++_, _∷_, map}

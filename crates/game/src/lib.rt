@@ -1,1 +1,1 @@
-// Document 01 as definitions and the theorems about them: specs/ and proofs/ are what this crate is for.
+// docs/RULES.md as definitions and the theorems about them: specs/ and proofs/ are what this crate is for.

@@ -1,4 +1,4 @@
--- Each answer of a public call on lines in document 01's numbers and values. Assumes nothing.
+-- Each answer of a public call on lines by its number and values (RULES 8, 9). Assumes nothing.
 use mathlib.Core.Path.{_≡_}
 use mathlib.Core.List.{List, [], _∷_}
 use lib.IntN.{ℤ}

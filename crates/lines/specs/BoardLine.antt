@@ -1,4 +1,4 @@
--- A board line: rows, columns, then mine bits row by row, high bit first, last byte padded with 0 bits. Assumes nothing.
+-- A board line (RULES 9.2): rows, columns, then mine bits row by row, high bit first, last byte padded with 0 bits. Assumes nothing.
 use Prim.Native.Nat.{ℕ, _+_, _-_, _*_, _/_, _%_, _^_}
 use mathlib.Core.Bool.{Bool, _||_, cond, not}
 use mathlib.Core.List.{List, [], _∷_, _++_, map}

@@ -1,4 +1,4 @@
--- A price line: a byte 00 or the refusal, then 3BV, greedy and openings-first clicks, two bytes each, high first. Assumes nothing.
+-- A price line (RULES 9.3): a byte 00 or the refusal, then 3BV, greedy and openings-first clicks, two bytes each, high first. Assumes nothing.
 use Prim.Native.Nat.{ℕ, _%_}
 use mathlib.Core.List.{List, _∷_, _++_}
 use Rattle.game.specs.Lists.{concat-map}

@@ -1,4 +1,4 @@
--- Demand 2 as statements: the clicks of zini.rs are those of the defined rounds, and those that the calls answer. Assumes nothing.
+-- Demand 2 (RULES 10.2) as statements: the clicks of zini.rs are those of the defined rounds, and those that the calls answer. Assumes nothing.
 use Prim.Native.Nat.{ℕ, _≤_, _<_}
 use mathlib.Core.Path.{_≡_}
 use mathlib.Core.List.{List, [], _++_, _∷_}

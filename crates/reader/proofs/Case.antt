@@ -1,4 +1,4 @@
--- Document 01's whole case: the definitions, computed, print its right column for its left. Assumes nothing.
+-- The whole case of RULES 11.5: the definitions, computed, print its right column for its left. Assumes nothing.
 use mathlib.Core.Path.{_≡_, refl}
 use Rattle.game.specs.Grid.{mine, number, square}
 use Rattle.game.specs.Moves.{play, reveal}

@@ -1,4 +1,4 @@
--- Each answer of the board reader's calls in document 01's numbers and values. Assumes nothing.
+-- Each answer of the board reader's calls by its number and values (RULES 8.3). Assumes nothing.
 use Prim.Native.Nat.{ℕ}
 use mathlib.Core.Path.{_≡_}
 use mathlib.Core.List.{List, [], _∷_}

@@ -1,4 +1,4 @@
--- How bytes become lines, what is printed for them, and what a block of input comes to. Assumes nothing.
+-- How bytes become lines, what is printed for them, and what a block of input comes to (RULES 8.3, 9.1). Assumes nothing.
 use Prim.Native.Nat.{ℕ, _*_}
 use mathlib.Core.Bool.{_||_, false, true}
 use mathlib.Core.List.{List, [], _∷_, _++_}

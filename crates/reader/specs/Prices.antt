@@ -1,4 +1,4 @@
--- What the board reader prints for one line. Assumes nothing.
+-- What the board reader prints for one line (RULES 9.3). Assumes nothing.
 use Prim.Native.Nat.{ℕ}
 use mathlib.Core.List.{List, [], _∷_, _++_}
 use mathlib.Core.Option.{Option, none, some}

@@ -1,4 +1,4 @@
--- Document 01's whole case: six lines and what is printed for them. Assumes nothing.
+-- The whole case of RULES 11.5: six lines and what is printed for them. Assumes nothing.
 use Prim.Native.Nat.{ℕ}
 use Prim.Native.Char.{code}
 use Prim.Native.String.{String, [] as none-left, _∷_ as _then_}

@@ -1,4 +1,4 @@
--- A reader of draw bytes, and where it stands after a draw. Assumes nothing.
+-- A reader of draw bytes (RULES 5.4), and where it stands after a draw. Assumes nothing.
 use Prim.Native.Nat.{ℕ}
 use mathlib.Core.Option.{Option, none, some}
 use denote.Ref.{now}

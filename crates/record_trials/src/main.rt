@@ -276,7 +276,7 @@ fn round_11(name: &[u8], draws: &[u8]) {
     rolls(name, 3, 3, &grid, &mut work, &mut list, draws);
 }
 
-// Document 01's random rounds on P11, and DRAWS.
+// The random rounds of RULES 11.3 on P11, and DRAWS.
 fn rounds_11() {
     round_11(b"P11, 12 zero bytes", &[0u8; 12]);
     round_11(b"P11, 11 zero bytes", &[0u8; 11]);

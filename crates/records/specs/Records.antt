@@ -1,4 +1,4 @@
--- Move records, and the flat moves that they stand for: a word is kind x 65536 + index, an index column x rows + row. Assumes nothing.
+-- Move records (RULES 6.4), and the flat moves that they stand for: a word is kind x 65536 + index, an index column x rows + row. Assumes nothing.
 use Prim.Native.Nat.{ℕ, _+_, _*_, _/_, _%_, _≤_}
 use mathlib.Core.Bool.{Bool, _&&_, cond}
 use mathlib.Core.List.{List, [], _∷_}

@@ -34,7 +34,7 @@ pub fn set_up(grid: &[i32], rows: usize, columns: usize, work: &mut [i32]) -> Co
     }
 }
 
-// The work area is handed back: it stands for a position as document 01 says.
+// The work area is handed back: it holds a position as RULES 6.1 says.
 pub fn settle(work: &mut [i32], cells: usize)
     requires { ⌜ HasCells (now work) cells ⌝ }
     ensures { λ _. ⌜ ((g : Grid) (s : Position) (old : List ℤ) → size g ≡ cells → HasCells old (size g) → now (work .entry) ≡ held g s old → now (work .exit) ≡ areaOf g s old) ⌝ }

@@ -1,4 +1,4 @@
--- Each answer of a call on stored move lists in document 01's numbers and values. Assumes nothing.
+-- Each answer of a call on stored move lists by its number and values (RULES 9.4, 9.5). Assumes nothing.
 use mathlib.Core.Path.{_≡_}
 use mathlib.Core.List.{List, [], _∷_}
 use Prim.Native.Nat.{ℕ}

@@ -1,3 +1,3 @@
--- Stored move lists: document 01's words for them.
+-- Stored move lists (RULES 9.4, 9.5).
 pub mod MoveLine
 pub mod Answers

@@ -1,4 +1,4 @@
--- A stored move list is a line: rows, columns, then each move as four bytes, high first. Assumes nothing.
+-- A stored move list is a line (RULES 9.4, 9.5): rows, columns, then each move as four bytes, high first. Assumes nothing.
 use Prim.Native.Nat.{ℕ, _+_, _*_, _/_, _%_}
 use mathlib.Core.Bool.{_||_, not}
 use mathlib.Core.List.{List, [], _∷_}

@@ -1,4 +1,4 @@
-// Replays the Rust's stored answers (docs/VECTORS.md) from standard input, and says how many boards there were and how many differ.
+// Replays the Rust's stored answers (docs/DIFFERENCES.md) from standard input, and says how many boards there were and how many differ.
 use trials::answers;
 use trials::answers::Plain;
 use trials::fields::byte_at;

@@ -1,4 +1,4 @@
--- Each answer of a public call in document 01's numbers and values. Assumes nothing.
+-- Each answer of a public call by its number and values (RULES 7, 8). Assumes nothing.
 use Prim.Native.Nat.{ℕ}
 use mathlib.Core.Path.{_≡_}
 use mathlib.Core.List.{List, [], _∷_}

@@ -1,4 +1,4 @@
-// The public calls: each checks its input in document 01's order, and answers an enum.
+// The public calls: each checks its input in the order of RULES 8, and answers an enum.
 use refusals::Refusal;
 
 pub mod count; // 3BV
