@@ -15,7 +15,7 @@ use Rattle.game.proofs.Areas.{laid-at, laid-length, laid-only, laid-past}
 use Rattle.game.proofs.Counts.{Once}
 use Rattle.game.proofs.Members.{first-of, rest-of}
 use Rattle.game.proofs.Truth.{no→false}
-use Rattle.area.specs.Numbers.{firstAt, five, kindAt, natural, numberAt, premiumAt, putAt, putPremium, putState, secondAt, stateAt}
+use Rattle.area.specs.Numbers.{firstAt, five, contentAt, natural, numberAt, premiumAt, putAt, putPremium, putState, secondAt, stateAt}
 use Rattle.area.specs.Squares.{shifted}
 use borrow.Author.Tests.{eq-eqb, ne-eqb}
 
@@ -25,10 +25,10 @@ pub record Cell : Type 0 where
   pub second : ℕ
   pub premium : ℕ
   pub state : ℕ
-  pub kind : ℕ
+  pub content : ℕ
 
 abbrev pub numbers : Cell → List ℤ
-numbers c = five (c .first) (c .second) (c .premium) (c .state) (c .kind)
+numbers c = five (c .first) (c .second) (c .premium) (c .state) (c .content)
 
 -- the work area of such cells
 abbrev pub cellArea : (ℕ → Cell) → ℕ → List ℤ → List ℤ
@@ -90,11 +90,11 @@ set-five five other l m n old room i j v h k e f =
 
 -- a cell with another premium
 abbrev pub priced : ℕ → Cell → Cell
-priced p c = record { first = c .first; second = c .second; premium = p % 2147483648; state = c .state; kind = c .kind }
+priced p c = record { first = c .first; second = c .second; premium = p % 2147483648; state = c .state; content = c .content }
 
 -- with another state
 abbrev pub stated : ℕ → Cell → Cell
-stated k c = record { first = c .first; second = c .second; premium = c .premium; state = k % 2147483648; kind = c .kind }
+stated k c = record { first = c .first; second = c .second; premium = c .premium; state = k % 2147483648; content = c .content }
 
 module _ (n : ℕ) (old : List ℤ) (room : 5 * n ≤ length old) where
   -- areas whose cells are the same
@@ -149,8 +149,8 @@ module _ (n : ℕ) (old : List ℤ) (room : 5 * n ≤ length old) where
   pub read-state : (C : ℕ → Cell) (i : ℕ) → i < n → stateAt (cellArea C n old) i ≡ C i .state
   read-state C i h = read-area C i 3 h (omega arith)
 
-  pub read-kind : (C : ℕ → Cell) (i : ℕ) → i < n → kindAt (cellArea C n old) i ≡ C i .kind
-  read-kind C i h = read-area C i 2 h (omega arith)
+  pub read-content : (C : ℕ → Cell) (i : ℕ) → i < n → contentAt (cellArea C n old) i ≡ C i .content
+  read-content C i h = read-area C i 2 h (omega arith)
 
   -- nothing put
   pub same-at : (C : ℕ → Cell) (i : ℕ) → cellArea C n old ≡ cellArea (at C i (C i)) n old
@@ -161,12 +161,12 @@ module _ (n : ℕ) (old : List ℤ) (room : 5 * n ≤ length old) where
 -- ---- a premium shifts
 
 abbrev pub shiftCell : ℕ → ℕ → Cell → Cell
-shiftCell up down c = cond (eqb (c .kind) 0) c (priced (c .premium + up - down) c)
+shiftCell up down c = cond (eqb (c .content) 0) c (priced (c .premium + up - down) c)
 
 pub shift-acts : (n : ℕ) (old : List ℤ) → 5 * n ≤ length old → (up down : ℕ) (C : ℕ → Cell) (i : ℕ) → i < n
     → shifted up down (cellArea C n old) i ≡ cellArea (at C i (shiftCell up down (C i))) n old
 unfolding shifted
-shift-acts n old room up down C i h = rw (read-kind n old room C i h, read-premium n old room C i h) (go (eqb (C i .kind) 0))
+shift-acts n old room up down C i h = rw (read-content n old room C i h, read-premium n old room C i h) (go (eqb (C i .content) 0))
   where
     go : (b : Bool) → cond b (cellArea C n old) (putPremium (cellArea C n old) i (C i .premium + up - down))
         ≡ cellArea (at C i (cond b (C i) (priced (C i .premium + up - down) (C i)))) n old

@@ -1,4 +1,4 @@
--- What a work area that stands for a position holds of each cell, and what the kind says of the cell. Assumes nothing.
+-- What a work area that stands for a position holds of each cell, and what the content says of the cell. Assumes nothing.
 use Prim.Native.Nat.{ℕ, _*_, _+_, _-_, _<_, _≤_}
 use native.Mathlib.Omega.{arith}
 use mathlib.Core.Path.{_∙_, _≡_, ap, refl, subst, sym}
@@ -17,9 +17,9 @@ use Rattle.game.proofs.Ranges.{gain-range, length-square}
 use Rattle.game.proofs.Squares.{self-close}
 use Rattle.game.proofs.Truth.{iff, no→false}
 use Rattle.game.proofs.Zeros.{zero→}
-use Rattle.area.specs.Numbers.{firstAt, kindAt, premiumAt, secondAt, stateAt}
-use Rattle.area.specs.Stages.{Stands, held, heldFive, kind, raised}
-use Rattle.area.proofs.CellByCell.{Cell, cellArea, read-first, read-kind, read-premium, read-second, read-state}
+use Rattle.area.specs.Numbers.{firstAt, contentAt, premiumAt, secondAt, stateAt}
+use Rattle.area.specs.Stages.{Stands, held, heldFive, content, raised}
+use Rattle.area.proofs.CellByCell.{Cell, cellArea, read-first, read-content, read-premium, read-second, read-state}
 use borrow.Author.Tests.{eq-eqb, ne-eqb}
 
 -- the work area during play is as long as it was
@@ -32,7 +32,7 @@ length-held g s old h = laid-length (heldFive g s) (λ i. refl) (size g) old h
 -- a cell of a position
 abbrev pub heldCell : Grid → Position → ℕ → Cell
 heldCell g s x =
-    record { first = firstLabel g x; second = secondLabel g x; premium = raised g s x; state = getD s x 0; kind = kind g x }
+    record { first = firstLabel g x; second = secondLabel g x; premium = raised g s x; state = getD s x 0; content = content g x }
 
 pub held-cells : (g : Grid) (s : Position) (old : List ℤ) → held g s old ≡ cellArea (heldCell g s) (size g) old
 unfolding heldFive
@@ -44,7 +44,7 @@ pub record Holds (g : Grid) (s : Position) (w : List ℤ) : Type 0 where
   pub seconds : (i : ℕ) → i < size g → secondAt w i ≡ secondLabel g i
   pub premiums : (i : ℕ) → i < size g → premiumAt w i ≡ raised g s i
   pub states : (i : ℕ) → i < size g → stateAt w i ≡ getD s i 0
-  pub kinds : (i : ℕ) → i < size g → kindAt w i ≡ kind g i
+  pub contents : (i : ℕ) → i < size g → contentAt w i ≡ content g i
 
 pub held-numbers : (rows columns : ℕ) (g : Grid) (s : Position) (old w : List ℤ) → Stands rows columns g s old w → Holds g s w
 held-numbers rows columns g s old w t =
@@ -54,31 +54,31 @@ held-numbers rows columns g s old w t =
       seconds = λ i h. ap (λ (v : List ℤ). secondAt v i) e ∙ read-second (size g) old (t .room) (heldCell g s) i h;
       premiums = λ i h. ap (λ (v : List ℤ). premiumAt v i) e ∙ read-premium (size g) old (t .room) (heldCell g s) i h;
       states = λ i h. ap (λ (v : List ℤ). stateAt v i) e ∙ read-state (size g) old (t .room) (heldCell g s) i h;
-      kinds = λ i h. ap (λ (v : List ℤ). kindAt v i) e ∙ read-kind (size g) old (t .room) (heldCell g s) i h;
+      contents = λ i h. ap (λ (v : List ℤ). contentAt v i) e ∙ read-content (size g) old (t .room) (heldCell g s) i h;
     }
 
--- ---- what the kind says
+-- ---- what the content says
 
--- kind 0 is a mine
-pub kind-mine : (g : Grid) (x : ℕ) → eqb (kind g x) 0 ≡ mine g x
-unfolding kind
-kind-mine g x = go (mine g x)
+-- content 0 is a mine
+pub content-mine : (g : Grid) (x : ℕ) → eqb (content g x) 0 ≡ mine g x
+unfolding content
+content-mine g x = go (mine g x)
   where
     go : (b : Bool) → eqb (cond b 0 (1 + number g x)) 0 ≡ b
     go true = refl
     go false = ne-eqb (1 + number g x) 0 (λ e. absurd (omega arith))
 
--- a safe cell of kind 1 has number 0
+-- a safe cell of content 1 has number 0
 pub one-more : (n : ℕ) → eqb (1 + n) 1 ≡ eqb n 0
 one-more n =
     iff (eqb (1 + n) 1) (eqb n 0)
     (λ t. subst T (sym (eq-eqb n 0 (omega (arith, eqb→eq (1 + n) 1 t)))) tt)
     (λ t. subst T (sym (eq-eqb (1 + n) 1 (omega (arith, eqb→eq n 0 t)))) tt)
 
--- kind 1 is a 0-cell: a mine has no number 0
-pub kind-zero : (g : Grid) (i : ℕ) → i < size g → eqb (kind g i) 1 ≡ zeroCell g i
-unfolding kind
-kind-zero g i h = go (mine g i) refl
+-- content 1 is a 0-cell: a mine has no number 0
+pub content-zero : (g : Grid) (i : ℕ) → i < size g → eqb (content g i) 1 ≡ zeroCell g i
+unfolding content
+content-zero g i h = go (mine g i) refl
   where
     go : (b : Bool) → mine g i ≡ b → eqb (cond b 0 (1 + number g i)) 1 ≡ zeroCell g i
     go true e = sym (no→false (zeroCell g i) (λ t. zero→ g i i (record { inside = h; none = t }) h (self-close g i) (rw e tt)))
@@ -86,9 +86,9 @@ kind-zero g i h = go (mine g i) refl
 
 -- ---- small numbers
 
-pub kind-few : (g : Grid) (i : ℕ) → kind g i < 2147483648
-unfolding kind number
-kind-few g i = go (mine g i)
+pub content-few : (g : Grid) (i : ℕ) → content g i < 2147483648
+unfolding content number
+content-few g i = go (mine g i)
   where
     go : (b : Bool) → cond b 0 (1 + count (mine g) (square g i)) < 2147483648
     go true = omega arith

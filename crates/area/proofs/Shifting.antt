@@ -6,20 +6,20 @@ use mathlib.Core.List.{List}
 use lib.Dec.{eqb}
 use lib.IntN.{ℤ}
 use lib.ListN.{length}
-use Rattle.area.specs.Numbers.{kindAt, premiumAt, premiumPlace, putPremium}
+use Rattle.area.specs.Numbers.{contentAt, premiumAt, premiumPlace, putPremium}
 use Rattle.area.specs.Squares.{shifted}
 use Rattle.area.proofs.Puts.{put-length}
 use borrow.Author.Tests.{ne-eqb}
 
 pub length-shift : (up down : ℕ) (w : List ℤ) (i : ℕ) → length (shifted up down w i) ≡ length w
 unfolding shifted
-length-shift up down w i = go (eqb (kindAt w i) 0)
+length-shift up down w i = go (eqb (contentAt w i) 0)
   where
     go : (b : Bool) → length (cond b w (putPremium w i (premiumAt w i + up - down))) ≡ length w
     go true = refl
     go false = put-length w (premiumPlace i) (premiumAt w i + up - down)
 
-module _ (up down : ℕ) (w : List ℤ) (i k : ℕ) (e : k ≡ kindAt w i) where
+module _ (up down : ℕ) (w : List ℤ) (i k : ℕ) (e : k ≡ contentAt w i) where
   pub shift-mine : k ≡ 0 → w ≡ shifted up down w i
   unfolding shifted
   shift-mine t = rw (← e, t)

@@ -31,9 +31,9 @@ putAt w k v = set w k (pos (v % 2147483648))
 
 -- ---- a cell's five numbers
 
--- as they lie while a call runs: labels, kind, state, raised premium
+-- as they lie while a call runs: labels, content, state, raised premium
 abbrev pub five : ℕ → ℕ → ℕ → ℕ → ℕ → List ℤ
-five first second premium state kind = pos first ∷ pos second ∷ pos kind ∷ pos state ∷ pos premium ∷ []
+five first second premium state content = pos first ∷ pos second ∷ pos content ∷ pos state ∷ pos premium ∷ []
 
 -- the work area has n cells' numbers
 abbrev pub HasCells : List ℤ → ℕ → Type 0
@@ -59,9 +59,9 @@ premiumPlace i = 5 * i + 4
 abbrev pub statePlace : ℕ → ℕ
 statePlace i = 5 * i + 3
 
--- of its kind
-abbrev pub kindPlace : ℕ → ℕ
-kindPlace i = 5 * i + 2
+-- of its content
+abbrev pub contentPlace : ℕ → ℕ
+contentPlace i = 5 * i + 2
 
 -- the first label of the cell i
 abbrev pub firstAt : List ℤ → ℕ → ℕ
@@ -79,9 +79,9 @@ premiumAt w i = numberAt w (premiumPlace i)
 abbrev pub stateAt : List ℤ → ℕ → ℕ
 stateAt w i = numberAt w (statePlace i)
 
--- its kind
-abbrev pub kindAt : List ℤ → ℕ → ℕ
-kindAt w i = numberAt w (kindPlace i)
+-- its content
+abbrev pub contentAt : List ℤ → ℕ → ℕ
+contentAt w i = numberAt w (contentPlace i)
 
 -- the cell i with another first label
 abbrev pub putFirst : List ℤ → ℕ → ℕ → List ℤ
@@ -99,13 +99,13 @@ putPremium w i v = putAt w (premiumPlace i) v
 abbrev pub putState : List ℤ → ℕ → ℕ → List ℤ
 putState w i v = putAt w (statePlace i) v
 
--- with another kind
-abbrev pub putKind : List ℤ → ℕ → ℕ → List ℤ
-putKind w i v = putAt w (kindPlace i) v
+-- with another content
+abbrev pub putContent : List ℤ → ℕ → ℕ → List ℤ
+putContent w i v = putAt w (contentPlace i) v
 
--- with a premium as it is handed back, 10 less than raised: it stands where the kind stood
+-- with a premium as it is handed back, 10 less than raised: it stands where the content stood
 abbrev pub putLowered : List ℤ → ℕ → ℕ → List ℤ
-putLowered w i v = set w (kindPlace i) (pos (v % 2147483648) -ℤ pos 10)
+putLowered w i v = set w (contentPlace i) (pos (v % 2147483648) -ℤ pos 10)
 
 -- ---- cells that wait: while openings are labelled there is no premium, and its place, the fifth number, holds them
 

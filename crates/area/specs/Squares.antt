@@ -7,7 +7,7 @@ use lib.Dec.{eqb, leb, ltb}
 use lib.IntN.{ℤ}
 use Rattle.game.specs.Grid.{Grid, columnOf, index, rowOf, size, square}
 use Rattle.game.specs.Lists.{concat-map, range}
-use Rattle.area.specs.Numbers.{gridOf, kindAt, premiumAt, putPremium}
+use Rattle.area.specs.Numbers.{gridOf, contentAt, premiumAt, putPremium}
 
 -- ---- by rows and columns
 
@@ -35,7 +35,7 @@ pub record Around (rows columns i first last a b : ℕ) : Type 0 where
 
 -- a safe cell's premium, so much up and so much down
 unfoldable pub shifted : ℕ → ℕ → List ℤ → ℕ → List ℤ
-shifted up down w i = cond (eqb (kindAt w i) 0) w (putPremium w i (premiumAt w i + up - down))
+shifted up down w i = cond (eqb (contentAt w i) 0) w (putPremium w i (premiumAt w i + up - down))
 
 -- ---- by their place
 

@@ -11,25 +11,25 @@ use Rattle.game.specs.Position.{Position, gain, cost}
 use Rattle.game.specs.Area.{laid}
 use Rattle.area.specs.Numbers.{HasCells, five}
 
--- what tells a cell's kind: 0 for a mine, 1 more than its number for a safe cell
-unfoldable pub kind : Grid → ℕ → ℕ
-kind g i = cond (mine g i) 0 (1 + number g i)
+-- what tells a cell's content: 0 for a mine, 1 more than its number for a safe cell
+unfoldable pub content : Grid → ℕ → ℕ
+content g i = cond (mine g i) 0 (1 + number g i)
 
 -- a safe cell's premium raised by 10, so that it is never below 0; 0 for a mine
 unfoldable pub raised : Grid → Position → ℕ → ℕ
 raised g s i = cond (mine g i) 0 (10 + gain g s i - cost g s i)
 
--- before labelling: the kind alone
+-- before labelling: the content alone
 unfoldable pub loadedFive : Grid → ℕ → List ℤ
-loadedFive g i = five 0 0 0 0 (kind g i)
+loadedFive g i = five 0 0 0 0 (content g i)
 
 -- once labelled
 unfoldable pub labelledFive : Grid → ℕ → List ℤ
-labelledFive g i = five (firstLabel g i) (secondLabel g i) 0 0 (kind g i)
+labelledFive g i = five (firstLabel g i) (secondLabel g i) 0 0 (content g i)
 
--- during play: labels, raised premium, state, kind
+-- during play: labels, raised premium, state, content
 unfoldable pub heldFive : Grid → Position → ℕ → List ℤ
-heldFive g s i = five (firstLabel g i) (secondLabel g i) (raised g s i) (getD s i 0) (kind g i)
+heldFive g s i = five (firstLabel g i) (secondLabel g i) (raised g s i) (getD s i 0) (content g i)
 
 -- the work area during play
 abbrev pub held : Grid → Position → List ℤ → List ℤ

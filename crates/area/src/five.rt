@@ -1,9 +1,9 @@
-// A cell's five numbers while a call runs: first label, second label, kind, state, premium raised by 10.
+// A cell's five numbers while a call runs: first label, second label, content, state, premium raised by 10.
 use crate::numbers::get;
 use crate::numbers::put;
 ghost use mathlib.Core.Path.{_≡_};
 ghost use Prim.Native.Nat.{_<_};
-ghost use Rattle.area.specs.Numbers.{HasCell, firstAt, kindAt, premiumAt, putFirst, putKind, putLowered, putPremium, putSecond, putState, putWaiting, secondAt, stateAt, waitingAt};
+ghost use Rattle.area.specs.Numbers.{HasCell, firstAt, contentAt, premiumAt, putFirst, putContent, putLowered, putPremium, putSecond, putState, putWaiting, secondAt, stateAt, waitingAt};
 
 // The first label of the cell.
 pub fn first_label(work: &[i32], index: usize) -> usize
@@ -37,10 +37,10 @@ pub fn state(work: &[i32], index: usize) -> usize
     get(work, 5 * index + 3)
 }
 
-// The kind of the cell.
-pub fn kind(work: &[i32], index: usize) -> usize
+// The content of the cell.
+pub fn content(work: &[i32], index: usize) -> usize
     requires { ⌜ HasCell (now work) index ⌝ }
-    ensures { λ r. ⌜ (r ≡ kindAt (now (work .entry)) index) × (r < 2147483648) ⌝ }
+    ensures { λ r. ⌜ (r ≡ contentAt (now (work .entry)) index) × (r < 2147483648) ⌝ }
 {
     get(work, 5 * index + 2)
 }
@@ -77,15 +77,15 @@ pub fn put_state(work: &mut [i32], index: usize, value: usize)
     put(work, 5 * index + 3, value);
 }
 
-// Puts the kind of the cell.
-pub fn put_kind(work: &mut [i32], index: usize, value: usize)
+// Puts the content of the cell.
+pub fn put_content(work: &mut [i32], index: usize, value: usize)
     requires { ⌜ HasCell (now work) index ⌝ }
-    ensures { λ _. ⌜ now (work .exit) ≡ putKind (now (work .entry)) index value ⌝ }
+    ensures { λ _. ⌜ now (work .exit) ≡ putContent (now (work .entry)) index value ⌝ }
 {
     put(work, 5 * index + 2, value);
 }
 
-// Puts the premium of the cell as it is handed back, 10 less than raised, where the kind stood.
+// Puts the premium of the cell as it is handed back, 10 less than raised, where the content stood.
 pub fn put_lowered(work: &mut [i32], index: usize, raised: usize)
     requires { ⌜ HasCell (now work) index ⌝ }
     ensures { λ _. ⌜ now (work .exit) ≡ putLowered (now (work .entry)) index raised ⌝ }

@@ -9,11 +9,11 @@ pub mod counts; // numbers alone
 pub use counts::fewer;
 pub use counts::one_if_any;
 pub use counts::take_away;
+pub use five::content;
 pub use five::first_label;
-pub use five::kind;
 pub use five::premium;
+pub use five::put_content;
 pub use five::put_first_label;
-pub use five::put_kind;
 pub use five::put_lowered;
 pub use five::put_premium;
 pub use five::put_second_label;

@@ -1,6 +1,6 @@
 // The premiums of a square: each safe cell's, so much up and so much down.
 use crate::counts::take_away;
-use crate::five::kind;
+use crate::five::content;
 use crate::five::premium;
 use crate::five::put_premium;
 use crate::squares::around;
@@ -15,7 +15,7 @@ pub fn shift(work: &mut [i32], index: usize, up: usize, down: usize)
     requires { ⌜ HasCell (now work) index × (up ≤ 1) ⌝ }
     ensures { λ _. ⌜ now (work .exit) ≡ shifted up down (now (work .entry)) index ⌝ }
 {
-    if kind(work, index) == 0 {
+    if content(work, index) == 0 {
         return;
     }
     let raised = premium(work, index);

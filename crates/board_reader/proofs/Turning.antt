@@ -9,12 +9,12 @@ use lib.ListN.{drop, length, length-append, length-replicate, take}
 use Rattle.game.specs.Lists.{concat-map}
 use Rattle.game.specs.Calls.{Refusal, gives, refuses}
 use Rattle.game.proofs.Members.{concat-map-append}
-use Rattle.reader.specs.Prices.{answerLine}
-use Rattle.reader.specs.Blocks.{Desk, DeskOutcome, blockCall, cutFrom, deskAfter, endCall, lastLine, unlessDesk}
-use Rattle.reader.specs.Answers.{KeepsDesk}
-use Rattle.reader.specs.Sessions.{Fits, KeptOf, joined}
-use Rattle.reader.proofs.Desks.{Keeps}
-use Rattle.reader.proofs.Sessions.{block-comes, end-comes, kept-keeps, kept-on, kept-room, left, left-passed, passed-not-refused, said-first}
+use Rattle.line_prices.specs.Prices.{answerLine}
+use Rattle.line_prices.specs.Blocks.{Desk, DeskOutcome, blockCall, cutFrom, deskAfter, endCall, lastLine, unlessDesk}
+use Rattle.line_prices.specs.Answers.{KeepsDesk}
+use Rattle.line_prices.specs.Sessions.{Fits, KeptOf, joined}
+use Rattle.line_prices.proofs.Desks.{Keeps}
+use Rattle.line_prices.proofs.Sessions.{block-comes, end-comes, kept-keeps, kept-on, kept-room, left, left-passed, passed-not-refused, said-first}
 use Rattle.board_reader.specs.Turns.{Sofar, Turns, cutOn, gotOf, keptAfter, nothingKept, turnOf}
 use Rattle.board_reader.specs.declared.Got.{Got}
 use Rattle.board_reader.specs.declared.Got.the-variants as Reads

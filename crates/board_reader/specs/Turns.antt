@@ -7,9 +7,9 @@ use lib.Dec.{eqb}
 use lib.IntN.{negsuc, pos, ℤ}
 use lib.ListN.{length, replicate, take}
 use Rattle.game.specs.Lists.{concat-map}
-use Rattle.reader.specs.Prices.{answerLine}
-use Rattle.reader.specs.Blocks.{Cut, cutFrom, deskAfter, lastLine}
-use Rattle.reader.specs.Sessions.{KeptOf, joined}
+use Rattle.line_prices.specs.Prices.{answerLine}
+use Rattle.line_prices.specs.Blocks.{Cut, cutFrom, deskAfter, lastLine}
+use Rattle.line_prices.specs.Sessions.{KeptOf, joined}
 use Rattle.board_reader.specs.declared.Got.{Got}
 use Rattle.board_reader.specs.declared.Got.the-variants as Reads
 use Rattle.board_reader.specs.declared.PartLine.{PartLine}

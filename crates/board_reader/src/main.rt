@@ -2,7 +2,7 @@
 use libc::STDERR_FILENO;
 use libc::STDIN_FILENO;
 use libc::STDOUT_FILENO;
-use reader::Answered;
+use line_prices::Answered;
 ghost use Prim.Native.Nat.{_*_, _≤_};
 ghost use mathlib.Core.Path.{_≡_};
 ghost use mathlib.Core.Bool.{false, true};
@@ -66,7 +66,7 @@ fn answer_some(block: &[u8], kept: PartLine, out: &mut [u8]) -> Turn
     ensures { λ r. ⌜ AnsweredBlock kept (now (block .entry)) r ⌝ }
 {
     let mut bytes = kept.bytes;
-    let answered = reader::block::answer_block(block, &mut bytes, kept.count, out);
+    let answered = line_prices::block::answer_block(block, &mut bytes, kept.count, out);
     match answered {
         Answered::Refused(_) => Turn {
             kept,
@@ -139,7 +139,7 @@ fn print_last(kept: PartLine, out: &mut [u8]) -> Went
     ensures { λ r. ⌜ Handed true r ⌝ }
 {
     let bytes = kept.bytes;
-    let answered = reader::block::answer_end(&bytes, kept.count, out);
+    let answered = line_prices::block::answer_end(&bytes, kept.count, out);
     match answered {
         Answered::Refused(_) => Went::Unwritten,
         Answered::Kept(_, written) => print(&out[..written], kept, &[0u8; 0], true),

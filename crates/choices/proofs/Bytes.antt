@@ -9,7 +9,7 @@ use borrow.Author.Tests.{le-ltb, lt-ltb}
 use lib.IntN.{ℤ}
 use lib.ListN.{getD, length, length-set, set}
 use lib.Seq.{getD-set-other, getD-set-same}
-use Rattle.choices.specs.Tops.{Kept, columnTop, keptOf}
+use Rattle.choices.specs.Tops.{TopsKnown, columnTop, keptOf}
 
 -- what is found of it is kept, where 1 more is a byte
 pub byte-again : (f : ℕ → ℕ) (bytes : List ℕ) (columns column : ℕ) → columns ≤ length bytes
@@ -29,8 +29,8 @@ byte-again f bytes columns column room right c h n =
     here h n = let s = getD-set-same bytes column (keptOf (f column)) 0 (omega (arith, room)) in s ∙ byte (decLt (f column) 255) (λ z. n (s ∙ z))
 
 -- its highest premium
-pub kept-again : (openedOnly : Bool) (w : List ℤ) (rows columns : ℕ) (tops : List ℕ) (column : ℕ) → Kept openedOnly w rows columns tops
-    → Kept openedOnly w rows columns (set tops column (keptOf (columnTop openedOnly w rows column)))
+pub kept-again : (openedOnly : Bool) (w : List ℤ) (rows columns : ℕ) (tops : List ℕ) (column : ℕ) → TopsKnown openedOnly w rows columns tops
+    → TopsKnown openedOnly w rows columns (set tops column (keptOf (columnTop openedOnly w rows column)))
 kept-again openedOnly w rows columns tops column k =
     record {
       room = rw (length-set tops column (keptOf (columnTop openedOnly w rows column))) (k .room);

@@ -10,8 +10,8 @@ use lib.Dec.{T, eqb, leb, leb→le, le→leb}
 use lib.IntN.{_-ℤ_, negsuc, pos, ℤ}
 use lib.Signed.{leZ}
 use Rattle.area.proofs.Held.{Holds, one-more}
-use Rattle.area.specs.Numbers.{firstAt, kindAt}
-use Rattle.area.specs.Stages.{kind, raised}
+use Rattle.area.specs.Numbers.{firstAt, contentAt}
+use Rattle.area.specs.Stages.{content, raised}
 use Rattle.choices.specs.Tests.{lookedAt, unitAt}
 use Rattle.game.specs.Grid.{Grid, cells, mine, number, safe, size, zeroCell}
 use Rattle.game.specs.Lists.{has, keep, range}
@@ -127,11 +127,11 @@ module _ (g : Grid) (s : Position) (w : List ℤ) (r : Holds g s w) where
 
   -- a closed safe cell of number 0 or without label
   pub unit-there : (i : ℕ) → i < size g → closedUnitCell g s i ≡ unitAt w i
-  unfolding kind
+  unfolding content
   unit-there i h =
-      sym (ap (λ (k : ℕ). eqb k 0 && not (eqb (kindAt w i) 0) && (eqb (kindAt w i) 1 || eqb (firstAt w i) 0)) (r .states i h)
-      ∙ ap (λ (k : ℕ). closed s i && not (eqb k 0) && (eqb k 1 || eqb (firstAt w i) 0)) (r .kinds i h)
-      ∙ ap (λ (k : ℕ). closed s i && not (eqb (kind g i) 0) && (eqb (kind g i) 1 || eqb k 0)) (r .firsts i h)
+      sym (ap (λ (k : ℕ). eqb k 0 && not (eqb (contentAt w i) 0) && (eqb (contentAt w i) 1 || eqb (firstAt w i) 0)) (r .states i h)
+      ∙ ap (λ (k : ℕ). closed s i && not (eqb k 0) && (eqb k 1 || eqb (firstAt w i) 0)) (r .contents i h)
+      ∙ ap (λ (k : ℕ). closed s i && not (eqb (content g i) 0) && (eqb (content g i) 1 || eqb k 0)) (r .firsts i h)
       ∙ go (mine g i) (closed s i)
       ∙ ap (λ (b : Bool). safe g i && closed s i && (zeroCell g i || b)) (sym (first-label g i)))
     where

@@ -20,7 +20,7 @@ abbrev pub columnTop : Bool → List ℤ → ℕ → ℕ → ℕ
 columnTop openedOnly w rows column = fold (λ top row. topWith openedOnly w top (column * rows + row)) 9 (range 0 rows)
 
 -- what is kept of each column: 0 where it must be looked at again, else 1 more than its highest premium
-pub record Kept (openedOnly : Bool) (w : List ℤ) (rows columns : ℕ) (tops : List ℕ) : Type 0 where
+pub record TopsKnown (openedOnly : Bool) (w : List ℤ) (rows columns : ℕ) (tops : List ℕ) : Type 0 where
   pub room : columns ≤ length tops
   pub right : (c : ℕ) → c < columns → (getD tops c 0 ≡ 0 → ⊥) → getD tops c 0 ≡ columnTop openedOnly w rows c + 1
 
@@ -42,6 +42,6 @@ abbrev pub columnUnits : List ℤ → ℕ → ℕ → ℕ
 columnUnits w rows column = count (unitAt w) (range (column * rows) (column * rows + rows))
 
 -- what is kept of each column's closed units: 1 more than their count, but 0 where they must be counted, and where marks has 0 it may be anything
-pub record UnitsKept (w : List ℤ) (rows columns : ℕ) (marks units : List ℕ) : Type 0 where
+pub record UnitsKnown (w : List ℤ) (rows columns : ℕ) (marks units : List ℕ) : Type 0 where
   pub room : columns ≤ length units
   pub right : (c : ℕ) → c < columns → (getD marks c 0 ≡ 0 → ⊥) → (getD units c 0 ≡ 0 → ⊥) → getD units c 0 ≡ columnUnits w rows c + 1

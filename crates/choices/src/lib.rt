@@ -1,6 +1,6 @@
 // Which cell a step takes.
 pub mod highest; // the highest premium of a column
-pub mod kept; // the lowest cell of highest premium, looking again only at columns that may have changed
+pub mod known; // the lowest cell of highest premium, looking again only at columns that may have changed
 pub mod units; // the lowest closed unit
 
 // What a search finds.

@@ -21,11 +21,11 @@ pub fn unit(work: &[i32], index: usize) -> bool
     if area::state(work, index) != 0 {
         return false;
     }
-    let kind = area::kind(work, index);
-    if kind == 0 {
+    let content = area::content(work, index);
+    if content == 0 {
         return false;
     }
-    if kind == 1 {
+    if content == 1 {
         return true;
     }
     area::first_label(work, index) == 0

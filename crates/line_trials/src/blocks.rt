@@ -1,5 +1,5 @@
 // Board lines answered in blocks of one size or another: the answers, or their count and a sum of them.
-use reader::Answered;
+use line_prices::Answered;
 ghost use Prim.Native.Nat.{_<_, _≤_};
 
 // What is kept of the line that goes on, how many bytes were to be printed, and a sum of them.
@@ -60,7 +60,7 @@ fn told(answered: Answered, out: &[u8], state: State, shown: bool) -> State {
 // One block answered.
 fn answer_part(block: &[u8], held: &mut [u8], out: &mut [u8], state: State, shown: bool) -> State {
     let count = state.count;
-    let answered = reader::block::answer_block(block, held, count, out);
+    let answered = line_prices::block::answer_block(block, held, count, out);
     told(answered, out, state, shown)
 }
 
@@ -97,7 +97,7 @@ fn read_parts(input: &[u8], size: usize, held: &mut [u8], out: &mut [u8], shown:
 // The end of an input answered.
 fn read_end(held: &[u8], out: &mut [u8], state: State, shown: bool) -> State {
     let count = state.count;
-    let answered = reader::block::answer_end(held, count, out);
+    let answered = line_prices::block::answer_end(held, count, out);
     told(answered, out, state, shown)
 }
 

@@ -1,5 +1,5 @@
 // Stored move lines read and written, whole, cut and spoilt.
-use reader::price;
+use line_prices::price;
 use stored::MovesRead;
 use stored::MovesWritten;
 

@@ -9,7 +9,7 @@ use borrow.Author.Tests.{le-ltb, lt-ltb, ne-eqb, eq-eqb}
 use lib.Dec.{T, eqb}
 use lib.IntN.{ℤ}
 use Rattle.area.proofs.Held.{held-numbers}
-use Rattle.area.specs.Numbers.{gridOf, kindAt, stateAt}
+use Rattle.area.specs.Numbers.{gridOf, contentAt, stateAt}
 use Rattle.area.specs.Squares.{nearCell, onGrid}
 use Rattle.area.specs.Stages.{Stands}
 use Rattle.area.proofs.Sides.{nine, nine-all, nine-more}
@@ -29,17 +29,17 @@ module _ (w : List ℤ) (cells i : ℕ) where
   pub zero-past : cells ≤ i → false ≡ some-of (closedZeroAt w) (onGrid cells i)
   zero-past h = sym (ap (λ (b : Bool). some-of (closedZeroAt w) (cond b (i ∷ []) [])) (le-ltb i cells h))
 
-  -- of another kind
-  pub zero-other : (k : ℕ) → i < cells → k ≡ kindAt w i → (k ≡ 1 → ⊥) → false ≡ some-of (closedZeroAt w) (onGrid cells i)
+  -- of another content
+  pub zero-other : (k : ℕ) → i < cells → k ≡ contentAt w i → (k ≡ 1 → ⊥) → false ≡ some-of (closedZeroAt w) (onGrid cells i)
   zero-other k h e f =
       sym (ap (λ (b : Bool). some-of (closedZeroAt w) (cond b (i ∷ []) [])) (lt-ltb i cells h)
-      ∙ ap (λ (b : Bool). (b && eqb (stateAt w i) 0) || false) (ne-eqb (kindAt w i) 1 (λ q. f (e ∙ q))))
+      ∙ ap (λ (b : Bool). (b && eqb (stateAt w i) 0) || false) (ne-eqb (contentAt w i) 1 (λ q. f (e ∙ q))))
 
   -- a 0-cell, by its state
-  pub zero-state : (k n : ℕ) → i < cells → k ≡ kindAt w i → k ≡ 1 → n ≡ stateAt w i → eqb n 0 ≡ some-of (closedZeroAt w) (onGrid cells i)
+  pub zero-state : (k n : ℕ) → i < cells → k ≡ contentAt w i → k ≡ 1 → n ≡ stateAt w i → eqb n 0 ≡ some-of (closedZeroAt w) (onGrid cells i)
   zero-state k n h e z q =
       sym (ap (λ (b : Bool). some-of (closedZeroAt w) (cond b (i ∷ []) [])) (lt-ltb i cells h)
-      ∙ ap (λ (b : Bool). (b && eqb (stateAt w i) 0) || false) (eq-eqb (kindAt w i) 1 (sym e ∙ z))
+      ∙ ap (λ (b : Bool). (b && eqb (stateAt w i) 0) || false) (eq-eqb (contentAt w i) 1 (sym e ∙ z))
       ∙ ap (λ (m : ℕ). eqb m 0 || false) (sym q) ∙ or-false (eqb n 0))
     where
       or-false : (b : Bool) → (b || false) ≡ b

@@ -20,13 +20,13 @@ use Rattle.game.proofs.Reveal.{no-zero-near}
 use Rattle.game.proofs.Squares.{close-sym, column-lt, row-lt, square→}
 use Rattle.game.proofs.Truth.{and-both, and-left, no→false, or-cases, or-left, or-right}
 use Rattle.game.proofs.Zeros.{Zero, zero→}
-use Rattle.area.specs.Numbers.{firstAt, kindAt, secondAt}
+use Rattle.area.specs.Numbers.{firstAt, contentAt, secondAt}
 use Rattle.area.specs.Stages.{Stands}
 use Rattle.area.proofs.Marks.{marked-held}
 use Rattle.area.proofs.Cells.{placed}
 use Rattle.area.proofs.Spans.{Within, held-spans}
 use Rattle.marks.specs.Marks.{Clicked, Far, Marked, MarkedOr, Parted, Quiet, bordersClosed, columnShares, oneOf, sharesAt}
-use Rattle.marks.proofs.Held.{other-kind}
+use Rattle.marks.proofs.Held.{other-content}
 use Rattle.marks.proofs.Marks.{marked-also, marked-both}
 use borrow.Author.Tests.{eq-eqb}
 
@@ -154,11 +154,11 @@ module _ (rows columns : ℕ) (g : Grid) (s : Position) (old w : List ℤ) (i : 
       away : (c : ℕ) → Far c (columnOf g i) → c ≡ columnOf g i → ⊥
       away c k e = ⊎-elim (λ l. omega arith) (λ l. omega arith) k
 
-  pub clicked-one : (tops tops′ : List ℕ) → (kindAt w i ≡ 1 → ⊥) → length tops′ ≡ length tops → ((c : ℕ) → MarkedOr (c ≡ i / rows → ⊥) tops tops′ c) → Clicked g s i tops tops′
+  pub clicked-one : (tops tops′ : List ℕ) → (contentAt w i ≡ 1 → ⊥) → length tops′ ≡ length tops → ((c : ℕ) → MarkedOr (c ≡ i / rows → ⊥) tops tops′ c) → Clicked g s i tops tops′
   clicked-one tops tops′ n l m =
       record {
         long = l;
         marks = λ c.
             marked-also tops tops′ c
-            (λ k. record { other = λ e. k (e ∙ own-column); quiet = λ z. absurd (other-kind g s w (held-numbers rows columns g s old w st) i inside n z) }) (m c);
+            (λ k. record { other = λ e. k (e ∙ own-column); quiet = λ z. absurd (other-content g s w (held-numbers rows columns g s old w st) i inside n z) }) (m c);
       }

@@ -11,7 +11,7 @@ use Rattle.game.specs.Grid.{Grid, columnOf, size, square, zeroCell}
 use Rattle.game.specs.Lists.{has, range, some-of}
 use Rattle.game.specs.Openings.{holds, joinedTo}
 use Rattle.game.specs.Position.{Position, closed}
-use Rattle.area.specs.Numbers.{firstAt, kindAt, secondAt, stateAt}
+use Rattle.area.specs.Numbers.{firstAt, contentAt, secondAt, stateAt}
 
 -- ---- what moves at a cell may change
 
@@ -21,7 +21,7 @@ bordersClosed g s i = some-of (λ j. zeroCell g j && closed s j) (square g i)
 
 -- the same of one cell, by what the work area holds
 abbrev pub closedZeroAt : List ℤ → ℕ → Bool
-closedZeroAt w i = eqb (kindAt w i) 1 && eqb (stateAt w i) 0
+closedZeroAt w i = eqb (contentAt w i) 1 && eqb (stateAt w i) 0
 
 -- a column more than two from another
 abbrev pub Far : ℕ → ℕ → Type 0

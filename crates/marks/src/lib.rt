@@ -40,7 +40,7 @@ fn closed_zero(work: &[i32], cells: usize, index: usize) -> bool
     if index >= cells {
         return false;
     }
-    if area::kind(work, index) != 1 {
+    if area::content(work, index) != 1 {
         return false;
     }
     area::state(work, index) == 0
@@ -200,7 +200,7 @@ pub fn mark_click(work: &[i32], rows: usize, columns: usize, tops: &mut [u8], in
     requires { ⌜ HasCells (now work) (rows * columns) × (index < rows * columns) ⌝ }
     ensures { λ _. ⌜ ((g : Grid) (s : Position) (old : List ℤ) → Stands rows columns g s old (now (work .entry)) → Clicked g s index (now (tops .entry)) (now (tops .exit))) ⌝ }
 {
-    if area::kind(work, index) == 1 {
+    if area::content(work, index) == 1 {
         mark(work, rows, columns, tops, index);
         return;
     }

@@ -9,7 +9,7 @@ use lib.IntN.{ℤ}
 use lib.ListN.{getD, set}
 use lib.Seq.{getD-set-other}
 use Rattle.area.specs.Squares.{squareOf}
-use Rattle.area.specs.Numbers.{kindAt, stateAt}
+use Rattle.area.specs.Numbers.{contentAt, stateAt}
 use Rattle.moves.specs.declared.State.{State}
 use Rattle.area.specs.Stages.{Stands}
 use Rattle.game.specs.Grid.{Grid, mine, square}
@@ -72,7 +72,7 @@ module _ (rows columns : ℕ) (w : List ℤ) (list : List ℕ) (t : State) (i : 
             (made-none rows columns g s old w list t st f e);
       }
 
-  pub flag-safe : (k : ℕ) → k ≡ kindAt w i → (k ≡ 0 → ⊥) → Over flagsFrom (i ∷ []) rows columns w list t w list t
+  pub flag-safe : (k : ℕ) → k ≡ contentAt w i → (k ≡ 0 → ⊥) → Over flagsFrom (i ∷ []) rows columns w list t w list t
   flag-safe k e n =
       unflagged-not (λ g s old st. no→false (unflagged g s i) (λ u. T-not (mine g i) (is-safe rows columns g s old w i h st k e n) (and-left (mine g i) (not (flagged s i)) u)))
 
@@ -82,7 +82,7 @@ module _ (rows columns : ℕ) (w : List ℤ) (list : List ℕ) (t : State) (i : 
       (rw (eq-eqb (getD s i 0) 2 (sym (state-read rows columns g s old w i h st k e) ∙ q)) tt)))
 
   -- a mine without flag
-  pub flag-noted : (k m : ℕ) (w′ : List ℤ) (list′ : List ℕ) (t′ : State) → k ≡ kindAt w i → k ≡ 0 → m ≡ stateAt w i → (m ≡ 2 → ⊥)
+  pub flag-noted : (k m : ℕ) (w′ : List ℤ) (list′ : List ℕ) (t′ : State) → k ≡ contentAt w i → k ≡ 0 → m ≡ stateAt w i → (m ≡ 2 → ⊥)
       → ((g : Grid) (s : Position) (old : List ℤ) → Stands rows columns g s old w → T (mine g i) → T (closed s i) → Stands rows columns g (play g s (flag i)) old w′)
       → Carried 2 i (record { cells = 0 }) list t list′ t′ → Over flagsFrom (i ∷ []) rows columns w list t w′ list′ t′
   unfolding play

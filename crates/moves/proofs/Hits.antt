@@ -6,7 +6,7 @@ use mathlib.Core.Bool.{Bool, _&&_, cond, false, true}
 use mathlib.Core.List.{List, [], _++_, _∷_}
 use lib.Dec.{T, eqb→eq}
 use lib.IntN.{ℤ}
-use Rattle.area.specs.Numbers.{kindAt}
+use Rattle.area.specs.Numbers.{contentAt}
 use Rattle.moves.specs.declared.State.{State}
 use Rattle.area.specs.Stages.{Stands}
 use Rattle.game.specs.Grid.{Grid, cells, safe, zeroCell}
@@ -40,7 +40,7 @@ hits-append g (x ∷ xs) ys s = go (zeroCell g x && closed s x) (hits-append g x
 
 -- ---- one cell
 
-module _ (rows columns : ℕ) (w : List ℤ) (list : List ℕ) (t : State) (i : ℕ) (h : i < rows * columns) (k : ℕ) (e : k ≡ kindAt w i) where
+module _ (rows columns : ℕ) (w : List ℤ) (list : List ℕ) (t : State) (i : ℕ) (h : i < rows * columns) (k : ℕ) (e : k ≡ contentAt w i) where
   pub hit-none : (k ≡ 1 → ⊥) → Over hitsFrom (i ∷ []) rows columns w list t w list t
   hit-none n = record { made = on }
     where

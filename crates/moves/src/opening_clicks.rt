@@ -27,7 +27,7 @@ pub fn hit(
     ensures { λ r. ⌜ r .moves ≤ state .moves + 1 ⌝ }
     ensures { λ r. ⌜ Over hitsFrom (index ∷ []) rows columns (now (work .entry)) (now (list .entry)) state (now (work .exit)) (now (list .exit)) r ⌝ }
 {
-    if area::kind(work, index) != 1 {
+    if area::content(work, index) != 1 {
         return state;
     }
     single::click_closed(work, rows, columns, list, state, index)

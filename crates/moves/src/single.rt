@@ -98,7 +98,7 @@ pub fn flag_mine(
     ensures { λ r. ⌜ r .moves ≤ state .moves + 1 ⌝ }
     ensures { λ r. ⌜ Over flagsFrom (index ∷ []) rows columns (now (work .entry)) (now (list .entry)) state (now (work .exit)) (now (list .exit)) r ⌝ }
 {
-    if area::kind(work, index) != 0 {
+    if area::content(work, index) != 0 {
         return state;
     }
     if area::state(work, index) == 2 {

@@ -7,7 +7,7 @@ use mathlib.Core.Logic.{inl, inr, ⊎-elim}
 use mathlib.Core.List.{List}
 use lib.Dec.{T}
 use lib.IntN.{pos, ℤ}
-use Rattle.area.specs.Numbers.{HasCell, HasCells, firstAt, firstPlace, kindAt, kindPlace, natural, secondAt, secondPlace, statePlace}
+use Rattle.area.specs.Numbers.{HasCell, HasCells, firstAt, firstPlace, contentAt, contentPlace, natural, secondAt, secondPlace, statePlace}
 use Rattle.game.specs.Grid.{Grid, size, square}
 use Rattle.game.specs.Lists.{has}
 use Rattle.openings.specs.Labels.{edgeFirst, edgeSecond, putLabel}
@@ -59,7 +59,7 @@ same-first w w1 i s = ap natural (s .one)
 module _ (g : Grid) (k : ℕ → ℕ) (op : ℕ) (o : 1 ≤ op) where
   pub refl-change : (from : ℕ) (w : List ℤ) → Change g k op from w w
   refl-change from w =
-      record { long = refl; cells = λ i h. inl (record { one = refl; two = refl }); states = λ i h. refl; kinds = λ i h. refl; past = λ x h. refl }
+      record { long = refl; cells = λ i h. inl (record { one = refl; two = refl }); states = λ i h. refl; contents = λ i h. refl; past = λ x h. refl }
 
   -- a change from a cell is one from each cell that reaches it
   pub change-from : {a b : ℕ} (w w1 : List ℤ) → (b < size g → k b ≡ 1 → Reach g k a b) → Change g k op b w w1 → Change g k op a w w1
@@ -74,7 +74,7 @@ module _ (g : Grid) (k : ℕ → ℕ) (op : ℕ) (o : 1 ≤ op) where
           beside = t .beside;
         })) (c .cells i h);
         states = c .states;
-        kinds = c .kinds;
+        contents = c .contents;
         past = c .past;
       }
 
@@ -99,7 +99,7 @@ module _ (g : Grid) (k : ℕ → ℕ) (op : ℕ) (o : 1 ≤ op) where
             inr (record { edge = e; fresh = s .fresh; source = s .source; reached = s .reached; beside = s .beside }))
             (c .cells i h);
         states = λ i h. d .states i h ∙ c .states i h;
-        kinds = λ i h. d .kinds i h ∙ c .kinds i h;
+        contents = λ i h. d .contents i h ∙ c .contents i h;
         past = λ x h. d .past x h ∙ c .past x h;
       }
 
@@ -108,16 +108,16 @@ module _ (g : Grid) (k : ℕ → ℕ) (op : ℕ) (o : 1 ≤ op) where
   stays from w w1 c i h e =
       ⊎-elim (λ s. let q = same-first w w1 i s in omega arith) (λ s. edge-some op o w w1 w1 i (s .edge)) (c .cells i h)
 
-  -- kinds stay
-  pub kind-stays : (from : ℕ) (w w1 : List ℤ) → Change g k op from w w1 → (i : ℕ) → kindAt w1 i ≡ kindAt w i
-  kind-stays from w w1 c i =
+  -- contents stay
+  pub content-stays : (from : ℕ) (w w1 : List ℤ) → Change g k op from w w1 → (i : ℕ) → contentAt w1 i ≡ contentAt w i
+  content-stays from w w1 c i =
       elim (decLe (size g) i) [
-        | yes h ↦ ap natural (c .past (kindPlace i) (omega arith))
-        | no h ↦ ap natural (c .kinds i (omega arith))
+        | yes h ↦ ap natural (c .past (contentPlace i) (omega arith))
+        | no h ↦ ap natural (c .contents i (omega arith))
       ]
 
-  pub kinds-stay : (from : ℕ) (w w1 : List ℤ) → Change g k op from w w1 → kindAt w1 ≡ kindAt w
-  kinds-stay from w w1 c = fun-ext (kind-stays from w w1 c)
+  pub contents-stay : (from : ℕ) (w w1 : List ℤ) → Change g k op from w w1 → contentAt w1 ≡ contentAt w
+  contents-stay from w w1 c = fun-ext (content-stays from w w1 c)
 
   -- ---- a side, before and after a change
 
@@ -169,7 +169,7 @@ module _ (g : Grid) (k : ℕ → ℕ) (op : ℕ) (o : 1 ≤ op) where
               })
             ];
         states = λ i l. labelled-other w at op (statePlace i) (λ e. omega arith) (λ e. omega arith);
-        kinds = λ i l. labelled-other w at op (kindPlace i) (λ e. omega arith) (λ e. omega arith);
+        contents = λ i l. labelled-other w at op (contentPlace i) (λ e. omega arith) (λ e. omega arith);
         past = λ x l. labelled-other w at op x (λ e. omega arith) (λ e. omega arith);
       }
     where

@@ -9,7 +9,7 @@ use lib.Dec.{T, eqb, ltb}
 use lib.IntN.{pos, ℤ}
 use lib.ListN.{getD, length, length-set, set}
 use lib.Seq.{getD-set-other, getD-set-same}
-use Rattle.area.specs.Numbers.{HasCell, firstAt, firstPlace, kindAt, kindPlace, natural, putAt, secondAt, secondPlace}
+use Rattle.area.specs.Numbers.{HasCell, firstAt, firstPlace, contentAt, contentPlace, natural, putAt, secondAt, secondPlace}
 use Rattle.openings.specs.Labels.{Fresh, bordered, edgeFirst, edgeSecond, freshCell, putLabel, numberedOf}
 use Rattle.game.proofs.Truth.{and-yes}
 
@@ -90,8 +90,8 @@ module _ (w : List ℤ) (i op : ℕ) where
   unfolding putLabel
   labelled-other x f h = two-other w i (pos (edgeFirst op (firstAt w i))) (pos (edgeSecond op (firstAt w i) (secondAt w i))) x f h
 
-  pub labelled-kind : kindAt (putLabel w i op) i ≡ kindAt w i
-  labelled-kind = ap natural (labelled-other (kindPlace i) (λ e. omega arith) (λ e. omega arith))
+  pub labelled-content : contentAt (putLabel w i op) i ≡ contentAt w i
+  labelled-content = ap natural (labelled-other (contentPlace i) (λ e. omega arith) (λ e. omega arith))
 
   pub labelled-long : length (putLabel w i op) ≡ length w
   unfolding putLabel
@@ -102,17 +102,17 @@ module _ (w : List ℤ) (i op : ℕ) where
 module _ (n : ℕ) (w : List ℤ) (i : ℕ) (r : Bool) where
   pub fresh-yes : r ≡ freshCell n w i → not r ≡ false → Fresh n w i
   fresh-yes e t =
-      let a = and-yes (ltb i n) (eqb (kindAt w i) 1 && eqb (firstAt w i) 0) (sym e ∙ not-false r t) in
-      let b = and-yes (eqb (kindAt w i) 1) (eqb (firstAt w i) 0) (a .1) in
-      record { inside = ltb-true i n (a .0); zero-cell = eqb-true (kindAt w i) 1 (b .0); unlabelled = eqb-true (firstAt w i) 0 (b .1) }
+      let a = and-yes (ltb i n) (eqb (contentAt w i) 1 && eqb (firstAt w i) 0) (sym e ∙ not-false r t) in
+      let b = and-yes (eqb (contentAt w i) 1) (eqb (firstAt w i) 0) (a .1) in
+      record { inside = ltb-true i n (a .0); zero-cell = eqb-true (contentAt w i) 1 (b .0); unlabelled = eqb-true (firstAt w i) 0 (b .1) }
 
   pub fresh-no : r ≡ freshCell n w i → not r ≡ true → Fresh n w i → ⊥
   fresh-no e t f =
-      let z : true ≡ freshCell n w i = simp (lt-ltb i n (f .inside), eq-eqb (kindAt w i) 1 (f .zero-cell), eq-eqb (firstAt w i) 0 (f .unlabelled)) in
+      let z : true ≡ freshCell n w i = simp (lt-ltb i n (f .inside), eq-eqb (contentAt w i) 1 (f .zero-cell), eq-eqb (firstAt w i) 0 (f .unlabelled)) in
       subst T (sym (sym (not-true r t) ∙ e ∙ sym z)) tt
 
   pub numbered-inside : r ≡ numberedOf n w i → not r ≡ false → i < n
-  numbered-inside e t = ltb-true i n (and-yes (ltb i n) (not (eqb (kindAt w i) 1)) (sym e ∙ not-false r t) .0)
+  numbered-inside e t = ltb-true i n (and-yes (ltb i n) (not (eqb (contentAt w i) 1)) (sym e ∙ not-false r t) .0)
 
   pub bordered-not : (op : ℕ) → r ≡ numberedOf n w i → not r ≡ true → w ≡ bordered n w i op
   bordered-not op e t = ap (λ (b : Bool). cond b (putLabel w i op) w) (sym (not-true r t) ∙ e)

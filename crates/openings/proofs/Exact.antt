@@ -8,8 +8,8 @@ use mathlib.Core.List.{List}
 use lib.Dec.{T, eqb→eq}
 use lib.IntN.{ℤ}
 use Rattle.area.specs.Numbers.{firstAt, natural}
-use Rattle.area.specs.Stages.{kind}
-use Rattle.area.proofs.Held.{kind-zero}
+use Rattle.area.specs.Stages.{content}
+use Rattle.area.proofs.Held.{content-zero}
 use Rattle.area.proofs.Rows.{same-square}
 use Rattle.game.specs.Grid.{Grid, size, square}
 use Rattle.game.specs.Lists.{has}
@@ -22,23 +22,23 @@ use Rattle.game.proofs.Openings.{joinedTo→, →joinedTo}
 use Rattle.game.proofs.Squares.{close-sym, square→, →square}
 use Rattle.game.proofs.Zeros.{Zero}
 
--- ---- kinds tell the 0-cells
+-- ---- contents tell the 0-cells
 
-pub one→zero : (g : Grid) (i : ℕ) → i < size g → kind g i ≡ 1 → Zero g i
-one→zero g i h e = record { inside = h; none = rw (← kind-zero g i h, e) tt }
+pub one→zero : (g : Grid) (i : ℕ) → i < size g → content g i ≡ 1 → Zero g i
+one→zero g i h e = record { inside = h; none = rw (← content-zero g i h, e) tt }
 
-pub zero→one : (g : Grid) (i : ℕ) → Zero g i → kind g i ≡ 1
-zero→one g i z = eqb→eq (kind g i) 1 (subst T (sym (kind-zero g i (z .inside))) (z .none))
+pub zero→one : (g : Grid) (i : ℕ) → Zero g i → content g i ≡ 1
+zero→one g i z = eqb→eq (content g i) 1 (subst T (sym (content-zero g i (z .inside))) (z .none))
 
 -- ---- one opening
 
-module _ (g : Grid) (k : ℕ → ℕ) (kinds : (j : ℕ) → j < size g → k j ≡ kind g j) (op i : ℕ) (w w′ : List ℤ)
+module _ (g : Grid) (k : ℕ → ℕ) (contents : (j : ℕ) → j < size g → k j ≡ content g j) (op i : ℕ) (w w′ : List ℤ)
     (r : Opened (shaped (g .rows) (g .columns)) k op i w w′) (z : Zero g i) (free : (x : ℕ) → Joined g i x → firstAt w x ≡ 0) where
   zero-at : (x : ℕ) → x < size g → k x ≡ 1 → Zero g x
-  zero-at x h e = one→zero g x h (sym (kinds x h) ∙ e)
+  zero-at x h e = one→zero g x h (sym (contents x h) ∙ e)
 
   one-at : (x : ℕ) → Zero g x → k x ≡ 1
-  one-at x zx = kinds x (zx .inside) ∙ zero→one g x zx
+  one-at x zx = contents x (zx .inside) ∙ zero→one g x zx
 
   chain : (x : ℕ) → Reach (shaped (g .rows) (g .columns)) k i x → Joined g i x
   chain x (here h e) = itself h (zero-at i h e .none)

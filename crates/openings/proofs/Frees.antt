@@ -8,7 +8,7 @@ use mathlib.Core.List.{List}
 use borrow.Author.Tests.{eq-eqb, ne-eqb}
 use lib.Dec.{T, eqb, eqb→eq}
 use lib.IntN.{ℤ}
-use Rattle.area.specs.Numbers.{HasCells, firstAt, firstPlace, kindAt, kindPlace, natural}
+use Rattle.area.specs.Numbers.{HasCells, firstAt, firstPlace, contentAt, contentPlace, natural}
 use Rattle.game.specs.Grid.{Grid, size}
 use Rattle.game.specs.Lists.{bit, has, range}
 use Rattle.openings.specs.Labels.{Fresh, edgeFirst, freeOf, freshOf, putLabel}
@@ -17,17 +17,17 @@ use Rattle.game.proofs.Counts.{bit-yes, count-drop, count-le, count-mono}
 use Rattle.game.proofs.Members.{length-from, range-has}
 use Rattle.game.proofs.Orders.{once-range}
 use Rattle.game.proofs.Truth.{and-both, and-left, and-no, and-right}
-use Rattle.openings.proofs.Changes.{kind-stays, stays}
+use Rattle.openings.proofs.Changes.{content-stays, stays}
 use Rattle.openings.proofs.Edges.{first-some, labelled-first, labelled-other}
 
-fresh-yes? : (w : List ℤ) (i : ℕ) → T (freshOf w i) → (kindAt w i ≡ 1) × (firstAt w i ≡ 0)
+fresh-yes? : (w : List ℤ) (i : ℕ) → T (freshOf w i) → (contentAt w i ≡ 1) × (firstAt w i ≡ 0)
 fresh-yes? w i t = (
-  eqb→eq (kindAt w i) 1 (and-left (eqb (kindAt w i) 1) (eqb (firstAt w i) 0) t),
-  eqb→eq (firstAt w i) 0 (and-right (eqb (kindAt w i) 1) (eqb (firstAt w i) 0) t),
+  eqb→eq (contentAt w i) 1 (and-left (eqb (contentAt w i) 1) (eqb (firstAt w i) 0) t),
+  eqb→eq (firstAt w i) 0 (and-right (eqb (contentAt w i) 1) (eqb (firstAt w i) 0) t),
 )
 
-fresh-test : (w : List ℤ) (i : ℕ) → kindAt w i ≡ 1 → firstAt w i ≡ 0 → freshOf w i ≡ true
-fresh-test w i p q = simp (eq-eqb (kindAt w i) 1 p, eq-eqb (firstAt w i) 0 q)
+fresh-test : (w : List ℤ) (i : ℕ) → contentAt w i ≡ 1 → firstAt w i ≡ 0 → freshOf w i ≡ true
+fresh-test w i p q = simp (eq-eqb (contentAt w i) 1 p, eq-eqb (firstAt w i) 0 q)
 
 module _ (g : Grid) (k : ℕ → ℕ) (op : ℕ) (o : 1 ≤ op) where
   -- a cell without label had none before
@@ -46,7 +46,7 @@ module _ (g : Grid) (k : ℕ → ℕ) (op : ℕ) (o : 1 ≤ op) where
   free-le from w w1 c =
       count-mono (freshOf w1) (freshOf w) (range 0 (size g)) (λ i t.
       let f = fresh-yes? w1 i t in
-      rw (fresh-test w i (sym (kind-stays g k op o from w w1 c i) ∙ f .0) (unlabelled-before from w w1 c i (f .1))) tt)
+      rw (fresh-test w i (sym (content-stays g k op o from w w1 c i) ∙ f .0) (unlabelled-before from w w1 c i (f .1))) tt)
 
 pub free-labelled : (n op : ℕ) → 1 ≤ op → (w : List ℤ) (i : ℕ) → HasCells w n → Fresh n w i → freeOf n (putLabel w i op) + 1 ≡ freeOf n w
 unfolding freeOf
@@ -58,7 +58,7 @@ free-labelled n op o w i room f =
   where
     other : (x : ℕ) → (x ≡ i → ⊥) → freshOf w x ≡ freshOf (putLabel w i op) x
     other x n =
-        let a : kindAt (putLabel w i op) x ≡ kindAt w x = ap natural (labelled-other w i op (kindPlace x) (λ e. omega arith) (λ e. omega arith)) in
+        let a : contentAt (putLabel w i op) x ≡ contentAt w x = ap natural (labelled-other w i op (contentPlace x) (λ e. omega arith) (λ e. omega arith)) in
         let b : firstAt (putLabel w i op) x ≡ firstAt w x = ap natural (labelled-other w i op (firstPlace x) (λ e. n (omega arith)) (λ e. omega arith)) in
         simp (a, b)
 
@@ -66,7 +66,7 @@ free-labelled n op o w i room f =
     gone =
         let b : firstAt (putLabel w i op) i ≡ edgeFirst op (firstAt w i) = ap natural (labelled-first w i op (omega (arith, f .inside))) in
         let s = first-some op o (firstAt w i) in
-        and-no (eqb (kindAt (putLabel w i op) i) 1) (eqb (firstAt (putLabel w i op) i) 0) (ne-eqb (firstAt (putLabel w i op) i) 0 (λ e. omega arith))
+        and-no (eqb (contentAt (putLabel w i op) i) 1) (eqb (firstAt (putLabel w i op) i) 0) (ne-eqb (firstAt (putLabel w i op) i) 0 (λ e. omega arith))
 
 pub free-few : (n : ℕ) (w : List ℤ) → freeOf n w ≤ n
 unfolding freeOf

@@ -9,8 +9,8 @@ use borrow.Author.Tests.{eq-eqb, eqb-true}
 use lib.Dec.{T, T-not}
 use lib.IntN.{pos, ℤ}
 use lib.ListN.{getD, length, length-append}
-use Rattle.area.specs.Numbers.{HasCells, firstAt, firstPlace, kindAt, natural, secondAt, secondPlace}
-use Rattle.area.specs.Stages.{kind, labelledFive, loadedFive}
+use Rattle.area.specs.Numbers.{HasCells, firstAt, firstPlace, contentAt, natural, secondAt, secondPlace}
+use Rattle.area.specs.Stages.{content, labelledFive, loadedFive}
 use Rattle.game.specs.Area.{laid}
 use Rattle.game.specs.Grid.{Grid, size, zeroCell}
 use Rattle.game.specs.Lists.{count, has, range, some-of}
@@ -49,13 +49,13 @@ each-slot P a b c d e (suc (suc (suc (suc (suc s))))) h = absurd (omega arith)
 
 module _ (g : Grid) (os : List (List ℕ)) (good-os : Good g os) (i : ℕ) (hi : i < size g) (old w w′ : List ℤ) (r : ℕ)
     (room : HasCells old (size g)) (is : w ≡ laid (partFive g os) (size g) old)
-    (b : Begun (shaped (g .rows) (g .columns)) (kindAt w) (length os) i w r w′) where
+    (b : Begun (shaped (g .rows) (g .columns)) (contentAt w) (length os) i w r w′) where
   slot : (j s : ℕ) → j < size g → s < 5 → getD w (5 * j + s) (pos 0) ≡ getD (partFive g os j) s (pos 0)
   slot j s h l = ap (λ (x : List ℤ). getD x (5 * j + s) (pos 0)) is ∙ laid-at (partFive g os) (part-length g os) (size g) old j s h l
 
-  kinds : (j : ℕ) → j < size g → kindAt w j ≡ kind g j
+  contents : (j : ℕ) → j < size g → contentAt w j ≡ content g j
   unfolding partFive
-  kinds j h = ap natural (slot j 2 h (omega arith))
+  contents j h = ap natural (slot j 2 h (omega arith))
 
   first-slot : (j : ℕ) → j < size g → getD w (firstPlace j) (pos 0) ≡ pos (getD (places g j 1 os) 0 0)
   unfolding partFive
@@ -78,7 +78,7 @@ module _ (g : Grid) (os : List (List ℕ)) (good-os : Good g os) (i : ℕ) (hi :
   not-in : (x : ℕ) → Zero g x → firstAt w x ≡ 0 → T (not (some-of (has x) os))
   not-in x z e = rw (← zero-labelled g x 0 os z (good-os .full), eq-eqb (getD (places g x 1 os) 0 0) 0 (sym (firsts x (z .inside)) ∙ e)) tt
 
-  module _ (z : Zero g i) (n : In i os → ⊥) (q : Opened (shaped (g .rows) (g .columns)) (kindAt w) (length os + 1) i w w′) where
+  module _ (z : Zero g i) (n : In i os → ⊥) (q : Opened (shaped (g .rows) (g .columns)) (contentAt w) (length os + 1) i w w′) where
     free : (x : ℕ) → Joined g i x → firstAt w x ≡ 0
     free x j = out x (joined-last g i x j) (λ t. n (good-os .whole x i t (joined-sym g i x j)))
 
@@ -89,13 +89,13 @@ module _ (g : Grid) (os : List (List ℕ)) (good-os : Good g os) (i : ℕ) (hi :
         → (getD w′ (firstPlace j) (pos 0) ≡ pos (getD (places g j 1 os′) 0 0)) × (getD w′ (secondPlace j) (pos 0) ≡ pos (getD (places g j 1 os′) 1 0))
     unfolding os′ partFive
     new-labels j h true e =
-        let d = exact-yes g (kindAt w) kinds (length os + 1) i w w′ q z free j h (rw e tt) in
+        let d = exact-yes g (contentAt w) contents (length os + 1) i w w′ q z free j h (rw e tt) in
         let p = places-held g j os (joinedTo g i) e in (
           d .one ∙ ap pos (ap (edgeFirst (length os + 1)) (firsts j h) ∙ first-after (length os + 1) (places g j 1 os) (earlier g j os) ∙ ap (λ (l : List ℕ). getD l 0 0) (sym p)),
           d .two ∙ ap pos (cc (firsts j h, seconds j h, second-after (length os + 1) (places g j 1 os) (earlier g j os), p)),
         )
     new-labels j h false e =
-        let d = exact-no g (kindAt w) kinds (length os + 1) i w w′ q z free j h (λ t. subst T e t) in
+        let d = exact-no g (contentAt w) contents (length os + 1) i w w′ q z free j h (λ t. subst T e t) in
         let p = places-not g j os (joinedTo g i) e in (
           d .one ∙ first-slot j h ∙ ap (λ (l : List ℕ). pos (getD l 0 0)) (sym p),
           d .two ∙ slot j 1 h (omega arith) ∙ ap (λ (l : List ℕ). pos (getD l 1 0)) (sym p),
@@ -108,7 +108,7 @@ module _ (g : Grid) (os : List (List ℕ)) (good-os : Good g os) (i : ℕ) (hi :
         (q .change .long ∙ ap length is ∙ laid-length (partFive g os) (part-length g os) (size g) old room)
         (λ j s h l. each-slot (λ s. getD w′ (5 * j + s) (pos 0) ≡ getD (partFive g os′ j) s (pos 0))
         (ap (λ (m : ℕ). getD w′ m (pos 0)) (add-zero (firstPlace j)) ∙ new-labels j h (holds g j (joinedTo g i)) refl .0) (new-labels j h (holds g j (joinedTo g i)) refl .1)
-        (q .change .kinds j h ∙ slot j 2 h (omega arith))
+        (q .change .contents j h ∙ slot j 2 h (omega arith))
         (q .change .states j h ∙ slot j 3 h (omega arith))
         (q .clear (λ x a d. slot x 4 d (omega arith)) j (omega arith) h) s l)
         (λ x h. q .change .past x h ∙ ap (λ (l : List ℤ). getD l x (pos 0)) is ∙ laid-past (partFive g os) (part-length g os) (size g) old x h)
@@ -125,11 +125,11 @@ module _ (g : Grid) (os : List (List ℕ)) (good-os : Good g os) (i : ℕ) (hi :
           let t : T (zeroCell g i && not (some-of (has i) os)) = rw e tt in
           let z : Zero g i = record { inside = hi; none = and-left (zeroCell g i) (not (some-of (has i) os)) t } in
           let n : In i os → ⊥ = λ u. T-not (some-of (has i) os) (and-right (zeroCell g i) (not (some-of (has i) os)) t) u in
-          let f = b .fresh (kinds i hi ∙ zero→one g i z) (out i z n) in
+          let f = b .fresh (contents i hi ∙ zero→one g i z) (out i z n) in
           (f .0 ∙ sym (length-append os (joinedTo g i ∷ [])), part-new z n (f .1))
       go false e =
           let f = b .none (λ p q.
-          let z = one→zero g i hi (sym (kinds i hi) ∙ p) in
+          let z = one→zero g i hi (sym (contents i hi) ∙ p) in
           subst T e (and-both (zeroCell g i) (not (some-of (has i) os)) (z .none) (not-in i z q))) in
           (f .0, f .1 ∙ is)
 
@@ -145,7 +145,7 @@ module _ (rows columns : ℕ) (w₀ : List ℤ) where
       record { inside = omega arith; few = omega arith; long = refl; parts = λ g old er ec room is. (refl, is ∙ part-none g old) }
 
   pub numbered-more : (i count r : ℕ) (w w′ : List ℤ) → Numbered rows columns w₀ i count w → i < rows * columns
-      → Begun (shaped rows columns) (kindAt w) count i w r w′ → Numbered rows columns w₀ (i + 1) r w′
+      → Begun (shaped rows columns) (contentAt w) count i w r w′ → Numbered rows columns w₀ (i + 1) r w′
   numbered-more i count r w w′ n h b =
       record {
         inside = omega arith;
@@ -154,7 +154,7 @@ module _ (rows columns : ℕ) (w₀ : List ℤ) where
         parts = λ g old er ec room is.
             let p = n .parts g old er ec room is in
             let hi : i < size g = rw (er, ec) h in
-            let c : Begun (shaped (g .rows) (g .columns)) (kindAt w) (length (upto g i)) i w r w′ =
+            let c : Begun (shaped (g .rows) (g .columns)) (contentAt w) (length (upto g i)) i w r w′ =
             rw (← p .0, er, ec) b in
             rw (fold-more (gather g) [] 0 i (omega arith))
             (part-more g (upto g i) (good-upto g i (omega arith)) i hi old w w′ r room (p .1) c);

@@ -9,7 +9,7 @@ use mathlib.Core.List.{List}
 use lib.IntN.{pos, ℤ}
 use lib.ListN.{getD, set}
 use lib.Seq.{getD-set-other, getD-set-same}
-use Rattle.area.specs.Numbers.{HasCells, firstAt, firstPlace, kindAt, natural, waitingAt, waitingPlace}
+use Rattle.area.specs.Numbers.{HasCells, firstAt, firstPlace, contentAt, natural, waitingAt, waitingPlace}
 use Rattle.game.specs.Grid.{Grid, size}
 use Rattle.game.specs.Moves.{after}
 use Rattle.game.specs.Rounds.{before}
@@ -17,7 +17,7 @@ use Rattle.openings.specs.Labels.{freeOf, freshCell}
 use Rattle.openings.specs.Spread.{Change, ClearFrom, Opened, Reach, Shut, here}
 use Rattle.openings.specs.Waits.{InSquare, Newly, Pushed, Visitable, Waited, Waiting}
 use Rattle.game.proofs.Squares.{in-own-square, square→}
-use Rattle.openings.proofs.Changes.{change-from, kind-stays, kinds-stay, reach-last, reach-trans, side-then, stays, then-side, trans-change}
+use Rattle.openings.proofs.Changes.{change-from, content-stays, contents-stay, reach-last, reach-trans, side-then, stays, then-side, trans-change}
 use Rattle.openings.proofs.Edges.{fresh-no, fresh-yes}
 use Rattle.openings.proofs.Frees.{free-few, free-le}
 use Rattle.openings.proofs.Stacks.{newly-reached, place-change, pushed-wait}
@@ -34,10 +34,10 @@ pub record Spreading (g : Grid) (k : ℕ → ℕ) (op i : ℕ) (w₀ w : List �
 
 module _ (g : Grid) (op : ℕ) (o : 1 ≤ op) (i : ℕ) where
   -- the first cell waits, if it is a 0-cell without label
-  pub spread-first : (w₀ w : List ℤ) (top : ℕ) → HasCells w₀ (size g) → Waited (size g) op i 0 w₀ top w → Spreading g (kindAt w₀) op i w₀ w top
+  pub spread-first : (w₀ w : List ℤ) (top : ℕ) → HasCells w₀ (size g) → Waited (size g) op i 0 w₀ top w → Spreading g (contentAt w₀) op i w₀ w top
   spread-first w₀ w top room v = go (freshCell (size g) w₀ i) refl
     where
-      go : (b : Bool) → freshCell (size g) w₀ i ≡ b → Spreading g (kindAt w₀) op i w₀ w top
+      go : (b : Bool) → freshCell (size g) w₀ i ≡ b → Spreading g (contentAt w₀) op i w₀ w top
       go true e =
           let f = fresh-yes (size g) w₀ i true (sym e) refl in
           let few = free-few (size g) w₀ in
@@ -45,7 +45,7 @@ module _ (g : Grid) (op : ℕ) (o : 1 ≤ op) (i : ℕ) where
           record {
             change = p .change;
             places = omega (arith, p .free);
-            stack = λ t h. newly-reached g (kindAt w₀) op o i w₀ w (p .change) (waitingAt w t) (p .waits t (omega arith) h);
+            stack = λ t h. newly-reached g (contentAt w₀) op o i w₀ w (p .change) (waitingAt w t) (p .waits t (omega arith) h);
             closed = λ x n. inl (p .new x n);
             self = λ h z. p .sides i h (record { is = refl; zero-cell = z }) .zero-cell z;
             clear = λ c t a h. p .above t a ∙ c t (omega arith) h;
@@ -64,16 +64,16 @@ module _ (g : Grid) (op : ℕ) (o : 1 ≤ op) (i : ℕ) where
           })
 
   -- the last that waits is taken, and its square is visited
-  pub spread-more : (w₀ w w1 w2 : List ℤ) (s top : ℕ) → HasCells w (size g) → Spreading g (kindAt w₀) op i w₀ w (s + 1) → w1 ≡ set w (waitingPlace s) (pos 0)
-      → Pushed g (kindAt w1) op (waitingAt w s) (InSquare g (waitingAt w s)) w1 s w2 top → Spreading g (kindAt w₀) op i w₀ w2 top
+  pub spread-more : (w₀ w w1 w2 : List ℤ) (s top : ℕ) → HasCells w (size g) → Spreading g (contentAt w₀) op i w₀ w (s + 1) → w1 ≡ set w (waitingPlace s) (pos 0)
+      → Pushed g (contentAt w1) op (waitingAt w s) (InSquare g (waitingAt w s)) w1 s w2 top → Spreading g (contentAt w₀) op i w₀ w2 top
   spread-more w₀ w w1 w2 s top room p q1 v1 =
-      let k = kindAt w₀ in
+      let k = contentAt w₀ in
       let x = waitingAt w s in
       let hs : s < size g = omega (arith, p .places) in
       let c1 : Change g k op i w w1 = rw q1 (place-change g k op o i w s (pos 0) hs) in
       let c01 = trans-change g k op o i w₀ w w1 (p .change) c1 in
       let v : Pushed g k op x (InSquare g x) w1 s w2 top =
-      subst (λ (m : ℕ → ℕ). Pushed g m op x (InSquare g x) w1 s w2 top) (kinds-stay g k op o i w₀ w1 c01) v1 in
+      subst (λ (m : ℕ → ℕ). Pushed g m op x (InSquare g x) w1 s w2 top) (contents-stay g k op o i w₀ w1 c01) v1 in
       let rx = p .stack s (omega arith) in
       let hx = reach-last g k rx .0 in
       let c2 = change-from g k op o w1 w2 (λ _ _. rx) (v .change) in
@@ -117,7 +117,7 @@ module _ (g : Grid) (op : ℕ) (o : 1 ≤ op) (i : ℕ) where
       }
 
   -- none waits
-  pub spread-last : (w₀ w : List ℤ) (top : ℕ) → top ≤ 0 → Spreading g (kindAt w₀) op i w₀ w top → Opened g (kindAt w₀) op i w₀ w
+  pub spread-last : (w₀ w : List ℤ) (top : ℕ) → top ≤ 0 → Spreading g (contentAt w₀) op i w₀ w top → Opened g (contentAt w₀) op i w₀ w
   spread-last w₀ w top h p =
       record {
         change = p .change;
@@ -129,22 +129,22 @@ module _ (g : Grid) (op : ℕ) (o : 1 ≤ op) (i : ℕ) where
 
   -- ---- the cell taken
 
-  module _ (w₀ w w1 : List ℤ) (s : ℕ) (p : Spreading g (kindAt w₀) op i w₀ w (s + 1)) (q : w1 ≡ set w (waitingPlace s) (pos 0)) where
-    taken-change : Change g (kindAt w₀) op i w w1
-    taken-change = rw q (place-change g (kindAt w₀) op o i w s (pos 0) (omega (arith, p .places)))
+  module _ (w₀ w w1 : List ℤ) (s : ℕ) (p : Spreading g (contentAt w₀) op i w₀ w (s + 1)) (q : w1 ≡ set w (waitingPlace s) (pos 0)) where
+    taken-change : Change g (contentAt w₀) op i w w1
+    taken-change = rw q (place-change g (contentAt w₀) op o i w s (pos 0) (omega (arith, p .places)))
 
-    pub taken-visitable : Visitable (size g) (kindAt w1) (waitingAt w s) s w1
+    pub taken-visitable : Visitable (size g) (contentAt w1) (waitingAt w s) s w1
     taken-visitable =
         let x = waitingAt w s in
-        let l = reach-last g (kindAt w₀) (p .stack s (omega arith)) in
+        let l = reach-last g (contentAt w₀) (p .stack s (omega arith)) in
         record {
           inside = l .0;
-          zero-cell = kind-stays g (kindAt w₀) op o i w w1 taken-change x ∙ kind-stays g (kindAt w₀) op o i w₀ w (p .change) x ∙ l .1;
-          places = omega (arith, p .places, free-le g (kindAt w₀) op o i w w1 taken-change);
+          zero-cell = content-stays g (contentAt w₀) op o i w w1 taken-change x ∙ content-stays g (contentAt w₀) op o i w₀ w (p .change) x ∙ l .1;
+          places = omega (arith, p .places, free-le g (contentAt w₀) op o i w w1 taken-change);
         }
 
     -- fewer 0-cells are left, or fewer wait
-    pub taken-less : (P : ℕ → Type 0) (x : ℕ) (w2 : List ℤ) (top : ℕ) → Pushed g (kindAt w1) op x P w1 s w2 top
+    pub taken-less : (P : ℕ → Type 0) (x : ℕ) (w2 : List ℤ) (top : ℕ) → Pushed g (contentAt w1) op x P w1 s w2 top
         → 2 * freeOf (size g) w2 + top < 2 * freeOf (size g) w + (s + 1)
     taken-less P x w2 top v =
-        omega (arith, v .free, free-le g (kindAt w1) op o x w1 w2 (v .change), free-le g (kindAt w₀) op o i w w1 taken-change)
+        omega (arith, v .free, free-le g (contentAt w1) op o x w1 w2 (v .change), free-le g (contentAt w₀) op o i w w1 taken-change)

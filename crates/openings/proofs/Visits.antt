@@ -9,7 +9,7 @@ use borrow.Author.Tests.{eqb-false, eqb-true, ltb-false, ltb-true}
 use lib.Dec.{T, eqb, ltb}
 use lib.IntN.{pos, ℤ}
 use lib.ListN.{getD, length}
-use Rattle.area.specs.Numbers.{HasCells, firstAt, firstPlace, kindAt, natural, waitingPlace}
+use Rattle.area.specs.Numbers.{HasCells, firstAt, firstPlace, contentAt, natural, waitingPlace}
 use Rattle.area.specs.Squares.{Neighbour}
 use Rattle.game.specs.Calls.{shape}
 use Rattle.game.specs.Grid.{Grid, size, square}
@@ -17,7 +17,7 @@ use Rattle.game.specs.Lists.{has}
 use Rattle.openings.specs.Labels.{Fresh, Ready, bordered, freeOf, putLabel}
 use Rattle.openings.specs.Spread.{Change, ClearFrom, Closed, Edge, Opened, Reach, Side, Visited, here, next, turn}
 use Rattle.game.proofs.Squares.{in-own-square, square→, →square}
-use Rattle.openings.proofs.Changes.{change-from, closed-then, edge-some, edge-then, kinds-stay, label-change, refl-change, side-then, stays, then-side, trans-change}
+use Rattle.openings.proofs.Changes.{change-from, closed-then, edge-some, edge-then, contents-stay, label-change, refl-change, side-then, stays, then-side, trans-change}
 use Rattle.openings.proofs.Edges.{labelled-first, labelled-other, labelled-second}
 use Rattle.openings.proofs.Frees.{free-le}
 
@@ -28,21 +28,21 @@ pub record Bordering (g : Grid) (k : ℕ → ℕ) (op from at : ℕ) (w w1 : Lis
   pub edge : at < size g → (k at ≡ 1 → ⊥) → Edge op w w1 at
   pub waits : (x : ℕ) → getD w1 (waitingPlace x) (pos 0) ≡ getD w (waitingPlace x) (pos 0)
 
-pub bordering : (g : Grid) (op : ℕ) → 1 ≤ op → (from source at : ℕ) (w w1 : List ℤ) → HasCells w (size g) → Reach g (kindAt w) from source
-    → (at < size g → T (has at (square g source))) → w1 ≡ bordered (size g) w at op → Bordering g (kindAt w) op from at w w1
-bordering g op o from source at w w1 room r t q = rw q (go (ltb at (size g)) refl (eqb (kindAt w at) 1) refl)
+pub bordering : (g : Grid) (op : ℕ) → 1 ≤ op → (from source at : ℕ) (w w1 : List ℤ) → HasCells w (size g) → Reach g (contentAt w) from source
+    → (at < size g → T (has at (square g source))) → w1 ≡ bordered (size g) w at op → Bordering g (contentAt w) op from at w w1
+bordering g op o from source at w w1 room r t q = rw q (go (ltb at (size g)) refl (eqb (contentAt w at) 1) refl)
   where
-    go : (a : Bool) → ltb at (size g) ≡ a → (b : Bool) → eqb (kindAt w at) 1 ≡ b → Bordering g (kindAt w) op from at w (cond (a && not b) (putLabel w at op) w)
+    go : (a : Bool) → ltb at (size g) ≡ a → (b : Bool) → eqb (contentAt w at) 1 ≡ b → Bordering g (contentAt w) op from at w (cond (a && not b) (putLabel w at op) w)
     go true p true e =
-        record { change = refl-change g (kindAt w) op o from w; quiet = λ x h. refl; edge = λ h f. absurd (f (eqb-true (kindAt w at) 1 e)); waits = λ x. refl }
+        record { change = refl-change g (contentAt w) op o from w; quiet = λ x h. refl; edge = λ h f. absurd (f (eqb-true (contentAt w at) 1 e)); waits = λ x. refl }
     go false p b e =
-        record { change = refl-change g (kindAt w) op o from w; quiet = λ x h. refl; edge = λ h f. absurd (let l = ltb-false at (size g) p in omega arith); waits = λ x. refl }
+        record { change = refl-change g (contentAt w) op o from w; quiet = λ x h. refl; edge = λ h f. absurd (let l = ltb-false at (size g) p in omega arith); waits = λ x. refl }
     go true p false e =
         let h = ltb-true at (size g) p in
-        let f = eqb-false (kindAt w at) 1 e in
+        let f = eqb-false (contentAt w at) 1 e in
         record {
-          change = label-change g (kindAt w) op o from source w at h room (λ z. absurd (f z)) r (t h);
-          quiet = λ x z. ap natural (labelled-other w at op (firstPlace x) (λ q. f (subst (λ (y : ℕ). kindAt w y ≡ 1) (same x q) z)) (λ q. omega arith));
+          change = label-change g (contentAt w) op o from source w at h room (λ z. absurd (f z)) r (t h);
+          quiet = λ x z. ap natural (labelled-other w at op (firstPlace x) (λ q. f (subst (λ (y : ℕ). contentAt w y ≡ 1) (same x q) z)) (λ q. omega arith));
           edge = λ _ _. record { one = labelled-first w at op (omega arith); two = labelled-second w at op (omega arith) };
           waits = λ x. labelled-other w at op (waitingPlace x) (λ q. omega arith) (λ q. omega arith);
         }
@@ -69,10 +69,10 @@ few-turns g i y h t = let c = square→ g i y h t .1 in omega (arith, c .north, 
 
 module _ (g : Grid) (op : ℕ) (o : 1 ≤ op) where
   -- nothing to do
-  pub opened-not : (w : List ℤ) (i : ℕ) → (Fresh (size g) w i → ⊥) → Opened g (kindAt w) op i w w
+  pub opened-not : (w : List ℤ) (i : ℕ) → (Fresh (size g) w i → ⊥) → Opened g (contentAt w) op i w w
   opened-not w i f =
       record {
-        change = refl-change g (kindAt w) op o i w;
+        change = refl-change g (contentAt w) op o i w;
         closed = λ x h e a b. absurd (omega arith);
         self = λ h e. elim (ℕ-discrete (firstAt w i) 0) [
           | yes q ↦ absurd (f (record { inside = h; zero-cell = e; unlabelled = q }))
@@ -81,10 +81,10 @@ module _ (g : Grid) (op : ℕ) (o : 1 ≤ op) where
         clear = λ c. c;
       }
 
-  pub visited-none : (w : List ℤ) (i : ℕ) → Visited g (kindAt w) op i 0 w w
+  pub visited-none : (w : List ℤ) (i : ℕ) → Visited g (contentAt w) op i 0 w w
   visited-none w i =
       record {
-        change = refl-change g (kindAt w) op o i w;
+        change = refl-change g (contentAt w) op o i w;
         closed = λ x h e a b. absurd (omega arith);
         passed = λ y t a. absurd (omega arith);
         clear = λ c. c;
@@ -92,17 +92,17 @@ module _ (g : Grid) (op : ℕ) (o : 1 ≤ op) where
 
   -- what one neighbour comes to
   pub record Stepped (i n : ℕ) (w w2 : List ℤ) : Type 0 where
-    pub change : Change g (kindAt w) op i w w2
-    pub closed : Closed g (kindAt w) op w w2
-    pub side : (y : ℕ) → T (has y (square g i)) → turn g i y ≡ n → Side (kindAt w) op w w2 y
+    pub change : Change g (contentAt w) op i w w2
+    pub closed : Closed g (contentAt w) op w w2
+    pub side : (y : ℕ) → T (has y (square g i)) → turn g i y ≡ n → Side (contentAt w) op w w2 y
     pub clear : ClearFrom g 0 w → ClearFrom g 0 w2
 
-  pub stepped : (w w1 w2 : List ℤ) (i n at : ℕ) → i < size g → kindAt w i ≡ 1 → n < 9 → HasCells w (size g) → Neighbour g i (n / 3) (n % 3) at
-      → w1 ≡ bordered (size g) w at op → Opened g (kindAt w1) op at w1 w2 → Stepped i n w w2
+  pub stepped : (w w1 w2 : List ℤ) (i n at : ℕ) → i < size g → contentAt w i ≡ 1 → n < 9 → HasCells w (size g) → Neighbour g i (n / 3) (n % 3) at
+      → w1 ≡ bordered (size g) w at op → Opened g (contentAt w1) op at w1 w2 → Stepped i n w w2
   stepped w w1 w2 i n at h e l room nb q p1 =
-      let k = kindAt w in
+      let k = contentAt w in
       let b = bordering g op o i i at w w1 room (here h e) (beside-of g i n at h l nb) q in
-      let p : Opened g k op at w1 w2 = subst (λ (m : ℕ → ℕ). Opened g m op at w1 w2) (kinds-stay g k op o i w w1 (b .change)) p1 in
+      let p : Opened g k op at w1 w2 = subst (λ (m : ℕ → ℕ). Opened g m op at w1 w2) (contents-stay g k op o i w w1 (b .change)) p1 in
       let c : Change g k op i w1 w2 = change-from g k op o w1 w2 (λ ha ea. next (here h e) (beside-of g i n at h l nb ha) ea) (p .change) in
       record {
         change = trans-change g k op o i w w1 w2 (b .change) c;
@@ -118,10 +118,10 @@ module _ (g : Grid) (op : ℕ) (o : 1 ≤ op) where
       }
 
   -- some neighbours, and then one more
-  pub visited-more : (w w2 w3 : List ℤ) (i n : ℕ) → i < size g → Visited g (kindAt w) op i n w w2 → Stepped i n w2 w3 → Visited g (kindAt w) op i (n + 1) w w3
+  pub visited-more : (w w2 w3 : List ℤ) (i n : ℕ) → i < size g → Visited g (contentAt w) op i n w w2 → Stepped i n w2 w3 → Visited g (contentAt w) op i (n + 1) w w3
   visited-more w w2 w3 i n h v s =
-      let k = kindAt w in
-      let e : kindAt w2 ≡ k = kinds-stay g k op o i w w2 (v .change) in
+      let k = contentAt w in
+      let e : contentAt w2 ≡ k = contents-stay g k op o i w w2 (v .change) in
       let c : Change g k op i w2 w3 = subst (λ (m : ℕ → ℕ). Change g m op i w2 w3) e (s .change) in
       record {
         change = trans-change g k op o i w w2 w3 (v .change) c;
@@ -137,12 +137,12 @@ module _ (g : Grid) (op : ℕ) (o : 1 ≤ op) where
 
   -- the cell itself, and then all its neighbours
   pub opened-all : (w w1 w2 : List ℤ) (i : ℕ) → HasCells w (size g) → Fresh (size g) w i → w1 ≡ putLabel w i op
-      → Visited g (kindAt w1) op i 9 w1 w2 → Opened g (kindAt w) op i w w2
+      → Visited g (contentAt w1) op i 9 w1 w2 → Opened g (contentAt w) op i w w2
   opened-all w w1 w2 i room f q v1 =
-      let k = kindAt w in
+      let k = contentAt w in
       let h = f .inside in
       let m : Change g k op i w w1 = rw q (label-change g k op o i i w i h room (λ _. f .unlabelled) (here h (f .zero-cell)) (in-own-square g i h)) in
-      let v : Visited g k op i 9 w1 w2 = subst (λ (m : ℕ → ℕ). Visited g m op i 9 w1 w2) (kinds-stay g k op o i w w1 m) v1 in
+      let v : Visited g k op i 9 w1 w2 = subst (λ (m : ℕ → ℕ). Visited g m op i 9 w1 w2) (contents-stay g k op o i w w1 m) v1 in
       record {
         change = trans-change g k op o i w w1 w2 m (v .change);
         closed = λ x hx ex u l y t.
@@ -157,10 +157,10 @@ module _ (g : Grid) (op : ℕ) (o : 1 ≤ op) where
       }
 
   -- a border label leaves no more 0-cells without label
-  pub border-free : (w w1 : List ℤ) (i n at : ℕ) → i < size g → kindAt w i ≡ 1 → n < 9 → HasCells w (size g) → Neighbour g i (n / 3) (n % 3) at
+  pub border-free : (w w1 : List ℤ) (i n at : ℕ) → i < size g → contentAt w i ≡ 1 → n < 9 → HasCells w (size g) → Neighbour g i (n / 3) (n % 3) at
       → w1 ≡ bordered (size g) w at op → freeOf (size g) w1 ≤ freeOf (size g) w
   border-free w w1 i n at h e l room nb q =
-      free-le g (kindAt w) op o i w w1 (bordering g op o i i at w w1 room (here h e) (beside-of g i n at h l nb) q .change)
+      free-le g (contentAt w) op o i w w1 (bordering g op o i i at w w1 room (here h e) (beside-of g i n at h l nb) q .change)
 
 -- a call is ready after another that keeps the length
 pub ready-again : {rows columns op : ℕ} (w w1 : List ℤ) → Ready rows columns op w → length w1 ≡ length w → Ready rows columns op w1

@@ -8,7 +8,7 @@ use lib.ListN.{set}
 use lib.Dec.{eqb, ltb}
 use Rattle.game.specs.Grid.{Grid}
 use Rattle.game.specs.Lists.{count, range}
-use Rattle.area.specs.Numbers.{HasCells, firstAt, firstPlace, gridOf, kindAt, secondAt, secondPlace}
+use Rattle.area.specs.Numbers.{HasCells, firstAt, firstPlace, gridOf, contentAt, secondAt, secondPlace}
 use Rattle.area.specs.Stages.{Shape}
 
 -- a grid by its rows and columns alone: its squares are those of every grid of that shape
@@ -17,7 +17,7 @@ shaped rows columns = gridOf rows columns []
 
 -- a 0-cell without label
 abbrev pub freshOf : List ℤ → ℕ → Bool
-freshOf w i = eqb (kindAt w i) 1 && eqb (firstAt w i) 0
+freshOf w i = eqb (contentAt w i) 1 && eqb (firstAt w i) 0
 
 -- a cell of n that is one
 abbrev pub freshCell : ℕ → List ℤ → ℕ → Bool
@@ -25,7 +25,7 @@ freshCell n w i = ltb i n && freshOf w i
 
 -- a cell of n that is no 0-cell
 abbrev pub numberedOf : ℕ → List ℤ → ℕ → Bool
-numberedOf n w i = ltb i n && not (eqb (kindAt w i) 1)
+numberedOf n w i = ltb i n && not (eqb (contentAt w i) 1)
 
 -- how many 0-cells of n have no label
 unfoldable pub freeOf : ℕ → List ℤ → ℕ
@@ -51,7 +51,7 @@ bordered n w i op = cond (numberedOf n w i) (putLabel w i op) w
 -- i is a 0-cell without label, of n cells
 pub record Fresh (n : ℕ) (w : List ℤ) (i : ℕ) : Type 0 where
   pub inside : i < n
-  pub zero-cell : kindAt w i ≡ 1
+  pub zero-cell : contentAt w i ≡ 1
   pub unlabelled : firstAt w i ≡ 0
 
 -- what every function of the spread is called with: the shape, room for the cells, a label that fits

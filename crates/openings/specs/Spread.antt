@@ -1,4 +1,4 @@
--- What labelling from a cell on does to the work area. `k` gives the kinds of the cells, which stay. Assumes nothing.
+-- What labelling from a cell on does to the work area. `k` gives the contents of the cells, which stay. Assumes nothing.
 use Prim.Native.Nat.{ℕ, _+_, _-_, _*_, _<_, _≤_}
 use mathlib.Core.Path.{_≡_}
 use mathlib.Core.Logic.{_⊎_}
@@ -6,12 +6,12 @@ use mathlib.Core.List.{List, []}
 use lib.Dec.{T}
 use lib.IntN.{ℤ, pos}
 use lib.ListN.{getD, length}
-use Rattle.area.specs.Numbers.{HasCells, firstAt, firstPlace, five, kindPlace, secondAt, secondPlace, statePlace, waitingPlace}
+use Rattle.area.specs.Numbers.{HasCells, firstAt, firstPlace, five, contentPlace, secondAt, secondPlace, statePlace, waitingPlace}
 use Rattle.game.specs.Grid.{Grid, columnOf, rowOf, size, square}
 use Rattle.game.specs.Lists.{fold, has, range}
 use Rattle.game.specs.Openings.{gather, openings, places}
 use Rattle.game.specs.Area.{laid}
-use Rattle.area.specs.Stages.{kind, labelledFive, loadedFive}
+use Rattle.area.specs.Stages.{content, labelledFive, loadedFive}
 use Rattle.openings.specs.Labels.{edgeFirst, edgeSecond}
 
 -- a chain of 0-cells from a on, each in the square of the one before
@@ -42,7 +42,7 @@ pub record Change (g : Grid) (k : ℕ → ℕ) (op from : ℕ) (w w′ : List �
   pub long : length w′ ≡ length w
   pub cells : (i : ℕ) → i < size g → Same w w′ i ⊎ Touch g k op from w w′ i
   pub states : (i : ℕ) → i < size g → getD w′ (statePlace i) (pos 0) ≡ getD w (statePlace i) (pos 0)
-  pub kinds : (i : ℕ) → i < size g → getD w′ (kindPlace i) (pos 0) ≡ getD w (kindPlace i) (pos 0)
+  pub contents : (i : ℕ) → i < size g → getD w′ (contentPlace i) (pos 0) ≡ getD w (contentPlace i) (pos 0)
   pub past : (x : ℕ) → firstPlace (size g) ≤ x → getD w′ x (pos 0) ≡ getD w x (pos 0)
 
 -- the cell y, beside a 0-cell with the label op, carries op; a 0-cell carries some label
@@ -96,7 +96,7 @@ Labelling rows columns w r w′ =
 
 -- a cell's five numbers while the openings os are labelled
 unfoldable pub partFive : Grid → List (List ℕ) → ℕ → List ℤ
-partFive g os i = five (getD (places g i 1 os) 0 0) (getD (places g i 1 os) 1 0) 0 0 (kind g i)
+partFive g os i = five (getD (places g i 1 os) 0 0) (getD (places g i 1 os) 1 0) 0 0 (content g i)
 
 -- the openings whose lowest 0-cells are below i
 abbrev pub upto : Grid → ℕ → List (List ℕ)

@@ -1,7 +1,7 @@
 // Up to 512 cells: a cell function and a neighbour function that call each other.
 ghost use Prim.Native.Nat.{_*_, _<_, _≤_};
 ghost use mathlib.Core.Path.{_≡_};
-ghost use Rattle.area.specs.Numbers.{kindAt};
+ghost use Rattle.area.specs.Numbers.{contentAt};
 ghost use Rattle.openings.specs.Labels.{Ready, shaped};
 ghost use Rattle.openings.specs.Spread.{Opened, Visited};
 use super::labels::border;
@@ -12,7 +12,7 @@ use super::labels::put_label;
 pub fn label_cell(work: &mut [i32], rows: usize, columns: usize, op: usize, index: usize)
     requires { ⌜ Ready rows columns op (now work) ⌝ }
     requires { ⌜ rows * columns ≤ 512 ⌝ }
-    ensures { λ _. ⌜ Opened (shaped rows columns) (kindAt (now (work .entry))) op index
+    ensures { λ _. ⌜ Opened (shaped rows columns) (contentAt (now (work .entry))) op index
         (now (work .entry)) (now (work .exit)) ⌝ }
 {
     if !fresh(work, rows * columns, index) {
@@ -26,9 +26,9 @@ pub fn label_cell(work: &mut [i32], rows: usize, columns: usize, op: usize, inde
 pub fn visit(work: &mut [i32], rows: usize, columns: usize, op: usize, index: usize)
     requires { ⌜ Ready rows columns op (now work) ⌝ }
     requires { ⌜ index < rows * columns ⌝ }
-    requires { ⌜ kindAt (now work) index ≡ 1 ⌝ }
+    requires { ⌜ contentAt (now work) index ≡ 1 ⌝ }
     requires { ⌜ rows * columns ≤ 512 ⌝ }
-    ensures { λ _. ⌜ Visited (shaped rows columns) (kindAt (now (work .entry))) op index 9
+    ensures { λ _. ⌜ Visited (shaped rows columns) (contentAt (now (work .entry))) op index 9
         (now (work .entry)) (now (work .exit)) ⌝ }
 {
     for k in 0..9 {

@@ -1,4 +1,4 @@
-// One cell: its kind and labels in the work area, one more label.
+// One cell: its content and labels in the work area, one more label.
 ghost use mathlib.Core.Path.{_≡_};
 ghost use Prim.Native.Nat.{_<_};
 ghost use Rattle.area.specs.Numbers.{HasCell, HasCells};
@@ -12,8 +12,8 @@ pub fn fresh(work: &[i32], cells: usize, index: usize) -> bool
     if index >= cells {
         return false;
     }
-    let kind = area::kind(work, index);
-    if kind != 1 {
+    let content = area::content(work, index);
+    if content != 1 {
         return false;
     }
     area::first_label(work, index) == 0
@@ -27,7 +27,7 @@ pub fn numbered(work: &[i32], cells: usize, index: usize) -> bool
     if index >= cells {
         return false;
     }
-    area::kind(work, index) != 1
+    area::content(work, index) != 1
 }
 
 // The first label after op is put.

@@ -4,7 +4,7 @@ ghost use lib.ListN.{length};
 ghost use lib.IntN.{ℤ};
 ghost use mathlib.Core.Path.{_≡_};
 ghost use mathlib.Core.List.{List};
-ghost use Rattle.area.specs.Numbers.{HasCells, kindAt};
+ghost use Rattle.area.specs.Numbers.{HasCells, contentAt};
 ghost use Rattle.area.specs.Stages.{Shape};
 ghost use Rattle.openings.specs.Labels.{Ready, shaped};
 ghost use Rattle.openings.specs.Spread.{Begun, Labelling, Numbered, Opened};
@@ -19,7 +19,7 @@ mod waiting;
 // Labels the opening of a 0-cell without label, by the form for so many cells.
 fn label_opening(work: &mut [i32], rows: usize, columns: usize, op: usize, index: usize)
     requires { ⌜ Ready rows columns op (now work) ⌝ }
-    ensures { λ _. ⌜ Opened (shaped rows columns) (kindAt (now (work .entry))) op index
+    ensures { λ _. ⌜ Opened (shaped rows columns) (contentAt (now (work .entry))) op index
         (now (work .entry)) (now (work .exit)) ⌝ }
 {
     if rows * columns > 512 {
@@ -33,7 +33,7 @@ fn label_opening(work: &mut [i32], rows: usize, columns: usize, op: usize, index
 fn begin(work: &mut [i32], rows: usize, columns: usize, count: usize, index: usize) -> usize
     requires { ⌜ Ready rows columns (count + 1) (now work) ⌝ }
     requires { ⌜ index < rows * columns ⌝ }
-    ensures { λ r. ⌜ Begun (shaped rows columns) (kindAt (now (work .entry))) count index
+    ensures { λ r. ⌜ Begun (shaped rows columns) (contentAt (now (work .entry))) count index
         (now (work .entry)) r (now (work .exit)) ⌝ }
 {
     if !fresh(work, rows * columns, index) {

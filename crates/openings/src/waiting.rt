@@ -1,6 +1,6 @@
 // Above 512 cells: cells wait in the work area until their squares are visited. No function calls itself.
 ghost use Prim.Native.Nat.{_+_, _*_, _<_, _≤_, _%_};
-ghost use Rattle.area.specs.Numbers.{HasCells, kindAt};
+ghost use Rattle.area.specs.Numbers.{HasCells, contentAt};
 ghost use Rattle.openings.specs.Labels.{Ready, freeOf, shaped};
 ghost use Rattle.openings.specs.Spread.{Opened};
 ghost use Rattle.openings.specs.Waits.{InRow, InSquare, Pushed, Visitable, Waited};
@@ -35,9 +35,9 @@ pub fn visit_row(
     top: usize,
 ) -> usize
     requires { ⌜ Ready rows columns op (now work) ⌝ }
-    requires { ⌜ Visitable (rows * columns) (kindAt (now work)) index top (now work) ⌝ }
+    requires { ⌜ Visitable (rows * columns) (contentAt (now work)) index top (now work) ⌝ }
     requires { ⌜ (row < rows) × (row ≤ index % rows + 1) × (index % rows ≤ row + 1) ⌝ }
-    ensures { λ r. ⌜ Pushed (shaped rows columns) (kindAt (now (work .entry))) op index
+    ensures { λ r. ⌜ Pushed (shaped rows columns) (contentAt (now (work .entry))) op index
         (InRow (shaped rows columns) index row) (now (work .entry)) top (now (work .exit)) r ⌝ }
 {
     let mut column = area::lower(index / rows);
@@ -62,8 +62,8 @@ pub fn visit_square(
     top: usize,
 ) -> usize
     requires { ⌜ Ready rows columns op (now work) ⌝ }
-    requires { ⌜ Visitable (rows * columns) (kindAt (now work)) index top (now work) ⌝ }
-    ensures { λ r. ⌜ Pushed (shaped rows columns) (kindAt (now (work .entry))) op index
+    requires { ⌜ Visitable (rows * columns) (contentAt (now work)) index top (now work) ⌝ }
+    ensures { λ r. ⌜ Pushed (shaped rows columns) (contentAt (now (work .entry))) op index
         (InSquare (shaped rows columns) index) (now (work .entry)) top (now (work .exit)) r ⌝ }
 {
     let mut row = area::lower(index % rows);
@@ -80,7 +80,7 @@ pub fn visit_square(
 pub fn spread(work: &mut [i32], rows: usize, columns: usize, op: usize, index: usize)
     requires { ⌜ Ready rows columns op (now work) ⌝ }
     requires { ⌜ 512 < rows * columns ⌝ }
-    ensures { λ _. ⌜ Opened (shaped rows columns) (kindAt (now (work .entry))) op index
+    ensures { λ _. ⌜ Opened (shaped rows columns) (contentAt (now (work .entry))) op index
         (now (work .entry)) (now (work .exit)) ⌝ }
 {
     let mut top = wait(work, rows * columns, op, index, 0);

@@ -190,7 +190,7 @@ module _ (human : Bool) (g : Grid) (s : Position) (n : ℕ) (st : State) (w : St
   -- ---- apply_zini_rng
 
   -- what a step by a draw comes to: dry without bytes, or the step at the drawn place
-  pub record Rolled-to (c : Choice) (d : Drawn) (a : Applied) : Type 0 where
+  pub record RngRound-to (c : Choice) (d : Drawn) (a : Applied) : Type 0 where
     pub done : Stepped
     pub is-stepped : a ≡ stepped done
     pub stands : Stands g (afterStep g s (stepOf g s c (d .place))) (n + length (stepOf g s c (d .place) .moves)) (done .state)
@@ -199,7 +199,7 @@ module _ (human : Bool) (g : Grid) (s : Position) (n : ℕ) (st : State) (w : St
 
   abbrev pub Rolls : Choice → Option Drawn → Applied → Type 0
   Rolls c none a = a ≡ dry
-  Rolls c (some d) a = Rolled-to c d a
+  Rolls c (some d) a = RngRound-to c d a
 
   -- a draw among the front of a run
   taken : (ℕ → State) → List ℕ → Option Drawn → Applied

@@ -17,7 +17,7 @@ use Rattle.game.specs.Rounds.{Choice, Round, Searched, Step, afterStep, before,
 use Rattle.original.specs.Entries.{cal-rzini, prepared, rzini-loop}
 use Rattle.original.specs.Equal.{answered}
 use Rattle.original.specs.Play.{State}
-use Rattle.original.specs.Rounds.{Applied, Rolled, Stepped, apply-zini-rng, begin, dry, nothing, rng-loop, stepped, usize-max, zinialg-rng}
+use Rattle.original.specs.Rounds.{Applied, RngRound, Stepped, apply-zini-rng, begin, dry, nothing, rng-loop, stepped, usize-max, zinialg-rng}
 use Rattle.game.proofs.Tidy.{untouched-tidy}
 use Rattle.game.proofs.Draws.{lent-places}
 use Rattle.game.proofs.Randoms.{by-draw, drawn-fits, draws-none, random-sound}
@@ -29,7 +29,7 @@ use Rattle.original.proofs.Lowest.{begin-stands, enough-turns, mines-co
 use Rattle.original.proofs.Positions.{Stands}
 
 -- what zinialg_rng answers for a round that goes on after n clicks
-abbrev told : ℕ → Option Round → Option Rolled
+abbrev told : ℕ → Option Round → Option RngRound
 told n none = none
 told n (some r) = some (record { clicks = n + length (movesOf (r .steps)); next = r .next })
 
@@ -43,7 +43,7 @@ told-before n t (some r) =
 
 module _ (g : Grid) (bytes : List ℕ) (few : size g ≤ 65025) (small : Each (λ b. b < 256) bytes) where
   -- zinialg_rng's loop
-  abbrev loop : ℕ → State → ℕ → List ℕ → Option Rolled
+  abbrev loop : ℕ → State → ℕ → List ℕ → Option RngRound
   loop fuel st next maxpr = rng-loop fuel (g .rows) false (count (mine g) (cells g)) bytes st next maxpr
 
   -- ---- a round
@@ -53,7 +53,7 @@ module _ (g : Grid) (bytes : List ℕ) (few : size g ≤ 65025) (small : Each (�
   loop-stops zero s n st next maxpr w e = ap (λ (k : ℕ). some (record { clicks = k; next = next })) (w .clicks)
   loop-stops (suc fuel) s n st next maxpr w e = ap by (cells-left g s n st w 0 e) ∙ ap (λ (k : ℕ). some (record { clicks = k; next = next })) (w .clicks)
     where
-      by : Bool → Option Rolled
+      by : Bool → Option RngRound
       by b =
           elim b [
             | true ↦ elim (apply-zini-rng (g .rows) false bytes st next maxpr) [
@@ -80,7 +80,7 @@ module _ (g : Grid) (bytes : List ℕ) (few : size g ≤ 65025) (small : Each (�
       c : Choice
       c = choice false g s
 
-      by : Bool → Applied → Option Rolled
+      by : Bool → Applied → Option RngRound
       by b a =
           elim b [
             | true ↦ elim a [
@@ -133,14 +133,14 @@ module _ (g : Grid) (bytes : List ℕ) (few : size g ≤ 65025) (small : Each (�
       go false e = omega (arith, nltb→le a b (rw e tt))
 
   -- what the loop goes on with after a round
-  abbrev min-so-far : Rolled → Rolled → Rolled
+  abbrev min-so-far : RngRound → RngRound → RngRound
   min-so-far m z = record { clicks = cond (ltb (z .clicks) (m .clicks)) (z .clicks) (m .clicks); next = z .next }
 
   turns-equal : (k : ℕ) (r : Searched) → rzini-loop k g bytes (record { clicks = r .least; next = r .next }) ≡ answered (searchFrom k g (lent bytes) r)
   turns-equal zero r = refl
   turns-equal (suc k) r = ap by (round-equal (r .next)) ∙ go (randomRound g (lent bytes) (r .next)) (turns-equal k)
     where
-      by : Option Rolled → Option Rolled
+      by : Option RngRound → Option RngRound
       by o = elim o [ none ↦ none | some z ↦ rzini-loop k g bytes (min-so-far (record { clicks = r .least; next = r .next }) z) ]
 
       go : (o : Option Round) → ((q : Searched) → rzini-loop k g bytes (record { clicks = q .least; next = q .next }) ≡ answered (searchFrom k g (lent bytes) q))
@@ -166,7 +166,7 @@ module _ (g : Grid) (bytes : List ℕ) (few : size g ≤ 65025) (small : Each (�
   random-equal zero h = absurd (omega arith)
   random-equal (suc k) h = ap by (round-equal 0) ∙ go (randomRound g (lent bytes) 0) refl
     where
-      by : Option Rolled → Option Rolled
+      by : Option RngRound → Option RngRound
       by o = elim o [ none ↦ none | some z ↦ rzini-loop k g bytes (min-so-far (record { clicks = usize-max; next = 0 }) z) ]
 
       go : (o : Option Round) → randomRound g (lent bytes) 0 ≡ o → by (told 0 o) ≡ answered (elim o [

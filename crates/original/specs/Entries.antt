@@ -6,7 +6,7 @@ use mathlib.Core.Option.{Option, none, some}
 use lib.Dec.{ltb}
 use Rattle.game.specs.Grid.{Grid}
 use Rattle.original.specs.Cells.{Cells, build-cells-ref, initboard}
-use Rattle.original.specs.Rounds.{Rolled, zinialg, zinialg-rng, usize-max}
+use Rattle.original.specs.Rounds.{RngRound, zinialg, zinialg-rng, usize-max}
 
 -- build_cells_ref and initboard
 abbrev pub prepared : Grid → Cells
@@ -21,7 +21,7 @@ unfoldable pub cal-hzini : Grid → ℕ
 cal-hzini g = zinialg (prepared g) (g .columns) (g .rows) true true
 
 -- the loop of cal_rzini: min_zini so far, and where the next draw reads on; none where the bytes run out
-abbrev pub rzini-loop : ℕ → Grid → List ℕ → Rolled → Option Rolled
+abbrev pub rzini-loop : ℕ → Grid → List ℕ → RngRound → Option RngRound
 rzini-loop zero g bytes m = some m
 rzini-loop (suc n) g bytes m =
     elim (zinialg-rng (prepared g) (g .columns) (g .rows) false false bytes (m .next)) [
@@ -30,5 +30,5 @@ rzini-loop (suc n) g bytes m =
     ]
 
 -- cal_rzini: clicks and bytes consumed
-unfoldable pub cal-rzini : Grid → List ℕ → ℕ → Option Rolled
+unfoldable pub cal-rzini : Grid → List ℕ → ℕ → Option RngRound
 cal-rzini g bytes n-iter = rzini-loop n-iter g bytes (record { clicks = usize-max; next = 0 })

@@ -10,11 +10,11 @@ use Rattle.game.specs.Draws.{lent}
 use Rattle.game.specs.Grid.{Grid}
 use Rattle.game.specs.Calls.{Answer, Refusal, draws, firstGiven, gives, greedyCall, gridChecks, listCheck, openingsFirstCall, randomSearchCall, refuses, roundsCheck}
 use Rattle.game.specs.Rounds.{movesOf, greedySteps, openingsFirstSteps, Searched, randomSearch}
-use Rattle.original.specs.Rounds.{Rolled}
+use Rattle.original.specs.Rounds.{RngRound}
 use Rattle.original.specs.Entries.{cal-zini, cal-hzini, cal-rzini}
 
 -- what cal_rzini answers for a search: the least clicks and the bytes consumed, none where the draws run out
-abbrev pub answered : Option Searched → Option Rolled
+abbrev pub answered : Option Searched → Option RngRound
 answered none = none
 answered (some r) = some (record { clicks = r .least; next = r .next })
 
@@ -38,7 +38,7 @@ answerUnless (some f) a = refuses f
 answerUnless none a = a
 
 -- what a search answers for what cal_rzini gives: clicks and bytes used; DRAWS where the Rust runs dry
-abbrev pub searchAnswer : Option Rolled → Answer
+abbrev pub searchAnswer : Option RngRound → Answer
 searchAnswer none = refuses draws
 searchAnswer (some r) = gives (r .clicks ∷ r .next ∷ [])
 

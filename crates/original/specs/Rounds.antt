@@ -158,12 +158,12 @@ zinialg cells width height human hitops =
 -- ---- zinialg_rng
 
 -- a round's clicks, and where the next draw reads on
-pub record Rolled : Type 0 where
+pub record RngRound : Type 0 where
   pub clicks : ℕ
   pub next : ℕ
 
 -- the loop of zinialg_rng; none where the bytes run out
-abbrev pub rng-loop : ℕ → ℕ → Bool → ℕ → List ℕ → State → ℕ → List ℕ → Option Rolled
+abbrev pub rng-loop : ℕ → ℕ → Bool → ℕ → List ℕ → State → ℕ → List ℕ → Option RngRound
 rng-loop zero height human mines bytes s next maxpr = some (record { clicks = s .zini; next = next })
 rng-loop (suc fuel) height human mines bytes s next maxpr =
     elim (ltb mines (s .closed-cells)) [
@@ -176,7 +176,7 @@ rng-loop (suc fuel) height human mines bytes s next maxpr =
     ]
 
 -- zinialg_rng
-unfoldable pub zinialg-rng : Cells → ℕ → ℕ → Bool → Bool → List ℕ → ℕ → Option Rolled
+unfoldable pub zinialg-rng : Cells → ℕ → ℕ → Bool → Bool → List ℕ → ℕ → Option RngRound
 zinialg-rng cells width height human hitops bytes next =
     let s = begin cells width height in
     let hit : State = elim hitops [ true ↦ hitopenings height s | false ↦ s ] in

@@ -9,7 +9,7 @@ use lib.Dec.{T, T-not, not-T, eqb, eqb→eq}
 use lib.IntN.{ℤ}
 use lib.ListN.{getD, length, set}
 use lib.Seq.{getD-set-other, getD-set-same}
-use Rattle.area.proofs.Held.{held-cells, heldCell, kind-mine, raised-small}
+use Rattle.area.proofs.Held.{held-cells, heldCell, content-mine, raised-small}
 use Rattle.area.proofs.CellByCell.{Cell, at, at-again, at-here, at-other, cellArea, fold-acts, made, priced, put-state, read-first, same-area, shift-acts, shiftCell, stated}
 use Rattle.area.specs.Squares.{shifted, squareOf}
 use Rattle.game.specs.Grid.{Grid, cells, mine, safe, size, square, zeroCell}
@@ -120,7 +120,7 @@ module _ (g : Grid) (s : Position) (old : List ℤ) (i : ℕ) (room : HasCells o
 
     own-label : at (heldCell g s) i open-cell i .first ≡ firstLabel g i
     unfolding open-cell
-    own-label = ap (λ (c : Cell). c .first) (at-here (heldCell g s) i open-cell i refl) ∙ go (eqb (stated 1 (heldCell g s i) .kind) 0)
+    own-label = ap (λ (c : Cell). c .first) (at-here (heldCell g s) i open-cell i refl) ∙ go (eqb (stated 1 (heldCell g s i) .content) 0)
       where
         go : (b : Bool) → cond b (stated 1 (heldCell g s i)) (priced (raised g s i + 1 - 0) (stated 1 (heldCell g s i))) .first ≡ firstLabel g i
         go true = refl
@@ -251,7 +251,7 @@ module _ (g : Grid) (s : Position) (old : List ℤ) (i : ℕ) (room : HasCells o
             let u : T (safe g x) = not-T (mine g x) (λ m. mine-off g i x z h m (rw e tt)) in
             let open-before : getD s x 0 ≡ 1 = eqb→eq (getD s x 0) 1 (rw (f .safes x h u, d) tt) in
             ap (λ (p : ℕ). priced p (heldCell g s x)) down
-            ∙ sym (ap (λ (b : Bool). cond b (heldCell g s x) (priced (raised g s x + 0 - 1) (heldCell g s x))) (kind-mine g x ∙ T→false (mine g x) u))
+            ∙ sym (ap (λ (b : Bool). cond b (heldCell g s x) (priced (raised g s x + 0 - 1) (heldCell g s x))) (content-mine g x ∙ T→false (mine g x) u))
             ∙ by 1 0 (ap bit e) (rw (e, d)) (omega arith) (omega arith) (getD s x 0) (after-state x h ∙ ap (λ (b : Bool). cond b 1 (getD s x 0)) e ∙ sym open-before)
         go false e c d =
             sym (even-cell 0 x (getD s x 0) (omega arith) h)

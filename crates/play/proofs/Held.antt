@@ -11,46 +11,46 @@ use Rattle.game.specs.Openings.{firstLabel, secondLabel}
 use Rattle.game.specs.Position.{Position, cost, gain}
 use Rattle.game.proofs.Ranges.{cost-range, gain-range}
 use Rattle.area.proofs.Held.{heldCell}
-use Rattle.area.specs.Stages.{kind, raised}
+use Rattle.area.specs.Stages.{content, raised}
 use borrow.Author.Tests.{ne-eqb}
 
 -- a cell with another state
 abbrev pub restated : ℕ → Cell → Cell
-restated k c = record { first = c .first; second = c .second; premium = c .premium; state = k; kind = c .kind }
+restated k c = record { first = c .first; second = c .second; premium = c .premium; state = k; content = c .content }
 
 -- as much up as down
 pub level : (k : ℕ) (c : Cell) → c .premium + k < 2147483648 → shiftCell k k c ≡ c
-level k c h = go (eqb (c .kind) 0)
+level k c h = go (eqb (c .content) 0)
   where
     same : (c .premium + k - k) % 2147483648 ≡ c .premium
     same = omega arith
 
     go : (b : Bool) → cond b c (priced (c .premium + k - k) c) ≡ c
     go true = refl
-    go false = ap (λ (p : ℕ). record { first = c .first; second = c .second; premium = p; state = c .state; kind = c .kind }) same
+    go false = ap (λ (p : ℕ). record { first = c .first; second = c .second; premium = p; state = c .state; content = c .content }) same
 
 -- down once it went up
 pub up-down : (c : Cell) → c .premium + 1 < 2147483648 → shiftCell 0 1 (shiftCell 1 0 c) ≡ c
-up-down c h = go (eqb (c .kind) 0) refl
+up-down c h = go (eqb (c .content) 0) refl
   where
     same : ((c .premium + 1 - 0) % 2147483648 + 0 - 1) % 2147483648 ≡ c .premium
     same = omega arith
 
-    go : (b : Bool) → eqb (c .kind) 0 ≡ b → shiftCell 0 1 (cond b c (priced (c .premium + 1 - 0) c)) ≡ c
+    go : (b : Bool) → eqb (c .content) 0 ≡ b → shiftCell 0 1 (cond b c (priced (c .premium + 1 - 0) c)) ≡ c
     go true e = ap (λ (b : Bool). cond b c (priced (c .premium + 0 - 1) c)) e
     go false e =
         ap (λ (b : Bool). cond b (priced (c .premium + 1 - 0) c) (priced ((c .premium + 1 - 0) % 2147483648 + 0 - 1) c)) e
-        ∙ ap (λ (p : ℕ). record { first = c .first; second = c .second; premium = p; state = c .state; kind = c .kind }) same
+        ∙ ap (λ (p : ℕ). record { first = c .first; second = c .second; premium = p; state = c .state; content = c .content }) same
 
 -- a cell's gain falls by p, its cost by q: its premium goes q up and p down
 pub moved : (g : Grid) (s t : Position) (x p q : ℕ) → x < size g → p ≤ 1 → q ≤ 1
     → (T (safe g x) → gain g s x ≡ gain g t x + p) → (T (safe g x) → cost g s x ≡ cost g t x + q)
     → shiftCell q p (restated (getD t x 0) (heldCell g s x)) ≡ heldCell g t x
-unfolding raised kind
+unfolding raised content
 moved g s t x p q h pb qb e f = go (mine g x) refl
   where
     cell : ℕ → ℕ → Cell
-    cell k m = record { first = firstLabel g x; second = secondLabel g x; premium = m; state = getD t x 0; kind = k }
+    cell k m = record { first = firstLabel g x; second = secondLabel g x; premium = m; state = getD t x 0; content = k }
 
     go : (b : Bool) → mine g x ≡ b
         → cond (eqb (cond b 0 (1 + number g x)) 0)

@@ -6,7 +6,7 @@ use mathlib.Core.List.{List}
 use lib.Dec.{T, T-not, eqb, eqb→eq, not-T}
 use lib.IntN.{ℤ}
 use lib.ListN.{getD, length-set}
-use Rattle.area.proofs.Held.{Holds, held-numbers, kind-mine, kind-zero}
+use Rattle.area.proofs.Held.{Holds, held-numbers, content-mine, content-zero}
 use Rattle.area.specs.Squares.{shifted, squareOf}
 use Rattle.game.specs.Grid.{Grid, mine, safe, size, zeroCell}
 use Rattle.game.specs.Lists.{fold}
@@ -15,8 +15,8 @@ use Rattle.game.specs.Openings.{firstLabel}
 use Rattle.game.specs.Position.{Position, Tidy, closed, closedSafe}
 use Rattle.game.proofs.Tidy.{reveal-tidy}
 use Rattle.game.proofs.Reveal.{reveal-length, reveal-none, reveal-one}
-use Rattle.area.specs.Numbers.{firstAt, kindAt, putState, stateAt}
-use Rattle.area.specs.Stages.{Stands, held, kind}
+use Rattle.area.specs.Numbers.{firstAt, contentAt, putState, stateAt}
+use Rattle.area.specs.Stages.{Stands, held, content}
 use Rattle.play.specs.Promises.{Revealing}
 use Rattle.play.specs.declared.Opened.{Opened}
 use Rattle.play.specs.Walks.{SweptOver, openedOne}
@@ -35,8 +35,8 @@ module _ (rows columns : ℕ) (g : Grid) (s : Position) (old w : List ℤ) (i : 
   holds : Holds g s w
   holds = held-numbers rows columns g s old w st
 
-  pub kind-read : (k : ℕ) → k ≡ kindAt w i → k ≡ kind g i
-  kind-read k e = e ∙ holds .kinds i inside
+  pub content-read : (k : ℕ) → k ≡ contentAt w i → k ≡ content g i
+  content-read k e = e ∙ holds .contents i inside
 
   pub state-read : (k : ℕ) → k ≡ stateAt w i → k ≡ getD s i 0
   state-read k e = e ∙ holds .states i inside
@@ -44,15 +44,15 @@ module _ (rows columns : ℕ) (g : Grid) (s : Position) (old w : List ℤ) (i : 
   pub label-read : (k : ℕ) → k ≡ firstAt w i → k ≡ firstLabel g i
   label-read k e = e ∙ holds .firsts i inside
 
-  -- the kind tells mines and 0-cells
-  pub is-mine : (k : ℕ) → k ≡ kindAt w i → k ≡ 0 → T (mine g i)
-  is-mine k e z = subst T (sym (eq-eqb (kind g i) 0 (sym (kind-read k e) ∙ z)) ∙ kind-mine g i) tt
+  -- the content tells mines and 0-cells
+  pub is-mine : (k : ℕ) → k ≡ contentAt w i → k ≡ 0 → T (mine g i)
+  is-mine k e z = subst T (sym (eq-eqb (content g i) 0 (sym (content-read k e) ∙ z)) ∙ content-mine g i) tt
 
-  pub is-safe : (k : ℕ) → k ≡ kindAt w i → (k ≡ 0 → ⊥) → T (safe g i)
-  is-safe k e n = not-T (mine g i) (λ t. n (kind-read k e ∙ eqb→eq (kind g i) 0 (subst T (sym (kind-mine g i)) t)))
+  pub is-safe : (k : ℕ) → k ≡ contentAt w i → (k ≡ 0 → ⊥) → T (safe g i)
+  is-safe k e n = not-T (mine g i) (λ t. n (content-read k e ∙ eqb→eq (content g i) 0 (subst T (sym (content-mine g i)) t)))
 
-  pub is-zero : (k : ℕ) → k ≡ kindAt w i → eqb k 1 ≡ zeroCell g i
-  is-zero k e = ap (λ (m : ℕ). eqb m 1) (kind-read k e) ∙ kind-zero g i inside
+  pub is-zero : (k : ℕ) → k ≡ contentAt w i → eqb k 1 ≡ zeroCell g i
+  is-zero k e = ap (λ (m : ℕ). eqb m 1) (content-read k e) ∙ content-zero g i inside
 
   pub is-closed : (k : ℕ) → k ≡ stateAt w i → k ≡ 0 → T (closed s i)
   is-closed k e z = subst T (sym (eq-eqb (getD s i 0) 0 (sym (state-read k e) ∙ z))) tt
@@ -99,15 +99,15 @@ module _ (rows columns : ℕ) (g : Grid) (s : Position) (old w : List ℤ) (i : 
         let a = sweep-area g s old i (st .room) inside (st .long) f z u v r (rw (← own, ← st .holds-it, size-is) (q z own)) in
         after (record { cells = r }) v (a .0) (a .1)
 
-    -- ---- by what is read: the kind k, the state m
+    -- ---- by what is read: the content k, the state m
 
-    pub by-mine : (k : ℕ) → k ≡ kindAt w i → k ≡ 0 → Revealing rows columns g s old i (record { cells = 0 }) w
+    pub by-mine : (k : ℕ) → k ≡ contentAt w i → k ≡ 0 → Revealing rows columns g s old i (record { cells = 0 }) w
     by-mine k e z = nothing-done (λ t u. T-not (mine g i) t (is-mine k e z))
 
     pub by-state : (m : ℕ) → m ≡ stateAt w i → (m ≡ 0 → ⊥) → Revealing rows columns g s old i (record { cells = 0 }) w
     by-state m e n = nothing-done (λ t u. not-closed m e n u)
 
-    module _ (k m : ℕ) (ek : k ≡ kindAt w i) (nk : k ≡ 0 → ⊥) (em : m ≡ stateAt w i) (zm : m ≡ 0) where
+    module _ (k m : ℕ) (ek : k ≡ contentAt w i) (nk : k ≡ 0 → ⊥) (em : m ≡ stateAt w i) (zm : m ≡ 0) where
       pub by-zero : (l r : ℕ) (v : List ℤ) → k ≡ 1 → l ≡ firstAt w i
           → (T (zeroCell g i) → l ≡ firstLabel g i → SweptOver l 0 (rows * columns) w r v)
           → Revealing rows columns g s old i (record { cells = r }) v

@@ -7,7 +7,7 @@ use lib.Dec.{eqb}
 use lib.IntN.{ℤ}
 use Rattle.area.specs.Squares.{shifted, squareOf}
 use Rattle.game.specs.Lists.{bit, fold}
-use Rattle.area.specs.Numbers.{firstAt, kindAt, premiumAt, putPremium, putState, secondAt, stateAt}
+use Rattle.area.specs.Numbers.{firstAt, contentAt, premiumAt, putPremium, putState, secondAt, stateAt}
 use Rattle.play.specs.Walks.{CellSwept, unflaggedAt, labelledAt, openedOne, opensAt, sweptCell}
 use borrow.Author.Tests.{eq-eqb, ne-eqb}
 
@@ -55,7 +55,7 @@ module _ (rows columns : ℕ) (w u v : List ℤ) (i k : ℕ) (p : u ≡ putState
 
 -- ---- a mine without flag
 
-module _ (w : List ℤ) (i k : ℕ) (e : k ≡ kindAt w i) where
+module _ (w : List ℤ) (i k : ℕ) (e : k ≡ contentAt w i) where
   pub unflagged-safe : (k ≡ 0 → ⊥) → 0 ≡ bit (unflaggedAt w i)
   unfolding unflaggedAt
   unflagged-safe n = rw (← e, ne-eqb k 0 n)

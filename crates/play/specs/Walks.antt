@@ -7,7 +7,7 @@ use lib.Dec.{eqb}
 use lib.IntN.{ℤ}
 use Rattle.area.specs.Squares.{shifted, squareOf}
 use Rattle.game.specs.Lists.{bit, count, fold, range}
-use Rattle.area.specs.Numbers.{firstAt, kindAt, premiumAt, putPremium, putState, secondAt, stateAt}
+use Rattle.area.specs.Numbers.{firstAt, contentAt, premiumAt, putPremium, putState, secondAt, stateAt}
 
 -- a cell of number 1 or more is opened; if it has no label, each safe cell of its square has one unit less
 unfoldable pub openedOne : ℕ → ℕ → List ℤ → ℕ → List ℤ
@@ -76,4 +76,4 @@ pub record RightSwept (rows columns label column : ℕ) (w : List ℤ) (opened :
 
 -- a mine without flag
 unfoldable pub unflaggedAt : List ℤ → ℕ → Bool
-unflaggedAt w i = eqb (kindAt w i) 0 && not (eqb (stateAt w i) 2)
+unflaggedAt w i = eqb (contentAt w i) 0 && not (eqb (stateAt w i) 2)

@@ -162,15 +162,15 @@ fn uncover(work: &mut [i32], rows: usize, columns: usize, index: usize) -> Opene
     ensures { λ r. ⌜ (r .cells ≤ 65025) × ((g : Grid) (s : Position) (old : List ℤ) → Stands rows columns g s old (now (work .entry)) → Tidy g s
         → Revealing rows columns g s old index r (now (work .exit))) ⌝ }
 {
-    let kind = area::kind(work, index);
-    if kind == 0 {
+    let content = area::content(work, index);
+    if content == 0 {
         return Opened { cells: 0 };
     }
     let state = area::state(work, index);
     if state != 0 {
         return Opened { cells: 0 };
     }
-    if kind == 1 {
+    if content == 1 {
         let label = area::first_label(work, index);
         let cells = sweep_opening(work, rows, columns, index, label);
         return Opened { cells };

@@ -1,10 +1,10 @@
--- Before any move: the raised premium in two parts, one by labels and kind, one by the unlabelled cells near. Assumes nothing.
+-- Before any move: the raised premium in two parts, one by labels and content, one by the unlabelled cells near. Assumes nothing.
 use Prim.Native.Nat.{ℕ, _+_, _-_, _<_}
 use native.Mathlib.Omega.{arith}
 use mathlib.Core.Path.{_∙_, _≡_, ap, refl, sym}
 use mathlib.Core.Bool.{Bool, _&&_, cond, false, not, true}
 use lib.Dec.{eqb}
-use Rattle.area.specs.Stages.{kind, raised}
+use Rattle.area.specs.Stages.{content, raised}
 use Rattle.game.specs.Grid.{Grid, cells, mine, number, safe, size, square}
 use Rattle.game.specs.Lists.{bit, count, has}
 use Rattle.game.specs.Openings.{firstLabel, secondLabel, unlabelled}
@@ -19,9 +19,9 @@ use borrow.Author.Tests.{ne-eqb}
 
 -- ---- the raised premium before any move, in two parts
 
--- by labels and kind alone
+-- by labels and content alone
 unfoldable pub alone : Grid → ℕ → ℕ
-alone g i = alonePremium (bit (not (eqb (firstLabel g i) 0)) + bit (not (eqb (secondLabel g i) 0))) (kind g i)
+alone g i = alonePremium (bit (not (eqb (firstLabel g i) 0)) + bit (not (eqb (secondLabel g i) 0))) (content g i)
 
 -- 1 more for an unlabelled cell whose square has the cell, unless that is a mine
 abbrev pub raises : Grid → ℕ → ℕ → Bool
@@ -48,7 +48,7 @@ mine-stays g i e =
     count-none (raises g i) (cells g) (λ j t u. rw e at (and-right (has i (square g j)) (safe g i) (and-right (unlabelled g j) (has i (square g j) && safe g i) u)))
 
 pub raised-parts : (g : Grid) (i : ℕ) → i < size g → alone g i + count (raises g i) (cells g) ≡ raised g (untouched g) i
-unfolding alone raised kind
+unfolding alone raised content
 raised-parts g i h = go (mine g i) refl
   where
     go : (b : Bool) → mine g i ≡ b

@@ -8,9 +8,9 @@ use mathlib.Core.List.{List, [], _∷_}
 use lib.Dec.{T, eqb}
 use lib.IntN.{ℤ}
 use lib.ListN.{getD-replicate, length}
-use Rattle.area.specs.Numbers.{HasCells, firstAt, kindAt, natural, numberAt, premiumPlace, putPremium, putState, statePlace}
+use Rattle.area.specs.Numbers.{HasCells, firstAt, contentAt, natural, numberAt, premiumPlace, putPremium, putState, statePlace}
 use Rattle.area.specs.Squares.{shifted, squareOf}
-use Rattle.area.specs.Stages.{held, kind, raised}
+use Rattle.area.specs.Stages.{held, content, raised}
 use Rattle.game.specs.Grid.{Grid, cells, mine, safe, size, square}
 use Rattle.game.specs.Lists.{bit, count, fold, has, range}
 use Rattle.game.specs.Openings.{firstLabel, secondLabel, unlabelled}
@@ -20,8 +20,8 @@ use Rattle.game.proofs.Labels.{first-label}
 use Rattle.game.proofs.Members.{first-of, fold-inv, length-fold, range-has, rest-of}
 use Rattle.game.proofs.Squares.{cells→, once-cells, once-square, square→}
 use Rattle.game.proofs.Truth.{T→true}
-use Rattle.area.proofs.CellByCell.{Cell, at, cellArea, fold-acts, made, priced, put-premium, put-state-again, read-first, read-kind, read-second, same-area, shift-acts, shiftCell}
-use Rattle.area.proofs.Held.{held-cells, heldCell, kind-mine, raised-small}
+use Rattle.area.proofs.CellByCell.{Cell, at, cellArea, fold-acts, made, priced, put-premium, put-state-again, read-first, read-content, read-second, same-area, shift-acts, shiftCell}
+use Rattle.area.proofs.Held.{held-cells, heldCell, content-mine, raised-small}
 use Rattle.area.proofs.Puts.{put-length, put-there}
 use Rattle.area.proofs.Rows.{same-square}
 use Rattle.area.proofs.Shifting.{length-shift}
@@ -31,28 +31,28 @@ use Rattle.premiums.proofs.Priced.{alone, raised-parts, raises}
 
 pub length-lay : (w : List ℤ) (i : ℕ) → length (layCell w i) ≡ length w
 length-lay w i =
-    put-length (putPremium w i (alonePremium (labelsAt w i) (kindAt w i))) (statePlace i) 0
-    ∙ put-length w (premiumPlace i) (alonePremium (labelsAt w i) (kindAt w i))
+    put-length (putPremium w i (alonePremium (labelsAt w i) (contentAt w i))) (statePlace i) 0
+    ∙ put-length w (premiumPlace i) (alonePremium (labelsAt w i) (contentAt w i))
 
--- labels and kinds stay
+-- labels and contents stay
 lay-there : (w : List ℤ) (i k : ℕ) → (k ≡ statePlace i → ⊥) → (k ≡ premiumPlace i → ⊥) → numberAt (layCell w i) k ≡ numberAt w k
 lay-there w i k f h =
-    ap natural (put-there (putPremium w i (alonePremium (labelsAt w i) (kindAt w i))) (statePlace i) 0 k f
-    ∙ put-there w (premiumPlace i) (alonePremium (labelsAt w i) (kindAt w i)) k h)
+    ap natural (put-there (putPremium w i (alonePremium (labelsAt w i) (contentAt w i))) (statePlace i) 0 k f
+    ∙ put-there w (premiumPlace i) (alonePremium (labelsAt w i) (contentAt w i)) k h)
 
-lay-kinds : (w : List ℤ) (i n : ℕ) → kindAt (fold layCell w (range 0 n)) i ≡ kindAt w i
-lay-kinds w i n =
-    fold-inv (λ v. kindAt v i ≡ kindAt w i) layCell (range 0 n) (λ v x t e. lay-there v x _ (λ q. omega arith) (λ q. omega arith) ∙ e) w refl
+lay-contents : (w : List ℤ) (i n : ℕ) → contentAt (fold layCell w (range 0 n)) i ≡ contentAt w i
+lay-contents w i n =
+    fold-inv (λ v. contentAt v i ≡ contentAt w i) layCell (range 0 n) (λ v x t e. lay-there v x _ (λ q. omega arith) (λ q. omega arith) ∙ e) w refl
 
 lay-firsts : (w : List ℤ) (i n : ℕ) → firstAt (fold layCell w (range 0 n)) i ≡ firstAt w i
 lay-firsts w i n =
     fold-inv (λ v. firstAt v i ≡ firstAt w i) layCell (range 0 n) (λ v x t e. lay-there v x _ (λ q. omega arith) (λ q. omega arith) ∙ e) w refl
 
 -- what is read in a cell that the pass comes to is counted as it was
-pub lay-counts : (w₀ w : List ℤ) (i n kind first k f r : ℕ) → w ≡ fold layCell w₀ (range 0 n) → kind ≡ kindAt w i → first ≡ firstAt w i
-    → k ≡ bit (not (eqb kind 0)) → f ≡ bit (not (eqb first 0)) → r ≡ k - f → (r ≡ bit (unlabelledAt w₀ i)) × (k ≡ bit (safeAt w₀ i))
-lay-counts w₀ w i n kind first k f r e ek ef qk qf qr =
-    let a : kind ≡ kindAt w₀ i = ek ∙ ap (λ (v : List ℤ). kindAt v i) e ∙ lay-kinds w₀ i n in
+pub lay-counts : (w₀ w : List ℤ) (i n content first k f r : ℕ) → w ≡ fold layCell w₀ (range 0 n) → content ≡ contentAt w i → first ≡ firstAt w i
+    → k ≡ bit (not (eqb content 0)) → f ≡ bit (not (eqb first 0)) → r ≡ k - f → (r ≡ bit (unlabelledAt w₀ i)) × (k ≡ bit (safeAt w₀ i))
+lay-counts w₀ w i n content first k f r e ek ef qk qf qr =
+    let a : content ≡ contentAt w₀ i = ek ∙ ap (λ (v : List ℤ). contentAt v i) e ∙ lay-contents w₀ i n in
     let b : first ≡ firstAt w₀ i = ef ∙ ap (λ (v : List ℤ). firstAt v i) e ∙ lay-firsts w₀ i n in
     let s : k ≡ bit (safeAt w₀ i) = qk ∙ ap (λ (n : ℕ). bit (not (eqb n 0))) a in
     let t : f ≡ bit (not (eqb (firstAt w₀ i) 0)) = qf ∙ ap (λ (n : ℕ). bit (not (eqb n 0))) b in
@@ -64,10 +64,10 @@ lay-counts w₀ w i n kind first k f r e ek ef qk qf qr =
     both false true = refl
     both false false = refl
 
--- labels, a premium, state 0 and kind
+-- labels, a premium, state 0 and content
 abbrev pub risenCell : Grid → (ℕ → ℕ) → ℕ → Cell
 risenCell g p i =
-    record { first = firstLabel g i; second = secondLabel g i; premium = p i % 2147483648; state = 0; kind = kind g i }
+    record { first = firstLabel g i; second = secondLabel g i; premium = p i % 2147483648; state = 0; content = content g i }
 
 -- a cell laid
 abbrev laidCell : Cell → Cell
@@ -75,9 +75,9 @@ laidCell c =
     record {
       first = c .first;
       second = c .second;
-      premium = alonePremium (bit (not (eqb (c .first) 0)) + bit (not (eqb (c .second) 0))) (c .kind) % 2147483648;
+      premium = alonePremium (bit (not (eqb (c .first) 0)) + bit (not (eqb (c .second) 0))) (c .content) % 2147483648;
       state = 0;
-      kind = c .kind;
+      content = c .content;
     }
 
 module _ (g : Grid) (old : List ℤ) (room : HasCells old (size g)) where
@@ -86,19 +86,19 @@ module _ (g : Grid) (old : List ℤ) (room : HasCells old (size g)) where
 
   lay-acts : (C : ℕ → Cell) (i : ℕ) → i < n → layCell (cellArea C n old) i ≡ cellArea (at C i (laidCell (C i))) n old
   lay-acts C i h =
-      rw (read-kind n old room C i h, read-first n old room C i h, read-second n old room C i h)
-      (let v = alonePremium (bit (not (eqb (C i .first) 0)) + bit (not (eqb (C i .second) 0))) (C i .kind) in
+      rw (read-content n old room C i h, read-first n old room C i h, read-second n old room C i h)
+      (let v = alonePremium (bit (not (eqb (C i .first) 0)) + bit (not (eqb (C i .second) 0))) (C i .content) in
       ap (λ (w : List ℤ). putState w i 0) (put-premium n old room C i v h)
       ∙ put-state-again n old room C i 0 (priced v (C i)) h)
 
-  -- from any work area of labels and kinds
-  pub laid-alone : (C : ℕ → Cell) → ((i : ℕ) → C i .first ≡ firstLabel g i) → ((i : ℕ) → C i .second ≡ secondLabel g i) → ((i : ℕ) → C i .kind ≡ kind g i)
+  -- from any work area of labels and contents
+  pub laid-alone : (C : ℕ → Cell) → ((i : ℕ) → C i .first ≡ firstLabel g i) → ((i : ℕ) → C i .second ≡ secondLabel g i) → ((i : ℕ) → C i .content ≡ content g i)
       → fold layCell (cellArea C n old) (cells g) ≡ cellArea (risenCell g (alone g)) n old
   unfolding alone
-  laid-alone C firsts seconds kinds =
+  laid-alone C firsts seconds contents =
       fold-acts n old room layCell laidCell lay-acts (cells g) C (once-cells g) (cells→ g)
       ∙ same-area n old room (made laidCell (cells g) C) (risenCell g (alone g))
-      (λ x h. rw (T→true (has x (range 0 n)) (range-has 0 n x (omega arith) h), firsts x, seconds x, kinds x))
+      (λ x h. rw (T→true (has x (range 0 n)) (range-has 0 n x (omega arith) h), firsts x, seconds x, contents x))
 
   -- ---- raised
 
@@ -109,25 +109,25 @@ module _ (g : Grid) (old : List ℤ) (room : HasCells old (size g)) where
   same-risen : (p q : ℕ → ℕ) → ((i : ℕ) → i < n → p i ≡ q i) → risen p ≡ risen q
   same-risen p q e =
       same-area n old room (risenCell g p) (risenCell g q)
-      (λ i h. ap (λ (k : ℕ). record { first = firstLabel g i; second = secondLabel g i; premium = k % 2147483648; state = 0; kind = kind g i }) (e i h))
+      (λ i h. ap (λ (k : ℕ). record { first = firstLabel g i; second = secondLabel g i; premium = k % 2147483648; state = 0; content = content g i }) (e i h))
 
   -- 1 more for a safe cell of the square
   up : (p : ℕ → ℕ) (i x : ℕ) → made (shiftCell 1 0) (square g i) (risenCell g p) x ≡ risenCell g (λ x. p x + bit (has x (square g i) && safe g x)) x
-  up p i x = rw (kind-mine g x) (go (has x (square g i)) (mine g x))
+  up p i x = rw (content-mine g x) (go (has x (square g i)) (mine g x))
     where
       cell : ℕ → Cell
-      cell m = record { first = firstLabel g x; second = secondLabel g x; premium = m % 2147483648; state = 0; kind = kind g x }
+      cell m = record { first = firstLabel g x; second = secondLabel g x; premium = m % 2147483648; state = 0; content = content g x }
 
       go : (b m : Bool) → cond b (cond m (cell (p x)) (priced (p x % 2147483648 + 1 - 0) (cell (p x)))) (cell (p x)) ≡ cell (p x + bit (b && not m))
       go true true = ap cell (sym (add-zero (p x)))
-      go true false = ap (λ (k : ℕ). record { first = firstLabel g x; second = secondLabel g x; premium = k; state = 0; kind = kind g x }) (omega arith)
+      go true false = ap (λ (k : ℕ). record { first = firstLabel g x; second = secondLabel g x; premium = k; state = 0; content = content g x }) (omega arith)
       go false m = ap cell (sym (add-zero (p x)))
 
   raise-near : (p : ℕ → ℕ) (i : ℕ) → i < n → raiseNear (g .rows) (g .columns) (risen p) i ≡ risen (λ x. p x + bit (raises g x i))
   raise-near p i h =
-      rw (read-kind n old room (risenCell g p) i h, read-first n old room (risenCell g p) i h)
+      rw (read-content n old room (risenCell g p) i h, read-first n old room (risenCell g p) i h)
       (ap (λ (b : Bool). cond b (fold (shifted 1 0) (risen p) (squareOf (g .rows) (g .columns) i)) (risen p))
-      (ap (λ (b : Bool). not b && eqb (firstLabel g i) 0) (kind-mine g i) ∙ sym (first-label g i))
+      (ap (λ (b : Bool). not b && eqb (firstLabel g i) 0) (content-mine g i) ∙ sym (first-label g i))
       ∙ go (unlabelled g i))
     where
       go : (b : Bool) → cond b (fold (shifted 1 0) (risen p) (squareOf (g .rows) (g .columns) i)) (risen p) ≡ risen (λ x. p x + bit (b && (has x (square g i) && safe g x)))

@@ -13,14 +13,14 @@ pub struct Laid {
 }
 
 // The raised premium of a cell that no unlabelled cell is near, before any move; 0 for a mine.
-pub fn alone(labels: usize, kind: usize) -> usize
+pub fn alone(labels: usize, content: usize) -> usize
     requires { ⌜ labels ≤ 2 ⌝ }
-    ensures { λ r. ⌜ r ≡ alonePremium labels kind ⌝ }
+    ensures { λ r. ⌜ r ≡ alonePremium labels content ⌝ }
 {
-    if kind == 0 {
+    if content == 0 {
         return 0;
     }
-    area::take_away(9 + labels, kind)
+    area::take_away(9 + labels, content)
 }
 
 // Each cell before any move, as if no unlabelled cell were near.
@@ -34,9 +34,9 @@ pub fn lay(work: &mut [i32], cells: usize) -> Laid
     for index in 0..cells {
         let first = area::one_if_any(area::first_label(work, index));
         let second = area::one_if_any(area::second_label(work, index));
-        let kind = area::kind(work, index);
-        let counted = area::one_if_any(kind);
-        area::put_premium(work, index, alone(first + second, kind));
+        let content = area::content(work, index);
+        let counted = area::one_if_any(content);
+        area::put_premium(work, index, alone(first + second, content));
         area::put_state(work, index, 0);
         unlabelled += area::take_away(counted, first);
         safe += counted;
@@ -49,7 +49,7 @@ pub fn unlabelled(work: &[i32], index: usize) -> bool
     requires { ⌜ HasCell (now work) index ⌝ }
     ensures { λ r. ⌜ r ≡ unlabelledAt (now (work .entry)) index ⌝ }
 {
-    if area::kind(work, index) == 0 {
+    if area::content(work, index) == 0 {
         return false;
     }
     area::first_label(work, index) == 0

@@ -10,8 +10,8 @@ use lib.ListN.{getD, length, length-map, set}
 use lib.Seq.{getD-set-other, length-sets, sets}
 use Rattle.moves.specs.declared.State.{State}
 use Rattle.random.specs.declared.Onward.{Onward}
-use Rattle.random.specs.declared.Stepped.{Stepped}
-use Rattle.random.specs.declared.Stepped.the-variants as Steps
+use Rattle.random.specs.declared.DrawnStep.{DrawnStep}
+use Rattle.random.specs.declared.DrawnStep.the-variants as Steps
 use Rattle.random.specs.declared.Finish.the-variants as Finishes
 use Rattle.area.specs.Stages.{Stands}
 use Rattle.game.specs.Draws.{Drawn, Places, Source}
@@ -67,11 +67,11 @@ abbrev pub fresh : ℕ → State
 fresh safe = record { moves = 0; closed = safe }
 
 -- whatever grid the area stood for
-pub record Midway (rows columns : ℕ) (w : List ℤ) (source : Source) (safe at : ℕ) (list : List ℕ) (w′ : List ℤ) (list′ : List ℕ) (t′ : State) (next : ℕ) : Type 0 where
+pub record RoundMidway (rows columns : ℕ) (w : List ℤ) (source : Source) (safe at : ℕ) (list : List ℕ) (w′ : List ℤ) (list′ : List ℕ) (t′ : State) (next : ℕ) : Type 0 where
   pub course : (g : Grid) (old : List ℤ) → Stands rows columns g (untouched g) old w → Partway rows columns g (untouched g) old list (fresh safe) (Left g source at next) w′ list′ t′
 
 pub midway-begins : (rows columns : ℕ) (w : List ℤ) (source : Source) (safe at : ℕ) (list : List ℕ) → Fresh rows columns w safe
-    → Midway rows columns w source safe at list w list (fresh safe) at
+    → RoundMidway rows columns w source safe at list w list (fresh safe) at
 unfolding randomRound
 midway-begins rows columns w source safe at list f =
     record {
@@ -99,7 +99,7 @@ module _ (rows columns : ℕ) (g : Grid) (old : List ℤ) (source : Source) (saf
         noted = o .made .noted ∙ ap (λ (ms : List Move). sets list 0 (map word ms)) (c .moves-are);
       })
 
-  module _ (w′ : List ℤ) (list′ : List ℕ) (r : Stepped) (h : 0 < u .closed)
+  module _ (w′ : List ℤ) (list′ : List ℕ) (r : DrawnStep) (h : 0 < u .closed)
       (q : (s : Position) → Stands rows columns g s old v → Tidy g s → 1 ≤ closedSafe g s → u .closed ≡ closedSafe g s
       → Stepping rows columns g s old (source next (width (choice false g s))) l u v w′ list′ r) where
     some-closed : 1 ≤ closedSafe g here

@@ -18,7 +18,7 @@ use Rattle.game.specs.Grid.{Grid}
 use Rattle.game.specs.Moves.{Move, after}
 use Rattle.game.specs.Position.{Position, untouched}
 use Rattle.game.specs.Rounds.{Round, Searched, movesOf, randomRound, randomSearch, searchFrom}
-use Rattle.random.specs.Promises.{Counted, Rolling, Searching, once}
+use Rattle.random.specs.Promises.{CountsSafe, Rolling, Searching, once}
 use Rattle.rounds.specs.Promises.{Fresh}
 use Rattle.game.proofs.Tidy.{untouched-tidy}
 use Rattle.game.proofs.Draws.{Used}
@@ -37,7 +37,7 @@ pub reset-stands : (rows columns : ℕ) (g : Grid) (s : Position) (old w w′ : 
 reset-stands rows columns g s old w w′ st e =
     record { rows-are = st .rows-are; columns-are = st .columns-are; shape = st .shape; room = st .room; long = untouched-tidy g .long; holds-it = e }
 
-pub reset-fresh : (rows columns : ℕ) (w w′ : List ℤ) (safe : ℕ) → Counted rows columns w safe
+pub reset-fresh : (rows columns : ℕ) (w w′ : List ℤ) (safe : ℕ) → CountsSafe rows columns w safe
     → ((g : Grid) (s : Position) (old : List ℤ) → Stands rows columns g s old w → w′ ≡ held g (untouched g) old) → Fresh rows columns w′ safe
 reset-fresh rows columns w w′ safe f q =
     let s = after (f .grid) (untouched (f .grid)) (f .moves) in
@@ -159,19 +159,19 @@ module _ (rows columns : ℕ) (g : Grid) (old : List ℤ) (source : Source) (w�
 
 -- ---- whatever grid the area stood for
 
-pub record Midway (rows columns : ℕ) (w : List ℤ) (source : Source) (clicks next more : ℕ) (w′ : List ℤ) (least at left : ℕ) : Type 0 where
+pub record SearchMidway (rows columns : ℕ) (w : List ℤ) (source : Source) (clicks next more : ℕ) (w′ : List ℤ) (least at left : ℕ) : Type 0 where
   pub sofar : (g : Grid) (old : List ℤ) (ms : List Move) → Stands rows columns g (after g (untouched g) ms) old w
       → Sofar rows columns g old source (searchFrom more g source (record { least = clicks; next = next; moves = ms })) w′ least at left
 
 -- the safe cells are as many as they were
 pub still-counted : (rows columns : ℕ) (w : List ℤ) (source : Source) (clicks next more : ℕ) (w′ : List ℤ) (least at left safe : ℕ)
-    → Midway rows columns w source clicks next more w′ least at left → Counted rows columns w safe → Counted rows columns w′ safe
+    → SearchMidway rows columns w source clicks next more w′ least at left → CountsSafe rows columns w safe → CountsSafe rows columns w′ safe
 still-counted rows columns w source clicks next more w′ least at left safe m f =
     let s = m .sofar (f .grid) (f .old) (f .moves) (f .stands) in
     record { grid = f .grid; old = f .old; moves = s .moves; stands = s .stands; counts = f .counts }
 
 -- each round played leaves fewer that can still be played
-pub turns-fall : (rows columns : ℕ) (bytes : List ℕ) (at : ℕ) (w w′ : List ℤ) (r : Finish) (safe : ℕ) → Counted rows columns w safe
+pub turns-fall : (rows columns : ℕ) (bytes : List ℕ) (at : ℕ) (w w′ : List ℤ) (r : Finish) (safe : ℕ) → CountsSafe rows columns w safe
     → ((g : Grid) (s : Position) (old : List ℤ) → Stands rows columns g s old w → Searching rows columns g old (once (randomRound g (lent bytes) at)) w′ r)
     → (paid next left still : ℕ) → r ≡ Ended paid next → 0 < left → still ≡ cond (eqb next at) 0 (left - 1) → turns (length bytes) next still < turns (length bytes) at left
 turns-fall rows columns bytes at w w′ r safe f q paid next left still y h z =

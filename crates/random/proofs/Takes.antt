@@ -2,7 +2,7 @@
 use Rattle.moves.specs.declared.State.{State}
 use Rattle.draws.specs.declared.Drawn.{Drawn}
 use Rattle.draws.specs.declared.Drawn.the-variants.{Place, Short}
-use Rattle.random.specs.declared.Stepped.the-variants.{Dry, Went}
+use Rattle.random.specs.declared.DrawnStep.the-variants.{Dry, Went}
 use Rattle.game.specs.Draws as Game
 use Prim.Native.Nat.{ℕ, _*_, _<_, _≤_}
 use native.Mathlib.Omega.{arith}
@@ -17,7 +17,7 @@ use lib.IntN.{ℤ}
 use lib.ListN.{List·getD-eq-default, getD, length}
 use Rattle.area.specs.Stages.{Shape}
 use Rattle.ties.specs.Candidates.{candidateAt, candidatesOf, forClick}
-use Rattle.choices.specs.Tops.{Kept, UnitsKept}
+use Rattle.choices.specs.Tops.{TopsKnown, UnitsKnown}
 use Rattle.draws.specs.Answers.{drawnOf}
 use Rattle.game.specs.Draws.{Places, Source}
 use Rattle.game.specs.Grid.{Grid, safe, zeroCell}
@@ -27,7 +27,7 @@ use Rattle.game.specs.Position.{Position, Tidy, closed, closedSafe}
 use Rattle.game.specs.Rounds.{Choice, choice, chords, clicks, movesAt, stepOf, topCells, unitCells, width}
 use Rattle.random.specs.Promises.{Stepping, Tells, takenMoves}
 use Rattle.moves.specs.Promises.{Made}
-use Rattle.rounds.specs.Promises.{MadeKept}
+use Rattle.rounds.specs.Promises.{MadeKnown}
 use Rattle.game.proofs.Choices.{Top, looked→, never-stuck, premium-pays, top→, unit→}
 use Rattle.game.proofs.Counts.{length-keep}
 use Rattle.game.proofs.Legal.{zero-poor}
@@ -97,7 +97,7 @@ takes g s top i k = go (topCells false g s) refl (top→ false g s)
 -- ---- one step
 
 -- the closed units kept are right, whatever else is marked
-pub any-marks : (w : List ℤ) (rows columns : ℕ) (marks units : List ℕ) → UnitsKept w rows columns units units → UnitsKept w rows columns marks units
+pub any-marks : (w : List ℤ) (rows columns : ℕ) (marks units : List ℕ) → UnitsKnown w rows columns units units → UnitsKnown w rows columns marks units
 any-marks w rows columns marks units k = record { room = k .room; right = λ c h _ n. k .right c h n n }
 
 module _ (g : Grid) (s : Position) (w : List ℤ) (cells top : ℕ) (tells : Tells g s w cells top) where
@@ -111,10 +111,10 @@ module _ (g : Grid) (s : Position) (w : List ℤ) (cells top : ℕ) (tells : Tel
 
   -- the moves at the cell of a place are those of the step that takes the place
   pub took : (rows columns : ℕ) (old : List ℤ) (list : List ℕ) (t : State) (p i : ℕ) (tops units : List ℕ) (w′ : List ℤ) (list′ tops′ : List ℕ) (r : State) → p < width (choice false g s)
-      → i ≡ getD (keep (candidateAt top w) (range 0 cells)) p 0 → Kept false w rows columns tops → UnitsKept w rows columns units units
+      → i ≡ getD (keep (candidateAt top w) (range 0 cells)) p 0 → TopsKnown false w rows columns tops → UnitsKnown w rows columns units units
       → (T (safe g i) → (top < 10 → T (closed s i) × (topCells false g s ≡ [])) → (10 ≤ top → T (zeroCell g i) → ⊥)
-      → MadeKept false rows columns g s old (takenMoves g s top i) list w tops t w′ list′ tops′ r)
-      → Made rows columns g s old (stepOf g s (choice false g s) p .moves) list t w′ list′ r × Kept false w′ rows columns tops′ × UnitsKept w′ rows columns tops′ units
+      → MadeKnown false rows columns g s old (takenMoves g s top i) list w tops t w′ list′ tops′ r)
+      → Made rows columns g s old (stepOf g s (choice false g s) p .moves) list t w′ list′ r × TopsKnown false w′ rows columns tops′ × UnitsKnown w′ rows columns tops′ units
   took rows columns old list t p i tops units w′ list′ tops′ r l q kept units-kept made =
       let a = takes g s top i p l (tells .one-click) (q ∙ ap (λ (xs : List ℕ). getD xs p 0) (tells .candidates)) in
       let b = made (a .is-safe) (a .shut) (a .no-zero) in

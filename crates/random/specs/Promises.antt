@@ -18,8 +18,8 @@ use Rattle.area.specs.Stages.{Stands}
 use Rattle.ties.specs.Candidates.{candidateAt, candidatesOf, forClick}
 use Rattle.moves.specs.Promises.{Made}
 use Rattle.moves.specs.declared.State.{State}
-use Rattle.random.specs.declared.Stepped.{Stepped}
-use Rattle.random.specs.declared.Stepped.the-variants as Steps
+use Rattle.random.specs.declared.DrawnStep.{DrawnStep}
+use Rattle.random.specs.declared.DrawnStep.the-variants as Steps
 use Rattle.random.specs.declared.Finish.{Finish}
 use Rattle.random.specs.declared.Finish.the-variants as Finishes
 
@@ -33,19 +33,19 @@ pub record Tells (g : Grid) (s : Position) (w : List ℤ) (cells top : ℕ) : Ty
   pub candidates : keep (candidateAt top w) (range 0 cells) ≡ candidatesOf (choice false g s)
 
 -- a step was drawn and made; the state after it, and where the next draw reads on, are handed on
-pub record Went (rows columns : ℕ) (g : Grid) (s : Position) (old : List ℤ) (ms : List Move) (next : ℕ) (list : List ℕ) (t : State) (w′ : List ℤ) (list′ : List ℕ) (r : Stepped) : Type 0 where
+pub record Went (rows columns : ℕ) (g : Grid) (s : Position) (old : List ℤ) (ms : List Move) (next : ℕ) (list : List ℕ) (t : State) (w′ : List ℤ) (list′ : List ℕ) (r : DrawnStep) : Type 0 where
   pub state : State
   pub answer : r ≡ Steps.Went (record { state = state; next = next })
   pub made : Made rows columns g s old ms list t w′ list′ state
 
 -- the draws ran dry, and nothing changed
-pub record Dried (r : Stepped) (w w′ : List ℤ) (list list′ : List ℕ) : Type 0 where
+pub record Dried (r : DrawnStep) (w w′ : List ℤ) (list list′ : List ℕ) : Type 0 where
   pub answer : r ≡ Steps.Dry
   pub same-work : w′ ≡ w
   pub same-list : list′ ≡ list
 
 -- what a random step comes to, by its draw
-abbrev pub Stepping : (rows columns : ℕ) → Grid → Position → List ℤ → Option Drawn → List ℕ → State → List ℤ → List ℤ → List ℕ → Stepped → Type 0
+abbrev pub Stepping : (rows columns : ℕ) → Grid → Position → List ℤ → Option Drawn → List ℕ → State → List ℤ → List ℤ → List ℕ → DrawnStep → Type 0
 Stepping rows columns g s old none list t w w′ list′ r = Dried r w w′ list list′
 Stepping rows columns g s old (some d) list t w w′ list′ r =
     Went rows columns g s old (stepOf g s (choice false g s) (d .place) .moves) (d .next) list t w′ list′ r
@@ -70,7 +70,7 @@ Rolling rows columns g old none list w′ list′ r = Broken rows columns g old 
 Rolling rows columns g old (some o) list w′ list′ r = Ended rows columns g old o list w′ list′ r
 
 -- the area stands for a position of a grid of so many safe cells
-pub record Counted (rows columns : ℕ) (w : List ℤ) (safe : ℕ) : Type 0 where
+pub record CountsSafe (rows columns : ℕ) (w : List ℤ) (safe : ℕ) : Type 0 where
   pub grid : Grid
   pub old : List ℤ
   pub moves : List Move
@@ -83,17 +83,17 @@ once none = none
 once (some e) = some (record { least = length (movesOf (e .steps)); next = e .next; moves = movesOf (e .steps) })
 
 -- a search was played to its end: the least clicks, the bytes used, the last round left
-pub record Found (rows columns : ℕ) (g : Grid) (old : List ℤ) (o : Searched) (w′ : List ℤ) (r : Finish) : Type 0 where
+pub record SearchEnded (rows columns : ℕ) (g : Grid) (old : List ℤ) (o : Searched) (w′ : List ℤ) (r : Finish) : Type 0 where
   pub answer : r ≡ Finishes.Ended (o .least) (o .next)
   pub stands : Stands rows columns g (after g (untouched g) (o .moves)) old w′
 
 -- the draws ran dry in a search: the area stands for some position
-pub record Lost (rows columns : ℕ) (g : Grid) (old : List ℤ) (w′ : List ℤ) (r : Finish) : Type 0 where
+pub record SearchBroken (rows columns : ℕ) (g : Grid) (old : List ℤ) (w′ : List ℤ) (r : Finish) : Type 0 where
   pub answer : r ≡ Finishes.Dry
   pub position : Position
   pub stands : Stands rows columns g position old w′
 
 -- what a random search comes to
 abbrev pub Searching : (rows columns : ℕ) → Grid → List ℤ → Option Searched → List ℤ → Finish → Type 0
-Searching rows columns g old none w′ r = Lost rows columns g old w′ r
-Searching rows columns g old (some o) w′ r = Found rows columns g old o w′ r
+Searching rows columns g old none w′ r = SearchBroken rows columns g old w′ r
+Searching rows columns g old (some o) w′ r = SearchEnded rows columns g old o w′ r

@@ -16,10 +16,10 @@ ghost use Rattle.game.specs.Moves.{Move, after};
 ghost use Rattle.game.specs.Draws.{lent};
 ghost use Rattle.game.specs.Rounds.{choice, stepOf, topCells, width, randomRound, randomSearch, searchFrom};
 ghost use Rattle.area.specs.Stages.{Shape, Stands};
-ghost use Rattle.choices.specs.Tops.{Kept, UnitsKept};
+ghost use Rattle.choices.specs.Tops.{TopsKnown, UnitsKnown};
 ghost use Rattle.moves.specs.Promises.{Made};
-ghost use Rattle.rounds.specs.Promises.{MadeKept, Fresh};
-ghost use Rattle.random.specs.Promises.{Counted, Tells, takenMoves, once, Stepping, Rolling, Searching};
+ghost use Rattle.rounds.specs.Promises.{MadeKnown, Fresh};
+ghost use Rattle.random.specs.Promises.{CountsSafe, Tells, takenMoves, once, Stepping, Rolling, Searching};
 
 // What a step draws among: so many cells, and the highest raised premium; below 10 the step is one L.
 struct Candidates {
@@ -34,7 +34,7 @@ pub struct Onward {
 }
 
 // A step was made, or the draws ran dry.
-pub enum Stepped {
+pub enum DrawnStep {
     Went(Onward),
     Dry,
 }
@@ -60,7 +60,7 @@ fn take(
     requires { ⌜ HasCells (now work) (rows * columns) × (index < rows * columns) × (state .moves ≤ 2 ^ 45) ⌝ }
     ensures { λ r. ⌜ ((g : Grid) (s : Position) (old : List ℤ) → Stands rows columns g s old (now (work .entry)) → Tidy g s
         → T (safe g index) → (top < 10 → T (isClosed s index) × (topCells false g s ≡ [])) → (10 ≤ top → T (zeroCell g index) → ⊥) → state .closed ≡ closedSafe g s
-        → MadeKept false rows columns g s old (takenMoves g s top index) (now (list .entry)) (now (work .entry)) (now (tops .entry)) state (now (work .exit)) (now (list .exit)) (now (tops .exit)) r) ⌝ }
+        → MadeKnown false rows columns g s old (takenMoves g s top index) (now (list .entry)) (now (work .entry)) (now (tops .entry)) state (now (work .exit)) (now (list .exit)) (now (tops .exit)) r) ⌝ }
 {
     if top < 10 {
         return steps::click_at(work, rows, columns, list, tops, state, index);
@@ -77,9 +77,9 @@ fn count_candidates(
     units: &mut [u8],
 ) -> Candidates
     requires { ⌜ Shape rows columns ⌝ }
-    requires { ⌜ HasCells (now work) (rows * columns) × Kept false (now work) rows columns (now tops) × UnitsKept (now work) rows columns (now tops) (now units) ⌝ }
-    ensures { λ _. ⌜ (length (now (tops .exit)) ≡ length (now (tops .entry))) × Kept false (now (work .entry)) rows columns (now (tops .exit)) ⌝ }
-    ensures { λ _. ⌜ (length (now (units .exit)) ≡ length (now (units .entry))) × UnitsKept (now (work .entry)) rows columns (now (units .exit)) (now (units .exit)) ⌝ }
+    requires { ⌜ HasCells (now work) (rows * columns) × TopsKnown false (now work) rows columns (now tops) × UnitsKnown (now work) rows columns (now tops) (now units) ⌝ }
+    ensures { λ _. ⌜ (length (now (tops .exit)) ≡ length (now (tops .entry))) × TopsKnown false (now (work .entry)) rows columns (now (tops .exit)) ⌝ }
+    ensures { λ _. ⌜ (length (now (units .exit)) ≡ length (now (units .entry))) × UnitsKnown (now (work .entry)) rows columns (now (units .exit)) (now (units .exit)) ⌝ }
     ensures { λ r. ⌜ ((g : Grid) (s : Position) (old : List ℤ) → Stands rows columns g s old (now (work .entry)) → Tells g s (now (work .entry)) (rows * columns) (r .top) × (r .count ≡ width (choice false g s))) ⌝ }
 {
     let top = ties::top(work, rows, columns, tops, units);
@@ -101,12 +101,12 @@ fn take_place(
 ) -> State
     requires { ⌜ Shape rows columns ⌝ }
     requires { ⌜ HasCells (now work) (rows * columns) × (state .moves ≤ 2 ^ 45) ⌝ }
-    requires { ⌜ Kept false (now work) rows columns (now tops) × UnitsKept (now work) rows columns (now units) (now units) ⌝ }
+    requires { ⌜ TopsKnown false (now work) rows columns (now tops) × UnitsKnown (now work) rows columns (now units) (now units) ⌝ }
     ensures { λ r. ⌜ ((g : Grid) (s : Position) (old : List ℤ) → Stands rows columns g s old (now (work .entry)) → Tidy g s → Tells g s (now (work .entry)) (rows * columns) top
         → place < width (choice false g s) → state .closed ≡ closedSafe g s
         → Made rows columns g s old (stepOf g s (choice false g s) place .moves) (now (list .entry)) state (now (work .exit)) (now (list .exit)) r
-        × Kept false (now (work .exit)) rows columns (now (tops .exit))
-        × UnitsKept (now (work .exit)) rows columns (now (tops .exit)) (now (units .exit))) ⌝ }
+        × TopsKnown false (now (work .exit)) rows columns (now (tops .exit))
+        × UnitsKnown (now (work .exit)) rows columns (now (tops .exit)) (now (units .exit))) ⌝ }
 {
     let index = ties::pick(work, rows, columns, tops, units, top, place);
     take(work, rows, columns, list, tops, state, top, index)
@@ -123,25 +123,25 @@ pub fn step(
     units: &mut [u8],
     state: State,
     next: usize,
-) -> Stepped
+) -> DrawnStep
     requires { ⌜ Shape rows columns ⌝ }
     requires { ⌜ HasCells (now work) (rows * columns) × (state .moves ≤ 2 ^ 45) ⌝ }
-    requires { ⌜ Kept false (now work) rows columns (now tops) × UnitsKept (now work) rows columns (now tops) (now units) ⌝ }
+    requires { ⌜ TopsKnown false (now work) rows columns (now tops) × UnitsKnown (now work) rows columns (now tops) (now units) ⌝ }
     ensures { λ r. ⌜ ((g : Grid) (s : Position) (old : List ℤ) → Stands rows columns g s old (now (work .entry)) → Tidy g s
         → 1 ≤ closedSafe g s → state .closed ≡ closedSafe g s
         → Stepping rows columns g s old (lent (now (draws .entry)) next (width (choice false g s))) (now (list .entry)) state (now (work .entry)) (now (work .exit)) (now (list .exit)) r
-        × Kept false (now (work .exit)) rows columns (now (tops .exit))
-        × UnitsKept (now (work .exit)) rows columns (now (tops .exit)) (now (units .exit))) ⌝ }
+        × TopsKnown false (now (work .exit)) rows columns (now (tops .exit))
+        × UnitsKnown (now (work .exit)) rows columns (now (tops .exit)) (now (units .exit))) ⌝ }
 {
     let candidates = count_candidates(work, rows, columns, tops, units);
     let count = candidates.count;
     let top = candidates.top;
-    let drawn = reads::draw_from(draws, next, count);
+    let drawn = draw_reader::draw_from(draws, next, count);
     let Drawn::Place(place, after) = drawn else {
-        return Stepped::Dry;
+        return DrawnStep::Dry;
     };
     let taken = take_place(work, rows, columns, list, tops, units, state, top, place);
-    Stepped::Went(Onward {
+    DrawnStep::Went(Onward {
         state: taken,
         next: after,
     })
@@ -162,7 +162,7 @@ fn roll_on(
     requires { ⌜ Shape rows columns ⌝ }
     requires { ⌜ HasCells (now work) (rows * columns) ⌝ }
     requires { ⌜ Fresh rows columns (now work) safe ⌝ }
-    requires { ⌜ Kept false (now work) rows columns (now tops) × UnitsKept (now work) rows columns (now tops) (now units) ⌝ }
+    requires { ⌜ TopsKnown false (now work) rows columns (now tops) × UnitsKnown (now work) rows columns (now tops) (now units) ⌝ }
     ensures { λ r. ⌜ ((g : Grid) (old : List ℤ) → Stands rows columns g (untouched g) old (now (work .entry))
         → Rolling rows columns g old (randomRound g (lent (now (draws .entry))) next) (now (list .entry)) (now (work .exit)) (now (list .exit)) r) ⌝ }
 {
@@ -173,7 +173,7 @@ fn roll_on(
     let mut at = next;
     while 0 < state.closed {
         let stepped = step(work, rows, columns, list, draws, tops, units, state, at);
-        let Stepped::Went(onward) = stepped else {
+        let DrawnStep::Went(onward) = stepped else {
             return Finish::Dry;
         };
         state = onward.state;
@@ -243,7 +243,7 @@ fn again(
 ) -> Finish
     requires { ⌜ Shape rows columns ⌝ }
     requires { ⌜ HasCells (now work) (rows * columns) ⌝ }
-    requires { ⌜ Counted rows columns (now work) safe ⌝ }
+    requires { ⌜ CountsSafe rows columns (now work) safe ⌝ }
     ensures { λ r. ⌜ ((g : Grid) (s : Position) (old : List ℤ) → Stands rows columns g s old (now (work .entry))
         → Searching rows columns g old (once (randomRound g (lent (now (draws .entry))) next)) (now (work .exit)) r) ⌝ }
 {
@@ -271,7 +271,7 @@ fn search_on(
 ) -> Finish
     requires { ⌜ Shape rows columns ⌝ }
     requires { ⌜ HasCells (now work) (rows * columns) ⌝ }
-    requires { ⌜ Counted rows columns (now work) safe ⌝ }
+    requires { ⌜ CountsSafe rows columns (now work) safe ⌝ }
     ensures { λ r. ⌜ ((g : Grid) (old : List ℤ) (ms : List Move) → Stands rows columns g (after g (untouched g) ms) old (now (work .entry))
         → Searching rows columns g old (searchFrom more g (lent (now (draws .entry))) (record { least = clicks; next = next; moves = ms })) (now (work .exit)) r) ⌝ }
 {

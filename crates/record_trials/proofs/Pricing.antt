@@ -54,14 +54,14 @@ use Rattle.zini.specs.declared.Priced.{Priced}
 use Rattle.zini.proofs.Priced as S
 use Rattle.zini.proofs.Priced.Laws as S′
 use Rattle.records.specs.declared.MoveRecord.{MoveRecord}
-use Rattle.by_records.specs.Promises.{KeepsRecords, inRecords, within}
-use Rattle.by_records.proofs.greedy_records as by
-use Rattle.by_records.proofs.greedy_records.Symbol as greedy-def
-use Rattle.by_records.proofs.greedy_records.Symbol.{name as #by-records·greedy-records}
-use Rattle.by_records.proofs.greedy_records.Met as greedy-thm
-use Rattle.by_records.proofs.openings_first_records.Symbol as openings-def
-use Rattle.by_records.proofs.openings_first_records.Symbol.{name as #by-records·openings-first-records}
-use Rattle.by_records.proofs.openings_first_records.Met as openings-thm
+use Rattle.record_calls.specs.Promises.{KeepsRecords, inRecords, within}
+use Rattle.record_calls.proofs.greedy_records as by
+use Rattle.record_calls.proofs.greedy_records.Symbol as greedy-def
+use Rattle.record_calls.proofs.greedy_records.Symbol.{name as #by-records·greedy-records}
+use Rattle.record_calls.proofs.greedy_records.Met as greedy-thm
+use Rattle.record_calls.proofs.openings_first_records.Symbol as openings-def
+use Rattle.record_calls.proofs.openings_first_records.Symbol.{name as #by-records·openings-first-records}
+use Rattle.record_calls.proofs.openings_first_records.Met as openings-thm
 use Rattle.record_trials.specs.declared.PricedRun.{PricedRun}
 use Rattle.record_trials.proofs.PricedRun as P
 use Rattle.record_trials.proofs.PricedRun.Laws as P′

@@ -8,7 +8,7 @@ use Rattle.game.specs.Grid.{Grid}
 use Rattle.game.specs.Calls.{randomRoundCall, randomSearchCall}
 use Rattle.zini.specs.Answers.{Keeps, KeepsList, rolledAnswer}
 use Rattle.zini.specs.declared.Rolled.{Rolled}
-use Rattle.by_reader.specs.Stands.{standsAt}
+use Rattle.reader_calls.specs.Stands.{standsAt}
 
 -- the promises of both calls, from a place of the bytes; between is the work area after the round
 pub record Twice (g : Grid) (ws : List ℤ) (ms bytes : List ℕ) (place rounds : ℕ) (round search : Rolled) (end : ℕ) (work : List ℤ) (list : List ℕ) : Type 0 where

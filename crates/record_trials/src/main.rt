@@ -9,7 +9,7 @@ use zini::Rolled;
 ghost use Rattle.game.specs.Calls.{greedyCall, openingsFirstCall, randomRoundCall};
 ghost use Rattle.area.specs.Numbers.{gridOf};
 ghost use Rattle.zini.specs.Answers.{KeepsList, pricedAnswer, replayedAnswer, rolledAnswer};
-ghost use Rattle.by_records.specs.Promises.{KeepsRecords, inRecords, replayRecordsCall, within};
+ghost use Rattle.record_calls.specs.Promises.{KeepsRecords, inRecords, replayRecordsCall, within};
 ghost use Rattle.record_trials.specs.Readings.{Twice};
 
 // What greedy or openings-first answers, and the run that was lent.
@@ -43,7 +43,7 @@ fn greedy_run(
     ensures { λ r. ⌜ KeepsRecords (inRecords (gridOf rows columns (now (grid .entry))) (within (gridOf rows columns (now (grid .entry))) (now (work .entry)) (now (list .entry)) 9 (greedyCall (gridOf rows columns (now (grid .entry))) (now (work .entry)) (now (list .entry)))) run) (pricedAnswer (r .answer)) (now (work .exit)) (now (list .exit)) (r .run) ⌝ }
 {
     let mut lent = run;
-    let answer = by_records::greedy_records(rows, columns, grid, work, list, &mut lent);
+    let answer = record_calls::greedy_records(rows, columns, grid, work, list, &mut lent);
     PricedRun { answer, run: lent }
 }
 
@@ -59,7 +59,7 @@ fn openings_first_run(
     ensures { λ r. ⌜ KeepsRecords (inRecords (gridOf rows columns (now (grid .entry))) (within (gridOf rows columns (now (grid .entry))) (now (work .entry)) (now (list .entry)) 9 (openingsFirstCall (gridOf rows columns (now (grid .entry))) (now (work .entry)) (now (list .entry)))) run) (pricedAnswer (r .answer)) (now (work .exit)) (now (list .exit)) (r .run) ⌝ }
 {
     let mut lent = run;
-    let answer = by_records::openings_first_records(rows, columns, grid, work, list, &mut lent);
+    let answer = record_calls::openings_first_records(rows, columns, grid, work, list, &mut lent);
     PricedRun { answer, run: lent }
 }
 
@@ -76,7 +76,7 @@ fn random_run(
     ensures { λ r. ⌜ KeepsRecords (inRecords (gridOf rows columns (now (grid .entry))) (within (gridOf rows columns (now (grid .entry))) (now (work .entry)) (now (list .entry)) 9 (randomRoundCall (gridOf rows columns (now (grid .entry))) (now (work .entry)) (now (list .entry)) (now (draws .entry)))) run) (rolledAnswer (r .answer)) (now (work .exit)) (now (list .exit)) (r .run) ⌝ }
 {
     let mut lent = run;
-    let answer = by_records::random_round_records(
+    let answer = record_calls::random_round_records(
         rows,
         columns,
         grid,
@@ -100,7 +100,7 @@ fn replay_run(
 ) -> Replayed
     ensures { λ r. ⌜ KeepsList (replayRecordsCall (gridOf rows columns (now (grid .entry))) (now (work .entry)) (now (list .entry)) run count) (replayedAnswer r) (now (work .exit)) (now (list .exit)) ⌝ }
 {
-    by_records::replay_records(rows, columns, grid, work, list, &run, count)
+    record_calls::replay_records(rows, columns, grid, work, list, &run, count)
 }
 
 // A random round and then a random search by one reader, which goes on from where the round left it.
@@ -116,9 +116,9 @@ fn read_twice(
 ) -> ReadTwice
     ensures { λ r. ⌜ Twice (gridOf rows columns (now (grid .entry))) (now (work .entry)) (now (list .entry)) (now (bytes .entry)) place rounds (r .round) (r .search) (r .place) (now (work .exit)) (now (list .exit)) ⌝ }
 {
-    let mut reader = reads::reader(bytes, place);
-    let round = by_reader::random_round(rows, columns, grid, work, list, &mut reader);
-    let search = by_reader::random_search(rows, columns, grid, work, &mut reader, rounds);
+    let mut reader = draw_reader::reader(bytes, place);
+    let round = reader_calls::random_round(rows, columns, grid, work, list, &mut reader);
+    let search = reader_calls::random_search(rows, columns, grid, work, &mut reader, rounds);
     ReadTwice {
         round,
         search,
@@ -367,11 +367,11 @@ fn from_11(name: &[u8], bytes: &[u8], place: usize) {
     let grid = [0i32, 0, 0, 0, -1, 0, 0, 0, 0];
     let mut work = [7i32; 46];
     let mut list = [4294967295u32; 10];
-    let rolled = by_reader::round_from(3, 3, &grid, &mut work, &mut list, bytes, place);
+    let rolled = reader_calls::round_from(3, 3, &grid, &mut work, &mut list, bytes, place);
     report(name, answers::of_rolled(rolled));
     trials::print_list(&list);
     trials::print_area(&work);
-    let searched = by_reader::search_from(3, 3, &grid, &mut work, bytes, place, 1);
+    let searched = reader_calls::search_from(3, 3, &grid, &mut work, bytes, place, 1);
     report(b" a search", answers::of_rolled(searched));
     trials::print_area(&work);
 }
@@ -385,7 +385,7 @@ fn froms() {
 
 // A draw among 8 by a reader at a place: what is taken, and where the next draw reads.
 fn drawn(bytes: &[u8], place: usize) {
-    let draw = reads::draw_from(bytes, place, 8);
+    let draw = draw_reader::draw_from(bytes, place, 8);
     trials::print_number(place as u64);
     match draw {
         Drawn::Place(taken, _) => {
@@ -397,7 +397,7 @@ fn drawn(bytes: &[u8], place: usize) {
         }
     }
     io::write_all(1, b", then at");
-    trials::print_number(reads::place_after(draw, place) as u64);
+    trials::print_number(draw_reader::place_after(draw, place) as u64);
     io::write_all(1, b"\n");
 }
 

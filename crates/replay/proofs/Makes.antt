@@ -8,9 +8,9 @@ use mathlib.Core.Option.{none, some}
 use lib.Dec.{T, T-not, eqb, eqb→eq, lt→ltb, ltb}
 use lib.IntN.{ℤ}
 use lib.ListN.{getD}
-use Rattle.area.proofs.Held.{kind-mine}
+use Rattle.area.proofs.Held.{content-mine}
 use Rattle.area.specs.Squares.{squareOf}
-use Rattle.area.specs.Numbers.{kindAt, stateAt}
+use Rattle.area.specs.Numbers.{contentAt, stateAt}
 use Rattle.game.specs.Grid.{Grid, mine, safe, size, square, zeroCell}
 use Rattle.game.specs.Lists.{all-of, bit, count}
 use Rattle.game.specs.Moves.{Move, cellOf, chord, chordable, flag, left, legal, legalRead, play, readMove}
@@ -29,7 +29,7 @@ use Rattle.replay.specs.declared.Made.{Made}
 use Rattle.replay.specs.declared.Made.the-variants.{Illegal, Played}
 use Rattle.play.proofs.Changes.{flag-count}
 use Rattle.play.proofs.Chords.{square-of}
-use Rattle.play.proofs.Reveals.{inside, is-closed, is-mine, is-safe, is-zero, kind-read, not-closed, size-is, state-read}
+use Rattle.play.proofs.Reveals.{inside, is-closed, is-mine, is-safe, is-zero, content-read, not-closed, size-is, state-read}
 use borrow.Author.Tests.{eq-eqb, ne-eqb}
 
 -- ---- all pass a test where none passes its opposite
@@ -59,7 +59,7 @@ module _ (rows columns : ℕ) (g : Grid) (s : Position) (old w : List ℤ) (i : 
 
   -- ---- L
 
-  pub left-mine : (k : ℕ) → k ≡ kindAt w i → k ≡ 0 → Making rows columns g s old (legal g s (left i)) (some (left i)) Illegal w w
+  pub left-mine : (k : ℕ) → k ≡ contentAt w i → k ≡ 0 → Making rows columns g s old (legal g s (left i)) (some (left i)) Illegal w w
   unfolding legal
   left-mine k e z =
       illegal (left i) (λ t. T-not (mine g i) (and-right (ltb i (size g)) (safe g i) (and-left (ltb i (size g) && safe g i) (closed s i) t))
@@ -70,7 +70,7 @@ module _ (rows columns : ℕ) (g : Grid) (s : Position) (old w : List ℤ) (i : 
   left-state m e n =
       illegal (left i) (λ t. not-closed rows columns g s old w i h st m e n (and-right (ltb i (size g) && safe g i) (closed s i) t))
 
-  pub left-played : (k m : ℕ) (r : Opened) (v : List ℤ) → k ≡ kindAt w i → (k ≡ 0 → ⊥) → m ≡ stateAt w i → m ≡ 0 → Revealing rows columns g s old i r v
+  pub left-played : (k m : ℕ) (r : Opened) (v : List ℤ) → k ≡ contentAt w i → (k ≡ 0 → ⊥) → m ≡ stateAt w i → m ≡ 0 → Revealing rows columns g s old i r v
       → Making rows columns g s old (legal g s (left i)) (some (left i)) (Played r) w v
   unfolding play
   left-played k m r v ek nk em zm q =
@@ -78,7 +78,7 @@ module _ (rows columns : ℕ) (g : Grid) (s : Position) (old w : List ℤ) (i : 
 
   -- ---- F
 
-  pub flag-safe : (k : ℕ) → k ≡ kindAt w i → (k ≡ 0 → ⊥) → Making rows columns g s old (legal g s (flag i)) (some (flag i)) Illegal w w
+  pub flag-safe : (k : ℕ) → k ≡ contentAt w i → (k ≡ 0 → ⊥) → Making rows columns g s old (legal g s (flag i)) (some (flag i)) Illegal w w
   unfolding legal
   flag-safe k e n =
       illegal (flag i) (λ t. T-not (mine g i) (is-safe rows columns g s old w i h st k e n)
@@ -89,7 +89,7 @@ module _ (rows columns : ℕ) (g : Grid) (s : Position) (old w : List ℤ) (i : 
   flag-state m e n =
       illegal (flag i) (λ t. not-closed rows columns g s old w i h st m e n (and-right (ltb i (size g) && mine g i) (closed s i) t))
 
-  pub flag-played : (k m : ℕ) (v : List ℤ) → k ≡ kindAt w i → k ≡ 0 → m ≡ stateAt w i → m ≡ 0
+  pub flag-played : (k m : ℕ) (v : List ℤ) → k ≡ contentAt w i → k ≡ 0 → m ≡ stateAt w i → m ≡ 0
       → (T (mine g i) → T (closed s i) → Stands rows columns g (play g s (flag i)) old v)
       → Making rows columns g s old (legal g s (flag i)) (some (flag i)) (Played (record { cells = 0 })) w v
   unfolding play
@@ -105,7 +105,7 @@ module _ (rows columns : ℕ) (g : Grid) (s : Position) (old w : List ℤ) (i : 
   bare-read : (j : ℕ) → j < rows * columns → unflaggedAt w j ≡ unflagged g s j
   unfolding unflaggedAt
   bare-read j b =
-      rw (kind-read rows columns g s old w j b st (kindAt w j) refl, state-read rows columns g s old w j b st (stateAt w j) refl, kind-mine g j)
+      rw (content-read rows columns g s old w j b st (contentAt w j) refl, state-read rows columns g s old w j b st (stateAt w j) refl, content-mine g j)
 
   mines-counted : (n : ℕ) → n ≡ count (unflaggedAt w) (squareOf rows columns i) → all-of (λ j. not (mine g j) || flagged s j) (square g i) ≡ eqb n 0
   mines-counted n e =
@@ -128,14 +128,14 @@ module _ (rows columns : ℕ) (g : Grid) (s : Position) (old w : List ℤ) (i : 
     state-one : getD s i 0 ≡ 1
     state-one = sym (state-read rows columns g s old w i h st m em) ∙ om
 
-    pub zero-opened : (k : ℕ) → k ≡ kindAt w i → k ≡ 1 → false ≡ chordable g s i
+    pub zero-opened : (k : ℕ) → k ≡ contentAt w i → k ≡ 1 → false ≡ chordable g s i
     unfolding chordable
     zero-opened k e o =
         sym (no→false (chordable g s i) (λ t. T-not (zeroCell g i)
         (and-right (opened s i) (not (zeroCell g i)) (and-left (opened s i && not (zeroCell g i)) (all-of (λ j. not (mine g j) || flagged s j) (square g i)) t))
         (subst T (sym (eq-eqb k 1 o) ∙ is-zero rows columns g s old w i h st k e) tt)))
 
-    pub mines-decide : (k n : ℕ) → k ≡ kindAt w i → (k ≡ 1 → ⊥) → n ≡ count (unflaggedAt w) (squareOf rows columns i) → eqb n 0 ≡ chordable g s i
+    pub mines-decide : (k n : ℕ) → k ≡ contentAt w i → (k ≡ 1 → ⊥) → n ≡ count (unflaggedAt w) (squareOf rows columns i) → eqb n 0 ≡ chordable g s i
     unfolding chordable
     mines-decide k n ek nk en =
         rw (mines-counted n en, state-one, ← is-zero rows columns g s old w i h st k ek, ne-eqb k 1 nk)

@@ -28,7 +28,7 @@ pub record Onward (rows columns : ℕ) (g : Grid) (s : Position) (old : List ℤ
   pub rest : replayFrom g 0 s ms ≡ replayFrom g place position (drop place ms)
 
 -- whatever tidy position the replay began with
-pub record Midway (rows columns : ℕ) (w₀ : List ℤ) (ms : List ℕ) (safe place closed : ℕ) (w : List ℤ) : Type 0 where
+pub record ReplayMidway (rows columns : ℕ) (w₀ : List ℤ) (ms : List ℕ) (safe place closed : ℕ) (w : List ℤ) : Type 0 where
   pub onward : (g : Grid) (s : Position) (old : List ℤ) → Stands rows columns g s old w₀ → Tidy g s → safe ≡ closedSafe g s → Onward rows columns g s old ms place closed w
 
 -- a move was made, whatever tidy position w stood for
@@ -36,7 +36,7 @@ abbrev pub Makes : ℕ → ℕ → ℕ → Made → List ℤ → List ℤ → Ty
 Makes rows columns word r w v =
     (g : Grid) (s : Position) (old : List ℤ) → Stands rows columns g s old w → Tidy g s → Making rows columns g s old (legalRead g s (readMove word)) (readMove word) r w v
 
-pub begins : (rows columns : ℕ) (w : List ℤ) (ms : List ℕ) (safe : ℕ) → Midway rows columns w ms safe 0 safe w
+pub begins : (rows columns : ℕ) (w : List ℤ) (ms : List ℕ) (safe : ℕ) → ReplayMidway rows columns w ms safe 0 safe w
 begins rows columns w ms safe =
     record { onward = λ g s old t f e. record { position = s; stands = t; tidy = f; still = e; rest = refl } }
 
@@ -50,7 +50,7 @@ turn-illegal : (g : Grid) (k : ℕ) (t : Position) (x : ℕ) (xs : List ℕ) →
 turn-illegal g k t x xs e =
     ap (λ (b : Bool). elim b as (λ _. Replayed) [ true ↦ replayFrom g (suc k) (playRead g t (readMove x)) xs | false ↦ stopped k t ]) e
 
-module _ (rows columns : ℕ) (w₀ : List ℤ) (list : List ℕ) (count safe place closed : ℕ) (w : List ℤ) (m : Midway rows columns w₀ (take count list) safe place closed w) where
+module _ (rows columns : ℕ) (w₀ : List ℤ) (list : List ℕ) (count safe place closed : ℕ) (w : List ℤ) (m : ReplayMidway rows columns w₀ (take count list) safe place closed w) where
   module _ (fits : count ≤ length list) (h : place < count) (r : Made) (v : List ℤ) (made : Makes rows columns (getD list place 0) r w v) where
     abbrev word : ℕ
     word = getD list place 0
@@ -62,7 +62,7 @@ module _ (rows columns : ℕ) (w₀ : List ℤ) (list : List ℕ) (count safe pl
         ∙ ap (λ (x : ℕ). x ∷ drop (suc place) (take count list)) (getD-take count list place 0 h)
 
     -- a legal move
-    pub goes-on : (n : Opened) (after : ℕ) → r ≡ Played n → after ≡ closed - n .cells → Midway rows columns w₀ (take count list) safe (place + 1) after v
+    pub goes-on : (n : Opened) (after : ℕ) → r ≡ Played n → after ≡ closed - n .cells → ReplayMidway rows columns w₀ (take count list) safe (place + 1) after v
     goes-on n after e d =
         record { onward = λ g s old t f q. let o = m .onward g s old t f q in on g s old o (legalRead g (o .position) (readMove word)) refl (made g (o .position) old (o .stands) (o .tidy)) }
       where

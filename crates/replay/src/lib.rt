@@ -33,8 +33,8 @@ fn unflagged(work: &[i32], index: usize) -> usize
     requires { ⌜ HasCell (now work) index ⌝ }
     ensures { λ r. ⌜ r ≡ bit (unflaggedAt (now (work .entry)) index) ⌝ }
 {
-    let kind = area::kind(work, index);
-    if kind > 0 {
+    let content = area::content(work, index);
+    if content > 0 {
         return 0;
     }
     let state = area::state(work, index);
@@ -92,8 +92,8 @@ fn chordable(work: &[i32], rows: usize, columns: usize, index: usize) -> bool
     if state != 1 {
         return false;
     }
-    let kind = area::kind(work, index);
-    if kind == 1 {
+    let content = area::content(work, index);
+    if content == 1 {
         return false;
     }
     let mines = unflagged_square(work, rows, columns, index);
@@ -107,8 +107,8 @@ fn make_left(work: &mut [i32], rows: usize, columns: usize, index: usize) -> Mad
     ensures { λ r. ⌜ ((g : Grid) (s : Position) (old : List ℤ) → Stands rows columns g s old (now (work .entry)) → Tidy g s
         → Making rows columns g s old (legal g s (leftMove index)) (some (leftMove index)) r (now (work .entry)) (now (work .exit))) ⌝ }
 {
-    let kind = area::kind(work, index);
-    if kind == 0 {
+    let content = area::content(work, index);
+    if content == 0 {
         return Made::Illegal;
     }
     let state = area::state(work, index);
@@ -125,8 +125,8 @@ fn make_flag(work: &mut [i32], rows: usize, columns: usize, index: usize) -> Mad
     ensures { λ r. ⌜ ((g : Grid) (s : Position) (old : List ℤ) → Stands rows columns g s old (now (work .entry))
         → Making rows columns g s old (legal g s (flagMove index)) (some (flagMove index)) r (now (work .entry)) (now (work .exit))) ⌝ }
 {
-    let kind = area::kind(work, index);
-    if kind != 0 {
+    let content = area::content(work, index);
+    if content != 0 {
         return Made::Illegal;
     }
     let state = area::state(work, index);

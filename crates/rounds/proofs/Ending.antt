@@ -9,8 +9,8 @@ use lib.Dec.{T, eqb}
 use lib.IntN.{ℤ}
 use lib.ListN.{drop, length, length-map}
 use lib.Seq.{sets, sets-eq}
-use Rattle.area.proofs.Held.{kind-mine}
-use Rattle.area.specs.Numbers.{kindAt, stateAt}
+use Rattle.area.proofs.Held.{content-mine}
+use Rattle.area.specs.Numbers.{contentAt, stateAt}
 use Rattle.moves.specs.declared.State.{State}
 use Rattle.area.specs.Stages.{Stands}
 use Rattle.game.specs.Area.{listOf}
@@ -21,14 +21,14 @@ use Rattle.game.specs.Moves.{Move, after, word}
 use Rattle.game.specs.Position.{Position, Tidy, closed, closedSafe, closedUnits, untouched}
 use Rattle.game.specs.Rounds.{firstSteps, movesOf, openingClicks, roundSteps, stepsFrom, stepsOn}
 use Rattle.moves.specs.Promises.{Made}
-use Rattle.rounds.specs.Promises.{Fresh, Going, Round}
+use Rattle.rounds.specs.Promises.{Fresh, Going, RoundPlayed}
 use Rattle.game.proofs.Counts.{count-ext}
 use Rattle.game.proofs.Onwards.{first-falls, round-on}
 use Rattle.game.proofs.Rounds.{greedy-sound, openings-first-sound}
 use Rattle.game.proofs.Runs.{moves-append}
 use Rattle.game.proofs.Squares.{cells→}
 use Rattle.game.proofs.Tidy.{untouched-tidy}
-use Rattle.play.proofs.Reveals.{kind-read, state-read}
+use Rattle.play.proofs.Reveals.{content-read, state-read}
 use Rattle.moves.proofs.Joins.{made-both, made-none}
 
 -- ---- one work area stands for positions with as many closed safe cells
@@ -47,11 +47,11 @@ module _ (rows columns : ℕ) (g k : Grid) (s p : Position) (old other w : List 
       alike : (i : ℕ) → T (has i (cells g)) → (safe g i && closed s i) ≡ (safe k i && closed p i)
       alike i t =
           let h : i < rows * columns = omega (arith, cells→ g i t, ap₂ _*_ (st .rows-are) (st .columns-are)) in
-          let a = kind-read rows columns g s old w i h st (kindAt w i) refl in
-          let b = kind-read rows columns k p other w i h su (kindAt w i) refl in
+          let a = content-read rows columns g s old w i h st (contentAt w i) refl in
+          let b = content-read rows columns k p other w i h su (contentAt w i) refl in
           let c = state-read rows columns g s old w i h st (stateAt w i) refl in
           let d = state-read rows columns k p other w i h su (stateAt w i) refl in
-          ap₂ (λ x y. not x && eqb y 0) (sym (kind-mine g i) ∙ ap (λ (n : ℕ). eqb n 0) (sym a ∙ b) ∙ kind-mine k i) (sym c ∙ d)
+          ap₂ (λ x y. not x && eqb y 0) (sym (content-mine g i) ∙ ap (λ (n : ℕ). eqb n 0) (sym a ∙ b) ∙ content-mine k i) (sym c ∙ d)
 
 -- ---- the first steps
 
@@ -108,7 +108,7 @@ pub rounded : (rows columns : ℕ) (g : Grid) (old w : List ℤ) (first : Bool) 
     → Fresh rows columns w (t .closed) → Stands rows columns g (untouched g) old w → rows * columns ≤ length list
     → (Tidy g (untouched g) → t .closed ≡ closedSafe g (untouched g)
     → Made rows columns g (untouched g) old (movesOf (stepsOn first g (untouched g))) list t w′ list′ t′)
-    → t .moves ≡ 0 → Round rows columns g old (movesOf (roundSteps first g)) list (t′ .moves) w′ list′
+    → t .moves ≡ 0 → RoundPlayed rows columns g old (movesOf (roundSteps first g)) list (t′ .moves) w′ list′
 rounded rows columns g old w first list t w′ list′ t′ f st room goes none =
     let ms = movesOf (roundSteps first g) in
     let m : Made rows columns g (untouched g) old ms list t w′ list′ t′ =

@@ -30,16 +30,16 @@ pub record Left (openedOnly : Bool) (g : Grid) (s : Position) (n : ℕ) (done : 
   pub all : movesOf (stepsFrom n openedOnly g s) ≡ done ++ movesOf (stepsFrom k openedOnly g (after g s done))
 
 -- whatever tidy position the steps began with
-pub record Midway (openedOnly : Bool) (rows columns : ℕ) (w : List ℤ) (list : List ℕ) (t : State) (w′ : List ℤ) (list′ : List ℕ) (t′ : State) : Type 0 where
+pub record StepsMidway (openedOnly : Bool) (rows columns : ℕ) (w : List ℤ) (list : List ℕ) (t : State) (w′ : List ℤ) (list′ : List ℕ) (t′ : State) : Type 0 where
   pub partway : (g : Grid) (s : Position) (old : List ℤ) (n : ℕ) → Stands rows columns g s old w → Tidy g s → t .closed ≡ closedSafe g s → closedUnits g s ≤ n
       → Partway rows columns g s old list t (Left openedOnly g s n) w′ list′ t′
 
 module _ (openedOnly : Bool) (rows columns : ℕ) (w : List ℤ) (list : List ℕ) (t : State) where
-  pub midway-begins : Midway openedOnly rows columns w list t w list t
+  pub midway-begins : StepsMidway openedOnly rows columns w list t w list t
   midway-begins =
       record { partway = λ g s old n st f e k. partway-begins rows columns g s old list t (Left openedOnly g s n) w n st f e k (record { all = refl }) }
 
-  module _ (v : List ℤ) (l : List ℕ) (u : State) (m : Midway openedOnly rows columns w list t v l u) where
+  module _ (v : List ℤ) (l : List ℕ) (u : State) (m : StepsMidway openedOnly rows columns w list t v l u) where
     -- the way from the position that w is known to stand for
     pub known : (o : Going rows columns w t) → Partway rows columns (o .grid) (o .position) (o .old) list t (Left openedOnly (o .grid) (o .position) (closedUnits (o .grid) (o .position))) v l u
     known o = m .partway (o .grid) (o .position) (o .old) (closedUnits (o .grid) (o .position)) (o .stands) (o .tidy) (o .counts) (omega arith)
@@ -84,5 +84,5 @@ module _ (openedOnly : Bool) (rows columns : ℕ) (w : List ℤ) (list : List �
       pub closed-falls : Going rows columns w t → t′ .closed < u .closed
       closed-falls o = falls (o .grid) (o .position) (o .old) (closedUnits (o .grid) (o .position)) (known o)
 
-      pub midway-goes-on : Midway openedOnly rows columns w list t w′ list′ t′
+      pub midway-goes-on : StepsMidway openedOnly rows columns w list t w′ list′ t′
       midway-goes-on = record { partway = λ g s old n st f e k. onward g s old n (m .partway g s old n st f e k) }

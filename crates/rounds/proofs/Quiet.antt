@@ -77,20 +77,20 @@ abbrev Off : Grid → Position → ℕ → ℕ → Type 0
 Off g s i j = (z : ℕ) → T (has z (square g i)) → T (zeroCell g z) → T (closed s z) → T (holds g j (joinedTo g z)) → ⊥
 
 -- such a cell has its state, unless it stands in the square and is no 0-cell; and no 0-cell is closed again
-record Kept (g : Grid) (i : ℕ) (s s′ : Position) : Type 0 where
+record Spared (g : Grid) (i : ℕ) (s s′ : Position) : Type 0 where
   pub same : (j : ℕ) → j < size g → (T (has j (square g i)) → T (zeroCell g j)) → Off g s i j → getD s′ j 0 ≡ getD s j 0
   pub shut : (j : ℕ) → j < size g → T (zeroCell g j) → T (closed s′ j) → T (closed s j)
 
 module _ (g : Grid) (s : Position) (i : ℕ) (inside : i < size g) where
-  kept-set : (s′ : Position) (c v : ℕ) → T (has c (square g i)) → (T (zeroCell g c) → ⊥) → Kept g i s s′ → Kept g i s (set s′ c v)
-  kept-set s′ c v t n k =
+  spared-set : (s′ : Position) (c v : ℕ) → T (has c (square g i)) → (T (zeroCell g c) → ⊥) → Spared g i s s′ → Spared g i s (set s′ c v)
+  spared-set s′ c v t n k =
       record {
         same = λ j h f off. getD-set-other s′ c j v 0 (λ e. n (subst (λ (x : ℕ). T (zeroCell g x)) e (f (rw e t)))) ∙ k .same j h f off;
         shut = λ j h z u. k .shut j h z (subst (λ (x : ℕ). T (eqb x 0)) (getD-set-other s′ c j v 0 (λ e. n (subst (λ (x : ℕ). T (zeroCell g x)) e z))) u);
       }
 
   -- an opening swept is one that a closed 0-cell of the square is of
-  kept-sweep : (s′ : Position) (c : ℕ) → T (has c (square g i)) → T (closed s′ c) → T (zeroCell g c) → Kept g i s s′ → Kept g i s (sweep g s′ c)
+  kept-sweep : (s′ : Position) (c : ℕ) → T (has c (square g i)) → T (closed s′ c) → T (zeroCell g c) → Spared g i s s′ → Spared g i s (sweep g s′ c)
   kept-sweep s′ c t b z k =
       record {
         same = λ j h f off.
@@ -100,26 +100,26 @@ module _ (g : Grid) (s : Position) (i : ℕ) (inside : i < size g) where
         shut = λ j h y u. k .shut j h y (sweep-closed g s′ c j h u);
       }
 
-  kept-reveal : (s′ : Position) (c : ℕ) → T (has c (square g i)) → Kept g i s s′ → Kept g i s (reveal g s′ c)
-  kept-reveal s′ c t k = go (reveal g s′ c) (revealed g s′ c)
+  spared-reveal : (s′ : Position) (c : ℕ) → T (has c (square g i)) → Spared g i s s′ → Spared g i s (reveal g s′ c)
+  spared-reveal s′ c t k = go (reveal g s′ c) (revealed g s′ c)
     where
-      go : (p : Position) → Revealed g s′ c p → Kept g i s p
+      go : (p : Position) → Revealed g s′ c p → Spared g i s p
       go p (stays m) = k
-      go p (opens a b m) = kept-set s′ c 1 t m k
+      go p (opens a b m) = spared-set s′ c 1 t m k
       go p (sweeps a b z) = kept-sweep s′ c t b z k
 
-  kept-play : (s′ : Position) (m : Move) → MoveAt g i m → Kept g i s s′ → Kept g i s (play g s′ m)
+  kept-play : (s′ : Position) (m : Move) → MoveAt g i m → Spared g i s s′ → Spared g i s (play g s′ m)
   unfolding play
-  kept-play s′ m opens-it k = kept-reveal s′ i (in-own-square g i inside) k
+  kept-play s′ m opens-it k = spared-reveal s′ i (in-own-square g i inside) k
   kept-play s′ m (flags-one c t u) k =
-      kept-set s′ c 2 t (λ z. T-not (mine g c) (zero-safe g c (record { inside = square→ g i c inside t .0; none = z })) u) k
-  kept-play s′ m chords-it k = fold-inv (Kept g i s) (reveal g) (square g i) (λ p c t. kept-reveal p c t) s′ k
+      spared-set s′ c 2 t (λ z. T-not (mine g c) (zero-safe g c (record { inside = square→ g i c inside t .0; none = z })) u) k
+  kept-play s′ m chords-it k = fold-inv (Spared g i s) (reveal g) (square g i) (λ p c t. spared-reveal p c t) s′ k
 
-  kept-after : (ms : List Move) (s′ : Position) → Each (MoveAt g i) ms → Kept g i s s′ → Kept g i s (after g s′ ms)
+  kept-after : (ms : List Move) (s′ : Position) → Each (MoveAt g i) ms → Spared g i s s′ → Spared g i s (after g s′ ms)
   kept-after [] s′ e k = k
   kept-after (m ∷ ms) s′ e k = kept-after ms (play g s′ m) (e .1) (kept-play s′ m (e .0) k)
 
-  kept : (ms : List Move) → Each (MoveAt g i) ms → Kept g i s (after g s ms)
+  kept : (ms : List Move) → Each (MoveAt g i) ms → Spared g i s (after g s ms)
   kept ms e = kept-after ms s e (record { same = λ j h f off. refl; shut = λ j h z u. u })
 
 -- ---- a premium is told by the unlabelled cells and the mines of its square, the cell itself and the 0-cells of its openings
@@ -195,7 +195,7 @@ module _ (g : Grid) (s : Position) (i : ℕ) (inside : i < size g) (ms : List Mo
       → (gain g (after g s ms) j ≡ gain g s j) × (cost g (after g s ms) j ≡ cost g s j) × (getD (after g s ms) j 0 ≡ getD s j 0)
   quiet j h still = (same-gain g s (after g s ms) j zeros bare, same-cost g s (after g s ms) j own mines, own)
     where
-      k : Kept g i s (after g s ms)
+      k : Spared g i s (after g s ms)
       k = kept g s i inside ms at
 
       off : Off g s i j

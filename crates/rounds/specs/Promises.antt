@@ -11,16 +11,16 @@ use Rattle.game.specs.Moves.{Move, after}
 use Rattle.game.specs.Area.{listOf}
 use Rattle.game.specs.Rounds.{Choice, choice, chords, clicks, stepOf}
 use Rattle.area.specs.Stages.{Stands}
-use Rattle.choices.specs.Tops.{Kept, UnitsKept}
+use Rattle.choices.specs.Tops.{TopsKnown, UnitsKnown}
 use Rattle.moves.specs.Promises.{Made}
 use Rattle.moves.specs.declared.State.{State}
 use Rattle.rounds.specs.declared.Stepped.{Stepped}
 
 -- the moves ms were made from position s on, and what is kept of the columns is right again; so is what was kept of their closed units, but for those now marked
-pub record MadeKept (openedOnly : Bool) (rows columns : ℕ) (g : Grid) (s : Position) (old : List ℤ) (ms : List Move) (list : List ℕ) (w : List ℤ) (tops : List ℕ) (t : State) (w′ : List ℤ) (list′ tops′ : List ℕ) (t′ : State) : Type 0 where
+pub record MadeKnown (openedOnly : Bool) (rows columns : ℕ) (g : Grid) (s : Position) (old : List ℤ) (ms : List Move) (list : List ℕ) (w : List ℤ) (tops : List ℕ) (t : State) (w′ : List ℤ) (list′ tops′ : List ℕ) (t′ : State) : Type 0 where
   pub made : Made rows columns g s old ms list t w′ list′ t′
-  pub kept : Kept openedOnly w rows columns tops → Kept openedOnly w′ rows columns tops′
-  pub units-kept : (units : List ℕ) → UnitsKept w rows columns units units → UnitsKept w′ rows columns tops′ units
+  pub kept : TopsKnown openedOnly w rows columns tops → TopsKnown openedOnly w′ rows columns tops′
+  pub units-kept : (units : List ℕ) → UnitsKnown w rows columns units units → UnitsKnown w′ rows columns tops′ units
 
 -- the column at which the next search for the lowest closed unit begins: that of the cell of one L, else as before the step
 abbrev pub columnAfter : Grid → Choice → ℕ → ℕ
@@ -28,9 +28,9 @@ columnAfter g (chords is) from = from
 columnAfter g (clicks is) from = columnOf g (getD is 0 0)
 
 -- a step by the lowest index was made, what is kept of the columns is right again, and the column is handed on
-pub record StepKept (openedOnly : Bool) (rows columns : ℕ) (g : Grid) (s : Position) (old : List ℤ) (list : List ℕ) (t : State) (from : ℕ) (w′ : List ℤ) (list′ tops′ : List ℕ) (r : Stepped) : Type 0 where
+pub record StepKnown (openedOnly : Bool) (rows columns : ℕ) (g : Grid) (s : Position) (old : List ℤ) (list : List ℕ) (t : State) (from : ℕ) (w′ : List ℤ) (list′ tops′ : List ℕ) (r : Stepped) : Type 0 where
   pub made : Made rows columns g s old (stepOf g s (choice openedOnly g s) 0 .moves) list t w′ list′ (r .state)
-  pub kept : Kept openedOnly w′ rows columns tops′
+  pub kept : TopsKnown openedOnly w′ rows columns tops′
   pub column : r .from ≡ columnAfter g (choice openedOnly g s) from
 
 -- a state that counts the safe cells still closed in a tidy position that the area stands for
@@ -50,7 +50,7 @@ pub record Fresh (rows columns : ℕ) (w : List ℤ) (safe : ℕ) : Type 0 where
   pub counts : safe ≡ closedSafe grid (untouched grid)
 
 -- a round of the moves ms: its clicks, the area at its end, and the list with its moves
-pub record Round (rows columns : ℕ) (g : Grid) (old : List ℤ) (ms : List Move) (list : List ℕ) (r : ℕ) (w′ : List ℤ) (list′ : List ℕ) : Type 0 where
+pub record RoundPlayed (rows columns : ℕ) (g : Grid) (old : List ℤ) (ms : List Move) (list : List ℕ) (r : ℕ) (w′ : List ℤ) (list′ : List ℕ) : Type 0 where
   pub clicks : r ≡ length ms
   pub stands : Stands rows columns g (after g (untouched g) ms) old w′
   pub listed : list′ ≡ listOf ms list

@@ -17,8 +17,8 @@ ghost use Rattle.game.specs.Moves.{left};
 ghost use Rattle.game.specs.Rounds.{movesAt, topCells, unitCells};
 ghost use Rattle.area.specs.Stages.{Shape, Stands, Standing};
 ghost use Rattle.choices.specs.Tests.{NoUnitBelow};
-ghost use Rattle.choices.specs.Tops.{Kept};
-ghost use Rattle.rounds.specs.Promises.{MadeKept, StepKept};
+ghost use Rattle.choices.specs.Tops.{TopsKnown};
+ghost use Rattle.rounds.specs.Promises.{MadeKnown, StepKnown};
 
 // L on a closed safe cell, where no premium reaches 0; the columns that it may change are marked.
 pub fn click_at(
@@ -34,7 +34,7 @@ pub fn click_at(
     requires { ⌜ HasCells (now work) (rows * columns) × (index < rows * columns) × (state .moves ≤ 2 ^ 45) ⌝ }
     ensures { λ r. ⌜ ((openedOnly : Bool) (g : Grid) (s : Position) (old : List ℤ) → Stands rows columns g s old (now (work .entry)) → Tidy g s
         → T (safe g index) → T (isClosed s index) → topCells openedOnly g s ≡ [] → state .closed ≡ closedSafe g s
-        → MadeKept openedOnly rows columns g s old (left index ∷ []) (now (list .entry)) (now (work .entry)) (now (tops .entry)) state (now (work .exit)) (now (list .exit)) (now (tops .exit)) r) ⌝ }
+        → MadeKnown openedOnly rows columns g s old (left index ∷ []) (now (list .entry)) (now (work .entry)) (now (tops .entry)) state (now (work .exit)) (now (list .exit)) (now (tops .exit)) r) ⌝ }
 {
     marks::mark_click(work, rows, columns, tops, index);
     single::click(work, rows, columns, list, state, index)
@@ -54,7 +54,7 @@ pub fn act_at(
     requires { ⌜ HasCells (now work) (rows * columns) × (index < rows * columns) × (state .moves ≤ 2 ^ 45) ⌝ }
     ensures { λ r. ⌜ ((openedOnly : Bool) (g : Grid) (s : Position) (old : List ℤ) → Stands rows columns g s old (now (work .entry)) → Tidy g s
         → T (safe g index) → (T (zeroCell g index) → ⊥) → state .closed ≡ closedSafe g s
-        → MadeKept openedOnly rows columns g s old (movesAt g s index) (now (list .entry)) (now (work .entry)) (now (tops .entry)) state (now (work .exit)) (now (list .exit)) (now (tops .exit)) r) ⌝ }
+        → MadeKnown openedOnly rows columns g s old (movesAt g s index) (now (list .entry)) (now (work .entry)) (now (tops .entry)) state (now (work .exit)) (now (list .exit)) (now (tops .exit)) r) ⌝ }
 {
     marks::mark(work, rows, columns, tops, index);
     single::act(work, rows, columns, list, state, index)
@@ -75,7 +75,7 @@ pub fn click_lowest(
     requires { ⌜ Standing rows columns (now work) ⌝ }
     ensures { λ r. ⌜ ((openedOnly : Bool) (g : Grid) (s : Position) (old : List ℤ) → Stands rows columns g s old (now (work .entry)) → Tidy g s
         → 1 ≤ length (unitCells g s) → topCells openedOnly g s ≡ [] → state .closed ≡ closedSafe g s
-        → MadeKept openedOnly rows columns g s old (left (getD (unitCells g s) 0 0) ∷ []) (now (list .entry)) (now (work .entry)) (now (tops .entry)) state (now (work .exit)) (now (list .exit)) (now (tops .exit)) (r .state)
+        → MadeKnown openedOnly rows columns g s old (left (getD (unitCells g s) 0 0) ∷ []) (now (list .entry)) (now (work .entry)) (now (tops .entry)) state (now (work .exit)) (now (list .exit)) (now (tops .exit)) (r .state)
         × (r .from ≡ columnOf g (getD (unitCells g s) 0 0))) ⌝ }
 {
     let lowest = choices::units::lowest(work, rows, columns, from);
@@ -105,13 +105,13 @@ pub fn step(
 ) -> Stepped
     requires { ⌜ Shape rows columns ⌝ }
     requires { ⌜ HasCells (now work) (rows * columns) × (state .moves ≤ 2 ^ 45) × (from ≤ columns) × NoUnitBelow (now work) (from * rows) ⌝ }
-    requires { ⌜ Kept «opened_only» (now work) rows columns (now tops) ⌝ }
+    requires { ⌜ TopsKnown «opened_only» (now work) rows columns (now tops) ⌝ }
     requires { ⌜ Standing rows columns (now work) ⌝ }
     ensures { λ r. ⌜ ((g : Grid) (s : Position) (old : List ℤ) → Stands rows columns g s old (now (work .entry)) → Tidy g s
         → 1 ≤ closedSafe g s → state .closed ≡ closedSafe g s
-        → StepKept «opened_only» rows columns g s old (now (list .entry)) state from (now (work .exit)) (now (list .exit)) (now (tops .exit)) r) ⌝ }
+        → StepKnown «opened_only» rows columns g s old (now (list .entry)) state from (now (work .exit)) (now (list .exit)) (now (tops .exit)) r) ⌝ }
 {
-    let found = choices::kept::best(work, rows, columns, tops, opened_only);
+    let found = choices::known::best(work, rows, columns, tops, opened_only);
     match found {
         Found::At(index) => {
             let chorded = act_at(work, rows, columns, list, tops, state, index);

@@ -12,9 +12,9 @@ ghost use Rattle.game.specs.Grid.{Grid};
 ghost use Rattle.game.specs.Position.{Position, Tidy, closedSafe, closedUnits, untouched};
 ghost use Rattle.game.specs.Rounds.{movesOf, stepsFrom, roundSteps, firstSteps, stepsOn};
 ghost use Rattle.area.specs.Stages.{Shape, Stands};
-ghost use Rattle.choices.specs.Tops.{Kept};
+ghost use Rattle.choices.specs.Tops.{TopsKnown};
 ghost use Rattle.moves.specs.Promises.{Made};
-ghost use Rattle.rounds.specs.Promises.{Going, Fresh, Round};
+ghost use Rattle.rounds.specs.Promises.{Going, Fresh, RoundPlayed};
 
 // Steps by the lowest index until all safe cells are open.
 pub fn play_on(
@@ -29,7 +29,7 @@ pub fn play_on(
     requires { ⌜ Shape rows columns ⌝ }
     requires { ⌜ HasCells (now work) (rows * columns) × (state .moves ≤ 2 ^ 33) ⌝ }
     requires { ⌜ Going rows columns (now work) state ⌝ }
-    requires { ⌜ Kept «opened_only» (now work) rows columns (now tops) ⌝ }
+    requires { ⌜ TopsKnown «opened_only» (now work) rows columns (now tops) ⌝ }
     ensures { λ r. ⌜ ((g : Grid) (s : Position) (old : List ℤ) (n : ℕ) → Stands rows columns g s old (now (work .entry)) → Tidy g s
         → state .closed ≡ closedSafe g s → closedUnits g s ≤ n
         → Made rows columns g s old (movesOf (stepsFrom n «opened_only» g s)) (now (list .entry)) state (now (work .exit)) (now (list .exit)) r) ⌝ }
@@ -98,7 +98,7 @@ pub fn round(
     requires { ⌜ HasCells (now work) (rows * columns) ⌝ }
     requires { ⌜ Fresh rows columns (now work) safe ⌝ }
     ensures { λ r. ⌜ ((g : Grid) (old : List ℤ) → Stands rows columns g (untouched g) old (now (work .entry)) → rows * columns ≤ length (now (list .entry))
-        → Round rows columns g old (movesOf (roundSteps «openings_first» g)) (now (list .entry)) r (now (work .exit)) (now (list .exit))) ⌝ }
+        → RoundPlayed rows columns g old (movesOf (roundSteps «openings_first» g)) (now (list .entry)) r (now (work .exit)) (now (list .exit))) ⌝ }
 {
     let fresh = State {
         moves: 0,

@@ -8,7 +8,7 @@ use lib.Dec.{eqb}
 use lib.IntN.{ℤ}
 use lib.ListN.{length}
 use Rattle.area.specs.Numbers.{HasCells, firstAt}
-use Rattle.area.specs.Stages.{Stands, held, kind, labelledFive}
+use Rattle.area.specs.Stages.{Stands, held, content, labelledFive}
 use Rattle.game.specs.Area.{laid}
 use Rattle.game.specs.Calls.{work}
 use Rattle.game.specs.Grid.{Grid, cells, safe, size}
@@ -22,13 +22,13 @@ use Rattle.game.proofs.Labels.{first-label}
 use Rattle.game.proofs.Squares.{cells→}
 use Rattle.game.proofs.Truth.{and-true}
 use Rattle.game.proofs.Units.{closed-untouched, units-at-most-cells}
-use Rattle.area.proofs.CellByCell.{Cell, cellArea, read-first, read-kind}
-use Rattle.area.proofs.Held.{held-cells, heldCell, kind-mine}
+use Rattle.area.proofs.CellByCell.{Cell, cellArea, read-first, read-content}
+use Rattle.area.proofs.Held.{held-cells, heldCell, content-mine}
 use Rattle.premiums.proofs.Raising.{laid-alone, raised-all}
 
 -- a labelled cell
 abbrev labelledCell : Grid → ℕ → Cell
-labelledCell g x = record { first = firstLabel g x; second = secondLabel g x; premium = 0; state = 0; kind = kind g x }
+labelledCell g x = record { first = firstLabel g x; second = secondLabel g x; premium = 0; state = 0; content = content g x }
 
 labelled-cells : (g : Grid) (old : List ℤ) → laid (labelledFive g) (size g) old ≡ cellArea (labelledCell g) (size g) old
 unfolding labelledFive
@@ -39,7 +39,7 @@ module _ (g : Grid) (old : List ℤ) (room : HasCells old (size g)) where
   w = cellArea (labelledCell g) (size g) old
 
   safe-there : (i : ℕ) → i < size g → safeAt w i ≡ safe g i
-  safe-there i h = ap (λ (k : ℕ). not (eqb k 0)) (read-kind (size g) old room (labelledCell g) i h) ∙ ap not (kind-mine g i)
+  safe-there i h = ap (λ (k : ℕ). not (eqb k 0)) (read-content (size g) old room (labelledCell g) i h) ∙ ap not (content-mine g i)
 
   unlabelled-there : (i : ℕ) → i < size g → unlabelledAt w i ≡ unlabelled g i
   unlabelled-there i h =
@@ -55,13 +55,13 @@ module _ (g : Grid) (old : List ℤ) (room : HasCells old (size g)) where
         safe-there i (cells→ g i t) ∙ and-true (safe g i) ∙ ap (λ (b : Bool). safe g i && b) (sym (closed-untouched g i (cells→ g i t)))),
   )
 
-  -- laid and raised, from labels and kinds
-  begun : (C : ℕ → Cell) → ((i : ℕ) → C i .first ≡ firstLabel g i) → ((i : ℕ) → C i .second ≡ secondLabel g i) → ((i : ℕ) → C i .kind ≡ kind g i)
+  -- laid and raised, from labels and contents
+  begun : (C : ℕ → Cell) → ((i : ℕ) → C i .first ≡ firstLabel g i) → ((i : ℕ) → C i .second ≡ secondLabel g i) → ((i : ℕ) → C i .content ≡ content g i)
       → (w₁ w₂ w₃ : List ℤ) → w₁ ≡ cellArea C (size g) old → w₂ ≡ fold layCell w₁ (cells g) → w₃ ≡ fold (raiseNear (g .rows) (g .columns)) w₂ (cells g)
       → w₃ ≡ held g (untouched g) old
-  begun C firsts seconds kinds w₁ w₂ w₃ e₁ e₂ e₃ =
+  begun C firsts seconds contents w₁ w₂ w₃ e₁ e₂ e₃ =
       e₃ ∙ ap (λ (w : List ℤ). fold (raiseNear (g .rows) (g .columns)) w (cells g))
-      (e₂ ∙ ap (λ (w : List ℤ). fold layCell w (cells g)) e₁ ∙ laid-alone g old room C firsts seconds kinds) ∙ raised-all g old room
+      (e₂ ∙ ap (λ (w : List ℤ). fold layCell w (cells g)) e₁ ∙ laid-alone g old room C firsts seconds contents) ∙ raised-all g old room
 
   -- the passes one after the other
   pub begun-setting : (w₂ w₃ w₄ : List ℤ) (r b s : ℕ) → (r ≡ length (openings g)) × (w₂ ≡ laid (labelledFive g) (size g) old)

@@ -11,7 +11,7 @@ use lib.IntN.{pos, ℤ}
 use lib.ListN.{getD, length, length-set}
 use lib.Seq.{sets}
 use Rattle.area.specs.Numbers.{HasCells, firstPlace, five, rowMine}
-use Rattle.area.specs.Stages.{kind, loadedFive}
+use Rattle.area.specs.Stages.{content, loadedFive}
 use Rattle.game.specs.Area.{laid}
 use Rattle.game.specs.Grid.{Grid, index, mine, number, size, square}
 use Rattle.game.specs.Lists.{concat-map, count, fold, range}
@@ -21,7 +21,7 @@ use Rattle.game.proofs.Counts.{count-append, count-ext, count-map}
 use Rattle.game.proofs.Members.{concat-map-more, fold-columns, range-none}
 use Rattle.game.proofs.Squares.{square-at}
 use Rattle.area.proofs.Cells.{mine-here}
-use Rattle.area.proofs.Held.{kind-few}
+use Rattle.area.proofs.Held.{content-few}
 
 pub length-load : (w : List ℤ) (i k : ℕ) → length (loadAt w i k) ≡ length w
 length-load w i k = simp length-set
@@ -99,8 +99,8 @@ pub loaded-all : (g : Grid) (w : List ℤ) → HasCells w (size g)
 unfolding loadedFive
 loaded-all g w room =
     fold-columns (loadCell g) (g .rows) w (g .columns) ∙ ap (λ (n : ℕ). fold (loadCell g) w (range 0 n)) (mul-comm (g .columns) (g .rows))
-    ∙ laid-fold (loadedFive g) (λ i. refl) (size g) w room (loadCell g) (λ v i. length-load v i (kind g i))
-    (λ v i k h l b. ap (λ (u : List ℤ). getD u (5 * i + k) (pos 0)) (load-sets v i (kind g i) (kind-few g i))
+    ∙ laid-fold (loadedFive g) (λ i. refl) (size g) w room (loadCell g) (λ v i. length-load v i (content g i))
+    (λ v i k h l b. ap (λ (u : List ℤ). getD u (5 * i + k) (pos 0)) (load-sets v i (content g i) (content-few g i))
     ∙ sets-here (pos 0) (loadedFive g i) v (firstPlace i) k (omega (arith, l .long)) b)
-    (λ v i m h l o. ap (λ (u : List ℤ). getD u m (pos 0)) (load-sets v i (kind g i) (kind-few g i))
+    (λ v i m h l o. ap (λ (u : List ℤ). getD u m (pos 0)) (load-sets v i (content g i) (content-few g i))
     ∙ ⊎-elim (λ b. sets-below (pos 0) (loadedFive g i) v (firstPlace i) m b) (λ b. sets-above (pos 0) (loadedFive g i) v (firstPlace i) m b) o)

@@ -10,8 +10,8 @@ use lib.Dec.{eqb}
 use lib.IntN.{+ℤ-assoc, +ℤ-comm, +ℤ-negℤ-cancel, _+ℤ_, _-ℤ_, negℤ, pos, ℤ}
 use lib.ListN.{getD, length, length-set}
 use lib.Seq.{getD-set-other, getD-set-same}
-use Rattle.area.specs.Numbers.{HasCells, kindAt, kindPlace, natural, premiumAt, premiumPlace, putLowered}
-use Rattle.area.specs.Stages.{heldFive, kind, raised}
+use Rattle.area.specs.Numbers.{HasCells, contentAt, contentPlace, natural, premiumAt, premiumPlace, putLowered}
+use Rattle.area.specs.Stages.{heldFive, content, raised}
 use Rattle.game.specs.Area.{areaOf, fiveNumbers, keptPremium, laid}
 use Rattle.game.specs.Grid.{Grid, mine, number, size}
 use Rattle.game.specs.Lists.{fold, range}
@@ -19,23 +19,23 @@ use Rattle.game.specs.Position.{Position, cost, gain, premium}
 use Rattle.start.specs.Passes.{lowerPremium, settleCell}
 use Rattle.game.proofs.Areas.{LaidTo, laid-again, laid-ahead, laid-fold, laid-length}
 use Rattle.game.proofs.Ranges.{cost-range}
-use Rattle.area.proofs.Held.{kind-mine, raised-small}
+use Rattle.area.proofs.Held.{content-mine, raised-small}
 use Rattle.area.proofs.Puts.{cell-there, put-length, slot-here, slot-there}
 
 pub length-lowered : (w : List ℤ) (i : ℕ) → length (lowerPremium w i) ≡ length w
-length-lowered w i = go (eqb (kindAt w i) 0)
+length-lowered w i = go (eqb (contentAt w i) 0)
   where
     go : (b : Bool) → length (cond b w (putLowered w i (premiumAt w i))) ≡ length w
     go true = refl
-    go false = length-set w (kindPlace i) (pos (premiumAt w i % 2147483648) -ℤ pos 10)
+    go false = length-set w (contentPlace i) (pos (premiumAt w i % 2147483648) -ℤ pos 10)
 
 pub length-settle : (w : List ℤ) (i : ℕ) → length (settleCell w i) ≡ length w
 length-settle w i = put-length (lowerPremium w i) (premiumPlace i) 0 ∙ length-lowered w i
 
--- the premium of a safe cell, lowered again; a mine's kind is 0, as its premium is
+-- the premium of a safe cell, lowered again; a mine's content is 0, as its premium is
 lowered-premium : (g : Grid) (s : Position) (i : ℕ) → i < size g → (b : Bool) → mine g i ≡ b
-    → cond b (pos (kind g i)) (pos (raised g s i) -ℤ pos 10) ≡ keptPremium g s i
-unfolding raised premium kind
+    → cond b (pos (content g i)) (pos (raised g s i) -ℤ pos 10) ≡ keptPremium g s i
+unfolding raised premium content
 lowered-premium g s i h true e = ap (λ (b : Bool). pos (cond b 0 (1 + number g i))) e ∙ sym (ap (λ (b : Bool). cond b (pos 0) (premium g s i)) e)
 lowered-premium g s i h false e =
     ap (λ (b : Bool). pos (cond b 0 (10 + gain g s i - cost g s i)) -ℤ pos 10) e
@@ -66,12 +66,12 @@ settled-all g s old room =
     more : HasCells base (size g)
     more = omega (arith, laid-length (heldFive g s) (λ i. refl) (size g) old room)
 
-    untouched-place : (w : List ℤ) (i m : ℕ) → (m ≡ kindPlace i → ⊥) → getD (lowerPremium w i) m (pos 0) ≡ getD w m (pos 0)
-    untouched-place w i m n = go (eqb (kindAt w i) 0)
+    untouched-place : (w : List ℤ) (i m : ℕ) → (m ≡ contentPlace i → ⊥) → getD (lowerPremium w i) m (pos 0) ≡ getD w m (pos 0)
+    untouched-place w i m n = go (eqb (contentAt w i) 0)
       where
         go : (b : Bool) → getD (cond b w (putLowered w i (premiumAt w i))) m (pos 0) ≡ getD w m (pos 0)
         go true = refl
-        go false = getD-set-other w (kindPlace i) m (pos (premiumAt w i % 2147483648) -ℤ pos 10) (pos 0) n
+        go false = getD-set-other w (contentPlace i) m (pos (premiumAt w i % 2147483648) -ℤ pos 10) (pos 0) n
 
     few : (i : ℕ) → i < size g → raised g s i < 2147483648
     few i h = omega (arith, raised-small g s i h)
@@ -80,7 +80,7 @@ settled-all g s old room =
         → getD (settleCell w i) m (pos 0) ≡ getD w m (pos 0)
     there w i m h l o = cell-there (lowerPremium w i) i 4 0 m (omega arith) o ∙ untouched-place w i m (off o)
       where
-        off : (m < 5 * i) ⊎ (5 * i + 5 ≤ m) → m ≡ kindPlace i → ⊥
+        off : (m < 5 * i) ⊎ (5 * i + 5 ≤ m) → m ≡ contentPlace i → ⊥
         off (inl a) e = omega arith
         off (inr a) e = omega arith
 
@@ -93,16 +93,16 @@ settled-all g s old room =
     other w i k h l b p q = slot-there (lowerPremium w i) i 4 k 0 q ∙ untouched-place w i (5 * i + k) (λ e. p (omega arith)) ∙ was w i h l k b
 
     third : (w : List ℤ) (i : ℕ) → i < size g → LaidTo (fiveNumbers g s) (λ i. refl) (size g) base more settleCell i w
-        → getD (lowerPremium w i) (kindPlace i) (pos 0) ≡ keptPremium g s i
+        → getD (lowerPremium w i) (contentPlace i) (pos 0) ≡ keptPremium g s i
     third w i h l =
-        let k : eqb (kindAt w i) 0 ≡ mine g i = ap (λ (n : ℕ). eqb n 0) (ap natural (was w i h l 2 (omega arith))) ∙ kind-mine g i in
-        ap (λ (b : Bool). getD (cond b w (putLowered w i (premiumAt w i))) (kindPlace i) (pos 0)) k
+        let k : eqb (contentAt w i) 0 ≡ mine g i = ap (λ (n : ℕ). eqb n 0) (ap natural (was w i h l 2 (omega arith))) ∙ content-mine g i in
+        ap (λ (b : Bool). getD (cond b w (putLowered w i (premiumAt w i))) (contentPlace i) (pos 0)) k
         ∙ go (mine g i) ∙ lowered-premium g s i h (mine g i) refl
       where
-        go : (b : Bool) → getD (cond b w (putLowered w i (premiumAt w i))) (kindPlace i) (pos 0) ≡ cond b (pos (kind g i)) (pos (raised g s i) -ℤ pos 10)
+        go : (b : Bool) → getD (cond b w (putLowered w i (premiumAt w i))) (contentPlace i) (pos 0) ≡ cond b (pos (content g i)) (pos (raised g s i) -ℤ pos 10)
         go true = was w i h l 2 (omega arith)
         go false =
-            getD-set-same w (kindPlace i) (pos (premiumAt w i % 2147483648) -ℤ pos 10) (pos 0) (omega (arith, l .long, more))
+            getD-set-same w (contentPlace i) (pos (premiumAt w i % 2147483648) -ℤ pos 10) (pos 0) (omega (arith, l .long, more))
             ∙ ap (λ (n : ℕ). pos (n % 2147483648) -ℤ pos 10) (ap natural (was w i h l 4 (omega arith))) ∙ ap (λ (n : ℕ). pos n -ℤ pos 10) (mod-eq-of-lt (few i h))
 
     here : (w : List ℤ) (i k : ℕ) → i < size g → LaidTo (fiveNumbers g s) (λ i. refl) (size g) base more settleCell i w → k < 5

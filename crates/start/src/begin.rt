@@ -1,4 +1,4 @@
-// The position before any move: kinds, labels, first premiums; and the work area handed back.
+// The position before any move: contents, labels, first premiums; and the work area handed back.
 ghost use mathlib.Core.Path.{_≡_};
 ghost use mathlib.Core.List.{List};
 ghost use Prim.Native.Nat.{_+_, _*_};

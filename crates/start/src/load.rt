@@ -1,4 +1,4 @@
-// Each cell's kind is put into the work area.
+// Each cell's content is put into the work area.
 ghost use mathlib.Core.Path.{_≡_};
 ghost use mathlib.Core.Bool.{cond};
 ghost use Prim.Native.Nat.{_+_, _-_, _*_, _<_, _≤_, min};
@@ -11,8 +11,8 @@ ghost use Rattle.area.specs.Numbers.{HasCell, HasCells, gridOf};
 ghost use Rattle.area.specs.Stages.{Shape, loadedFive};
 ghost use Rattle.start.specs.Passes.{loadAt, loadCell, minesOf};
 
-// What tells a cell's kind: 0 for a mine, 1 more than its number for a safe cell.
-pub fn kind_of(grid: &[i32], at: usize, number: usize) -> usize
+// What tells a cell's content: 0 for a mine, 1 more than its number for a safe cell.
+pub fn content_of(grid: &[i32], at: usize, number: usize) -> usize
     requires { ⌜ (at < length (now grid)) × (number ≤ 9) ⌝ }
     ensures { λ r. ⌜ r ≡ cond (isMine (getD (now (grid .entry)) at (pos 0))) 0 (1 + number) ⌝ }
 {
@@ -42,13 +42,13 @@ pub fn mines_below(
 }
 
 // A cell before labelling.
-pub fn load_cell(work: &mut [i32], index: usize, kind: usize)
+pub fn load_cell(work: &mut [i32], index: usize, content: usize)
     requires { ⌜ HasCell (now work) index ⌝ }
-    ensures { λ _. ⌜ now (work .exit) ≡ loadAt (now (work .entry)) index kind ⌝ }
+    ensures { λ _. ⌜ now (work .exit) ≡ loadAt (now (work .entry)) index content ⌝ }
 {
     area::put_first_label(work, index, 0);
     area::put_second_label(work, index, 0);
-    area::put_kind(work, index, kind);
+    area::put_content(work, index, content);
     area::put_state(work, index, 0);
     area::put_premium(work, index, 0);
 }
@@ -65,8 +65,8 @@ pub fn load_column(grid: &[i32], rows: usize, columns: usize, work: &mut [i32], 
     let mut here = area::mines_in_row(grid, columns, 0, from, to);
     for row in 0..rows {
         let below = mines_below(grid, rows, columns, row, from, to);
-        let kind = kind_of(grid, row * columns + column, above + here + below);
-        load_cell(work, column * rows + row, kind);
+        let content = content_of(grid, row * columns + column, above + here + below);
+        load_cell(work, column * rows + row, content);
         above = here;
         here = below;
     }

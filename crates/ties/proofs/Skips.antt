@@ -19,12 +19,12 @@ use Rattle.game.proofs.Members.{has-range, range-none}
 use Rattle.game.proofs.Truth.{and-left, and-right}
 use Rattle.choices.specs.Tests.{unitAt}
 use Rattle.ties.specs.Candidates.{candidateAt, skippedAt}
-use Rattle.choices.specs.Tops.{Kept}
+use Rattle.choices.specs.Tops.{TopsKnown}
 use Rattle.choices.proofs.Columns.{column-bound}
 
 -- ---- no candidate in it
 
-module _ (w : List ℤ) (rows columns : ℕ) (tops : List ℕ) (top column : ℕ) (kept : Kept false w rows columns tops) (chord : 10 ≤ top) (inside : column < columns) where
+module _ (w : List ℤ) (rows columns : ℕ) (tops : List ℕ) (top column : ℕ) (kept : TopsKnown false w rows columns tops) (chord : 10 ≤ top) (inside : column < columns) where
   none-there : T (skippedAt top tops column) → (row : ℕ) → row < rows → T (candidateAt top w (column * rows + row)) → ⊥
   none-there t row h u =
       omega (

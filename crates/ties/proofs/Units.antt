@@ -7,12 +7,12 @@ use mathlib.Core.List.{List}
 use lib.IntN.{ℤ}
 use lib.ListN.{getD, length, length-set, set}
 use Rattle.marks.specs.Marks.{MarkedOr}
-use Rattle.choices.specs.Tops.{UnitsKept, columnUnits, keptOf}
+use Rattle.choices.specs.Tops.{UnitsKnown, columnUnits, keptOf}
 use Rattle.choices.proofs.Bytes.{byte-again}
 
 -- those of a column
-pub units-again : (w : List ℤ) (rows columns : ℕ) (units : List ℕ) (column : ℕ) → UnitsKept w rows columns units units
-    → UnitsKept w rows columns (set units column (keptOf (columnUnits w rows column))) (set units column (keptOf (columnUnits w rows column)))
+pub units-again : (w : List ℤ) (rows columns : ℕ) (units : List ℕ) (column : ℕ) → UnitsKnown w rows columns units units
+    → UnitsKnown w rows columns (set units column (keptOf (columnUnits w rows column))) (set units column (keptOf (columnUnits w rows column)))
 units-again w rows columns units column k =
     record {
       room = rw (length-set units column (keptOf (columnUnits w rows column))) (k .room);
@@ -20,8 +20,8 @@ units-again w rows columns units column k =
     }
 
 -- the closed units of the columns that are not marked are kept
-pub units-marked : (w : List ℤ) (rows columns : ℕ) (tops units units′ : List ℕ) → UnitsKept w rows columns tops units → length units′ ≡ length units
-    → ((c : ℕ) → c < columns → MarkedOr (getD tops c 0 ≡ 0 → ⊥) units units′ c) → UnitsKept w rows columns units′ units′
+pub units-marked : (w : List ℤ) (rows columns : ℕ) (tops units units′ : List ℕ) → UnitsKnown w rows columns tops units → length units′ ≡ length units
+    → ((c : ℕ) → c < columns → MarkedOr (getD tops c 0 ≡ 0 → ⊥) units units′ c) → UnitsKnown w rows columns units′ units′
 units-marked w rows columns tops units units′ k l m = record { room = omega (arith, k .room); right = λ c h n _. go c h n (m c h) }
   where
     go : (c : ℕ) → c < columns → (getD units′ c 0 ≡ 0 → ⊥) → MarkedOr (getD tops c 0 ≡ 0 → ⊥) units units′ c → getD units′ c 0 ≡ columnUnits w rows c + 1

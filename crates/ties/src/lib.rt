@@ -1,5 +1,5 @@
 // The cells that a random step draws among: the highest premium, how many have it, the one at a place. No list of them is kept.
-use choices::kept;
+use choices::known;
 use choices::units;
 ghost use mathlib.Core.Path.{_≡_};
 ghost use mathlib.Core.Bool.{cond, false};
@@ -14,7 +14,7 @@ ghost use Rattle.game.specs.Lists.{count, keep, range};
 ghost use Rattle.game.specs.Position.{Position};
 ghost use Rattle.game.specs.Rounds.{choice};
 ghost use Rattle.area.specs.Stages.{Shape, Stands};
-ghost use Rattle.choices.specs.Tops.{Kept, UnitsKept, columnUnits};
+ghost use Rattle.choices.specs.Tops.{TopsKnown, UnitsKnown, columnUnits};
 ghost use Rattle.ties.specs.Candidates.{candidateAt, candidatesOf, forClick, skippedAt};
 ghost use Rattle.marks.specs.Marks.{MarkedOr};
 
@@ -38,13 +38,13 @@ fn mark_units(columns: usize, tops: &[u8], units: &mut [u8])
 // The highest raised premium, at least 9: below 10 the step is one L. Only the columns marked are looked at again.
 pub fn top(work: &[i32], rows: usize, columns: usize, tops: &mut [u8], units: &mut [u8]) -> usize
     requires { ⌜ Shape rows columns ⌝ }
-    requires { ⌜ HasCells (now work) (rows * columns) × Kept false (now work) rows columns (now tops) × UnitsKept (now work) rows columns (now tops) (now units) ⌝ }
-    ensures { λ _. ⌜ (length (now (tops .exit)) ≡ length (now (tops .entry))) × Kept false (now (work .entry)) rows columns (now (tops .exit)) ⌝ }
-    ensures { λ _. ⌜ (length (now (units .exit)) ≡ length (now (units .entry))) × UnitsKept (now (work .entry)) rows columns (now (units .exit)) (now (units .exit)) ⌝ }
+    requires { ⌜ HasCells (now work) (rows * columns) × TopsKnown false (now work) rows columns (now tops) × UnitsKnown (now work) rows columns (now tops) (now units) ⌝ }
+    ensures { λ _. ⌜ (length (now (tops .exit)) ≡ length (now (tops .entry))) × TopsKnown false (now (work .entry)) rows columns (now (tops .exit)) ⌝ }
+    ensures { λ _. ⌜ (length (now (units .exit)) ≡ length (now (units .entry))) × UnitsKnown (now (work .entry)) rows columns (now (units .exit)) (now (units .exit)) ⌝ }
     ensures { λ r. ⌜ ((g : Grid) (s : Position) (old : List ℤ) → Stands rows columns g s old (now (work .entry)) → (ltb r 10 ≡ forClick (choice false g s)) × (keep (candidateAt r (now (work .entry))) (range 0 (rows * columns)) ≡ candidatesOf (choice false g s))) ⌝ }
 {
     mark_units(columns, tops, units);
-    let found = kept::first_column(work, rows, columns, tops, false);
+    let found = known::first_column(work, rows, columns, tops, false);
     found.top
 }
 
@@ -64,7 +64,7 @@ fn skipped(tops: &[u8], top: usize, column: usize) -> bool
     requires { ⌜ column < length (now tops) ⌝ }
     ensures { λ r. ⌜ r ≡ skippedAt top (now (tops .entry)) column ⌝ }
 {
-    let kept = kept::wide(tops[column]);
+    let kept = known::wide(tops[column]);
     if kept == 0 {
         return false;
     }
@@ -90,16 +90,16 @@ fn count_cells(work: &[i32], rows: usize, columns: usize, top: usize, column: us
 // A column's closed units: the count kept, or counted again and kept.
 fn units_of(work: &[i32], rows: usize, columns: usize, units: &mut [u8], column: usize) -> usize
     requires { ⌜ Shape rows columns ⌝ }
-    requires { ⌜ HasCells (now work) (rows * columns) × (column < columns) × UnitsKept (now work) rows columns (now units) (now units) ⌝ }
+    requires { ⌜ HasCells (now work) (rows * columns) × (column < columns) × UnitsKnown (now work) rows columns (now units) (now units) ⌝ }
     ensures { λ r. ⌜ (r ≡ columnUnits (now (work .entry)) rows column) × (r ≤ rows) ⌝ }
-    ensures { λ _. ⌜ (length (now (units .exit)) ≡ length (now (units .entry))) × UnitsKept (now (work .entry)) rows columns (now (units .exit)) (now (units .exit)) ⌝ }
+    ensures { λ _. ⌜ (length (now (units .exit)) ≡ length (now (units .entry))) × UnitsKnown (now (work .entry)) rows columns (now (units .exit)) (now (units .exit)) ⌝ }
 {
-    let kept = kept::wide(units[column]);
+    let kept = known::wide(units[column]);
     if kept > 0 {
         return kept - 1;
     }
     let found = count_cells(work, rows, columns, 0, column);
-    units[column] = kept::kept_of(found);
+    units[column] = known::kept_of(found);
     found
 }
 
@@ -114,9 +114,9 @@ fn count_column(
     column: usize,
 ) -> usize
     requires { ⌜ Shape rows columns ⌝ }
-    requires { ⌜ HasCells (now work) (rows * columns) × (column < columns) × Kept false (now work) rows columns (now tops) × UnitsKept (now work) rows columns (now units) (now units) ⌝ }
+    requires { ⌜ HasCells (now work) (rows * columns) × (column < columns) × TopsKnown false (now work) rows columns (now tops) × UnitsKnown (now work) rows columns (now units) (now units) ⌝ }
     ensures { λ r. ⌜ (r ≡ count (candidateAt top (now (work .entry))) (range (column * rows) (column * rows + rows))) × (r ≤ rows) ⌝ }
-    ensures { λ _. ⌜ (length (now (units .exit)) ≡ length (now (units .entry))) × UnitsKept (now (work .entry)) rows columns (now (units .exit)) (now (units .exit)) ⌝ }
+    ensures { λ _. ⌜ (length (now (units .exit)) ≡ length (now (units .entry))) × UnitsKnown (now (work .entry)) rows columns (now (units .exit)) (now (units .exit)) ⌝ }
 {
     if top < 10 {
         return units_of(work, rows, columns, units, column);
@@ -137,9 +137,9 @@ pub fn count(
     top: usize,
 ) -> usize
     requires { ⌜ Shape rows columns ⌝ }
-    requires { ⌜ HasCells (now work) (rows * columns) × Kept false (now work) rows columns (now tops) × UnitsKept (now work) rows columns (now units) (now units) ⌝ }
+    requires { ⌜ HasCells (now work) (rows * columns) × TopsKnown false (now work) rows columns (now tops) × UnitsKnown (now work) rows columns (now units) (now units) ⌝ }
     ensures { λ r. ⌜ (r ≡ count (candidateAt top (now (work .entry))) (range 0 (rows * columns))) × (r ≤ rows * columns) ⌝ }
-    ensures { λ _. ⌜ (length (now (units .exit)) ≡ length (now (units .entry))) × UnitsKept (now (work .entry)) rows columns (now (units .exit)) (now (units .exit)) ⌝ }
+    ensures { λ _. ⌜ (length (now (units .exit)) ≡ length (now (units .entry))) × UnitsKnown (now (work .entry)) rows columns (now (units .exit)) (now (units .exit)) ⌝ }
 {
     let mut candidates: usize = 0;
     for column in 0..columns {
@@ -186,9 +186,9 @@ pub fn pick(
     place: usize,
 ) -> usize
     requires { ⌜ Shape rows columns ⌝ }
-    requires { ⌜ HasCells (now work) (rows * columns) × Kept false (now work) rows columns (now tops) × UnitsKept (now work) rows columns (now units) (now units) ⌝ }
+    requires { ⌜ HasCells (now work) (rows * columns) × TopsKnown false (now work) rows columns (now tops) × UnitsKnown (now work) rows columns (now units) (now units) ⌝ }
     ensures { λ r. ⌜ r ≡ getD (keep (candidateAt top (now (work .entry))) (range 0 (rows * columns))) place 0 ⌝ }
-    ensures { λ _. ⌜ (length (now (units .exit)) ≡ length (now (units .entry))) × UnitsKept (now (work .entry)) rows columns (now (units .exit)) (now (units .exit)) ⌝ }
+    ensures { λ _. ⌜ (length (now (units .exit)) ≡ length (now (units .entry))) × UnitsKnown (now (work .entry)) rows columns (now (units .exit)) (now (units .exit)) ⌝ }
 {
     let mut passed: usize = 0;
     for column in 0..columns {

@@ -5,10 +5,10 @@ use Prim.Native.Nat.{ℕ}
 use lib.ListN.{take}
 use lib.Seq.{length-take-le}
 use borrow.Author.Needs.{needs}
-use Rattle.reader.specs.Blocks.{blockCall}
-use Rattle.reader.specs.Answers.{KeepsDesk, answeredAnswer}
+use Rattle.line_prices.specs.Blocks.{blockCall}
+use Rattle.line_prices.specs.Answers.{KeepsDesk, answeredAnswer}
 use Rattle.refusals.specs.Names.{named}
-use Rattle.reader.specs.declared.Answered.{Answered}
+use Rattle.line_prices.specs.declared.Answered.{Answered}
 use Rattle.board_reader.specs.Turns.{AnsweredBlock, cutOn, keptAfter}
 use Rattle.board_reader.specs.declared.PartLine.{PartLine}
 use Rattle.board_reader.specs.declared.Turn.{Turn}

@@ -4,10 +4,10 @@ use mathlib.Core.List.{[]}
 use lib.ListN.{take}
 use lib.Seq.{length-take-le}
 use borrow.Author.Needs.{needs}
-use Rattle.reader.specs.Blocks.{endCall, lastLine}
-use Rattle.reader.specs.Answers.{KeepsDesk, answeredAnswer}
+use Rattle.line_prices.specs.Blocks.{endCall, lastLine}
+use Rattle.line_prices.specs.Answers.{KeepsDesk, answeredAnswer}
 use Rattle.refusals.specs.Names.{named}
-use Rattle.reader.specs.declared.Answered.{Answered}
+use Rattle.line_prices.specs.declared.Answered.{Answered}
 use Rattle.board_reader.specs.declared.PartLine.{PartLine}
 use Rattle.board_reader.proofs.Turning.{Left, end-left, end-passed, ended}
 use Rattle.board_reader.proofs.print_last.Statement.{statement}

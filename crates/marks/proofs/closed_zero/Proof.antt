@@ -1,4 +1,4 @@
--- `marks::closed_zero`: past the grid there is none; else its kind tells, then its state. Assumes nothing.
+-- `marks::closed_zero`: past the grid there is none; else its content tells, then its state. Assumes nothing.
 use borrow.Author.Needs.{needs}
 use Rattle.marks.proofs.Borders.{zero-other, zero-past, zero-state}
 use Rattle.marks.proofs.closed_zero.Statement.{statement}
@@ -7,15 +7,15 @@ use Rattle.marks.proofs.closed_zero.Tie as tie
 returns : tie.Need-returns
 returns c = let a = c .before .args in zero-past (a .work .now) (a .cells) (a .index) (c .if1 .taken)
 
-kind-requires : tie.Need-kind-requires
-kind-requires c κs = search needs
+content-requires : tie.Need-content-requires
+content-requires c κs = search needs
 
 returns-2 : tie.Need-returns-2
 returns-2 c =
     let k = c .before in
     let x = k .before in
     let a = x .before .args in
-    zero-other (a .work .now) (a .cells) (a .index) (k .kind .result) (x .if1 .left) (k .kind .ensures .0) (c .if2 .taken)
+    zero-other (a .work .now) (a .cells) (a .index) (k .content .result) (x .if1 .left) (k .content .ensures .0) (c .if2 .taken)
 
 state-requires : tie.Need-state-requires
 state-requires c κs = search needs
@@ -26,14 +26,14 @@ returns-3 c =
     let k = y .before in
     let x = k .before in
     let a = x .before .args in
-    zero-state (a .work .now) (a .cells) (a .index) (k .kind .result) (c .state .result) (x .if1 .left) (k .kind .ensures .0) (y .if2 .left) (c .state .ensures .0)
+    zero-state (a .work .now) (a .cells) (a .index) (k .content .result) (c .state .result) (x .if1 .left) (k .content .ensures .0) (y .if2 .left) (c .state .ensures .0)
 
 pub closed-zero-spec : {M : Type 1} → statement M
 closed-zero-spec =
     tie.close
     (tie.spec
     returns
-    kind-requires
+    content-requires
     returns-2
     state-requires
     returns-3)

@@ -5,8 +5,8 @@ use borrow.Author.Needs.{needs}
 use Rattle.marks.proofs.mark_click.Statement.{statement}
 use Rattle.marks.proofs.mark_click.Tie as tie
 
-kind-requires : tie.Need-kind-requires
-kind-requires c κs = search needs
+content-requires : tie.Need-content-requires
+content-requires c κs = search needs
 
 mark-requires : tie.Need-mark-requires
 mark-requires c κs = search needs
@@ -36,13 +36,13 @@ returns-2 c =
     let s = f .before .before .before .before .before in
     let a = s .args in
     λ g p old t. clicked-one (a .rows) (a .columns) g p old (a .work .now) (a .index) (s .pre .1 .1) t (a .tops .now) _
-    (λ e. f .before .before .if1 .left (f .before .before .before .kind .ensures .0 ∙ e)) (f .mark-one .ensures .0) (f .mark-one .ensures .1)
+    (λ e. f .before .before .if1 .left (f .before .before .before .content .ensures .0 ∙ e)) (f .mark-one .ensures .0) (f .mark-one .ensures .1)
 
 pub mark-click-spec : {M : Type 1} → statement M
 mark-click-spec =
     tie.close
     (tie.spec
-    kind-requires
+    content-requires
     mark-requires
     same-length
     returns

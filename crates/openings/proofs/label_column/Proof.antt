@@ -6,7 +6,7 @@ use mathlib.Core.Path.{_∙_, _≡_, refl, subst}
 use mathlib.Core.List.{List}
 use lib.IntN.{ℤ}
 use lib.ListN.{length}
-use Rattle.area.specs.Numbers.{kindAt}
+use Rattle.area.specs.Numbers.{contentAt}
 use Rattle.area.proofs.Cells.{cell-below, cells-few}
 use Rattle.openings.specs.Labels.{shaped}
 use Rattle.openings.specs.Spread.{Begun, Numbered}
@@ -59,8 +59,8 @@ loop-again c =
     let l = q .before .before .loop in
     let a = q .before .before .before .args in
     let i = a .column * a .rows + l .row in
-    let n : Begun (shaped (a .rows) (a .columns)) (kindAt (l .work)) (l .found) i (l .work) (b .result) (b .last .0) =
-    subst (λ (k : ℕ). Begun (shaped (a .rows) (a .columns)) (kindAt (l .work)) (l .found) k (l .work) (b .result) (b .last .0)) (q .cell .ensures .0) (b .ensures) in (
+    let n : Begun (shaped (a .rows) (a .columns)) (contentAt (l .work)) (l .found) i (l .work) (b .result) (b .last .0) =
+    subst (λ (k : ℕ). Begun (shaped (a .rows) (a .columns)) (contentAt (l .work)) (l .found) k (l .work) (b .result) (b .last .0)) (q .cell .ensures .0) (b .ensures) in (
       omega arith,
       b .ensures .long ∙ l .inv .1,
       omega (arith, b .ensures .few, l .inv .2),

@@ -5,8 +5,8 @@ use borrow.Author.Needs.{needs}
 use Rattle.play.proofs.uncover.Statement.{statement}
 use Rattle.play.proofs.uncover.Tie as tie
 
-kind-requires : tie.Need-kind-requires
-kind-requires c κs = search needs
+content-requires : tie.Need-content-requires
+content-requires c κs = search needs
 
 same-length : tie.Need-same-length
 same-length c = search needs
@@ -15,7 +15,7 @@ returns : tie.Need-returns
 returns c = let k = c .before in
     let b = k .before .before in
     let a = b .args in
-    (omega arith, λ g s old t f. by-mine (a .rows) (a .columns) g s old (a .work .now) (a .index) (b .pre .1 .1) t f (k .kind .result) (k .kind .ensures .0) (c .if1 .taken))
+    (omega arith, λ g s old t f. by-mine (a .rows) (a .columns) g s old (a .work .now) (a .index) (b .pre .1 .1) t f (k .content .result) (k .content .ensures .0) (c .if1 .taken))
 
 state-requires : tie.Need-state-requires
 state-requires c κs = search needs
@@ -48,7 +48,7 @@ returns-3 c = let q = c .before in
     let a = b .args in (
       q .sweep-opening .ensures .0,
       λ g s old t f. by-zero (a .rows) (a .columns) g s old (a .work .now) (a .index) (b .pre .1 .1) t f
-          (k .kind .result) (m .state .result) (k .kind .ensures .0) (m .before .before .if1 .left) (m .state .ensures .0) (z .before .if2 .left)
+          (k .content .result) (m .state .result) (k .content .ensures .0) (m .before .before .if1 .left) (m .state .ensures .0) (z .before .if2 .left)
           (l .first-label .result) (q .sweep-opening .result) (q .sweep-opening .last .0) (z .if3 .taken) (l .first-label .ensures .0) (q .sweep-opening .ensures .1 g s old t),
     )
 
@@ -67,7 +67,7 @@ returns-4 c = let q = c .before in
     let a = b .args in (
       omega arith,
       λ g s old t f. by-one (a .rows) (a .columns) g s old (a .work .now) (a .index) (b .pre .1 .1) t f
-          (k .kind .result) (m .state .result) (k .kind .ensures .0) (m .before .before .if1 .left) (m .state .ensures .0) (z .before .if2 .left)
+          (k .content .result) (m .state .result) (k .content .ensures .0) (m .before .before .if1 .left) (m .state .ensures .0) (z .before .if2 .left)
           (q .open-one .last .0) (z .if3 .left) (q .open-one .ensures),
     )
 
@@ -75,7 +75,7 @@ pub uncover-spec : {M : Type 1} → statement M
 uncover-spec =
     tie.close
     (tie.spec
-    kind-requires
+    content-requires
     same-length
     returns
     state-requires

@@ -10,7 +10,7 @@ use Rattle.premiums.proofs.alone.Tie as tie
 returns : tie.Need-returns
 returns c =
     let a = c .before .args in
-    sym (ap (λ (b : Bool). cond b 0 (9 + a .labels - a .kind)) (eq-eqb (a .kind) 0 (c .if1 .taken)))
+    sym (ap (λ (b : Bool). cond b 0 (9 + a .labels - a .content)) (eq-eqb (a .content) 0 (c .if1 .taken)))
 
 add-take-away : tie.Need-add-take-away
 add-take-away c = search needs
@@ -21,7 +21,7 @@ take-away-requires c κs = search needs
 returns-2 : tie.Need-returns-2
 returns-2 c =
     let a = c .before .before .args in
-    c .take-away .ensures ∙ sym (ap (λ (b : Bool). cond b 0 (9 + a .labels - a .kind)) (ne-eqb (a .kind) 0 (λ e. c .before .if1 .left e)))
+    c .take-away .ensures ∙ sym (ap (λ (b : Bool). cond b 0 (9 + a .labels - a .content)) (ne-eqb (a .content) 0 (λ e. c .before .if1 .left e)))
 
 pub alone-spec : {M : Type 1} → statement M
 alone-spec = tie.close (tie.spec returns add-take-away take-away-requires returns-2)

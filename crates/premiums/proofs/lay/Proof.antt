@@ -40,8 +40,8 @@ second-label-requires c κs = omega arith
 one-if-any-requires-2 : tie.Need-one-if-any-requires-2 Inv-loop μ-loop
 one-if-any-requires-2 c κs = search needs
 
-kind-requires : tie.Need-kind-requires Inv-loop μ-loop
-kind-requires c κs = omega arith
+content-requires : tie.Need-content-requires Inv-loop μ-loop
+content-requires c κs = omega arith
 
 one-if-any-requires-3 : tie.Need-one-if-any-requires-3 Inv-loop μ-loop
 one-if-any-requires-3 c κs = search needs
@@ -76,14 +76,14 @@ loop-less c = omega arith
 loop-again : tie.Need-loop-again Inv-loop μ-loop
 loop-again c =
     let last = c .before .before in
-    let kind = last .before .before .before .before .before .before in
-    let second = kind .before .before .before in
+    let content = last .before .before .before .before .before .before in
+    let second = content .before .before .before in
     let label = second .before .before .before in
     let l = label .before .before .before .before .loop in
     let a = label .before .before .before .before .before .args in
     let e : last .put-state .last .0 ≡ layCell (l .work) (l .index) = cc in
-    let k = lay-counts (a .work .now) (l .work) (l .index) (l .index) (kind .before .kind .result) (label .before .first-label .result) (kind .one-if-any3 .result) (label .one-if-any .result) (c .take-away .result) (l .inv .1)
-    (kind .before .kind .ensures .0) (label .before .first-label .ensures .0) (kind .one-if-any3 .ensures .0) (label .one-if-any .ensures .0) (c .take-away .ensures) in (
+    let k = lay-counts (a .work .now) (l .work) (l .index) (l .index) (content .before .content .result) (label .before .first-label .result) (content .one-if-any3 .result) (label .one-if-any .result) (c .take-away .result) (l .inv .1)
+    (content .before .content .ensures .0) (label .before .first-label .ensures .0) (content .one-if-any3 .ensures .0) (label .one-if-any .ensures .0) (c .take-away .ensures) in (
       omega arith,
       e ∙ ap (λ (w : List ℤ). layCell w (l .index)) (l .inv .1) ∙ sym (fold-more layCell (a .work .now) 0 (l .index) (omega arith)),
       ap length e ∙ length-lay (l .work) (l .index) ∙ l .inv .2,
@@ -118,7 +118,7 @@ lay-spec =
     one-if-any-requires
     second-label-requires
     one-if-any-requires-2
-    kind-requires
+    content-requires
     one-if-any-requires-3
     add-alone
     alone-requires

@@ -4,20 +4,20 @@ use mathlib.Core.Path.{_≡_, refl}
 use mathlib.Core.Bool.{false}
 use lib.ListN.{length}
 use borrow.Author.Needs.{needs}
-use Rattle.choices.specs.Tops.{Kept, UnitsKept}
+use Rattle.choices.specs.Tops.{TopsKnown, UnitsKnown}
 use Rattle.game.specs.Draws.{lent}
 use Rattle.game.specs.Moves.{after}
 use Rattle.game.specs.Position.{untouched}
 use Rattle.game.proofs.Draws.{lent-places}
 use Rattle.moves.proofs.Partway.{partway-few}
-use Rattle.random.proofs.Courses.{Midway, course-breaks, course-ends, course-falls, course-goes-on, fresh, midway-begins}
+use Rattle.random.proofs.Courses.{RoundMidway, course-breaks, course-ends, course-falls, course-goes-on, fresh, midway-begins}
 use Rattle.random.proofs.roll_on.Statement.{statement}
 use Rattle.random.proofs.roll_on.Tie as tie
 
 abbrev Inv-loop : tie.InvT-loop
 Inv-loop work₀ rows columns list₀ draws tops₀ units₀ safe next state₀ at₀ work list tops units state at =
     (length work ≡ length work₀) × (length list ≡ length list₀) × (length tops ≡ length tops₀) × (length units ≡ length units₀)
-    × Midway rows columns work₀ (lent draws) safe next list₀ work list state at × Kept false work rows columns tops × UnitsKept work rows columns tops units
+    × RoundMidway rows columns work₀ (lent draws) safe next list₀ work list state at × TopsKnown false work rows columns tops × UnitsKnown work rows columns tops units
 
 abbrev μ-loop : tie.MeasureT-loop
 μ-loop work₀ rows columns list₀ draws tops₀ units₀ safe next state₀ at₀ work list tops units state at = state .closed

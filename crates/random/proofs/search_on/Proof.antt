@@ -7,13 +7,13 @@ use Rattle.game.specs.Draws.{lent}
 use Rattle.game.specs.Moves.{after}
 use Rattle.game.specs.Position.{untouched}
 use Rattle.game.specs.Rounds.{searchFrom}
-use Rattle.random.proofs.Searches.{Midway, search-breaks, search-ends, search-goes-on, still-counted, turns, turns-fall}
+use Rattle.random.proofs.Searches.{SearchMidway, search-breaks, search-ends, search-goes-on, still-counted, turns, turns-fall}
 use Rattle.random.proofs.search_on.Statement.{statement}
 use Rattle.random.proofs.search_on.Tie as tie
 
 abbrev Inv-loop : tie.InvT-loop
 Inv-loop work₀ rows columns draws safe clicks next more least₀ at₀ left₀ work least at left =
-    (length work ≡ length work₀) × Midway rows columns work₀ (lent draws) clicks next more work least at left
+    (length work ≡ length work₀) × SearchMidway rows columns work₀ (lent draws) clicks next more work least at left
 
 abbrev μ-loop : tie.MeasureT-loop
 μ-loop work₀ rows columns draws safe clicks next more least₀ at₀ left₀ work least at left = turns (length draws) at left

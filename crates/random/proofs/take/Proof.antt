@@ -3,7 +3,7 @@ use mathlib.Core.Path.{subst}
 use mathlib.Core.Bool.{false}
 use mathlib.Core.List.{List}
 use Rattle.game.specs.Moves.{Move}
-use Rattle.rounds.specs.Promises.{MadeKept}
+use Rattle.rounds.specs.Promises.{MadeKnown}
 use Rattle.random.proofs.Takes.{act-taken, click-taken}
 use borrow.Author.Needs.{needs}
 use Rattle.random.proofs.take.Statement.{statement}
@@ -27,7 +27,7 @@ returns c =
     let l = k .before .before .before .before in
     let a = l .before .before .before .args in
     let y = k .click-at in
-    λ g s old st f t u n e. subst (λ (ms : List Move). MadeKept false (a .rows) (a .columns) g s old ms (a .list .now) (a .work .now) (a .tops .now) (a .state) (y .last .0) (y .last .1 .1 .1 .0) (y .last .1 .1 .1 .1 .0) (y .result))
+    λ g s old st f t u n e. subst (λ (ms : List Move). MadeKnown false (a .rows) (a .columns) g s old ms (a .list .now) (a .work .now) (a .tops .now) (a .state) (y .last .0) (y .last .1 .1 .1 .0) (y .last .1 .1 .1 .1 .0) (y .result))
     (click-taken g s (a .top) (a .index) (l .if1 .taken)) (y .ensures false g s old st f t (u (l .if1 .taken) .0) (u (l .if1 .taken) .1) e)
 
 act-at-requires : tie.Need-act-at-requires
@@ -48,7 +48,7 @@ returns-2 c =
     let l = k .before .before .before .before in
     let a = l .before .before .before .args in
     let y = k .act-at in
-    λ g s old st f t u n e. subst (λ (ms : List Move). MadeKept false (a .rows) (a .columns) g s old ms (a .list .now) (a .work .now) (a .tops .now) (a .state) (y .last .0) (y .last .1 .1 .1 .0) (y .last .1 .1 .1 .1 .0) (y .result))
+    λ g s old st f t u n e. subst (λ (ms : List Move). MadeKnown false (a .rows) (a .columns) g s old ms (a .list .now) (a .work .now) (a .tops .now) (a .state) (y .last .0) (y .last .1 .1 .1 .0) (y .last .1 .1 .1 .1 .0) (y .result))
     (act-taken g s (a .top) (a .index) (l .if1 .left)) (y .ensures false g s old st f t (n (l .if1 .left)) e)
 
 pub take-spec : {M : Type 1} → statement M

@@ -53,11 +53,11 @@ use Rattle.zini.specs.declared.Rolled.{Rolled}
 use Rattle.zini.proofs.Rolled as S
 use Rattle.zini.proofs.Rolled.Laws as S′
 use Rattle.records.specs.declared.MoveRecord.{MoveRecord}
-use Rattle.by_records.specs.Promises.{KeepsRecords, inRecords, within}
-use Rattle.by_records.proofs.random_round_records as by
-use Rattle.by_records.proofs.random_round_records.Symbol as by-def
-use Rattle.by_records.proofs.random_round_records.Symbol.{name as #by-records·random-round-records}
-use Rattle.by_records.proofs.random_round_records.Met as by-thm
+use Rattle.record_calls.specs.Promises.{KeepsRecords, inRecords, within}
+use Rattle.record_calls.proofs.random_round_records as by
+use Rattle.record_calls.proofs.random_round_records.Symbol as by-def
+use Rattle.record_calls.proofs.random_round_records.Symbol.{name as #by-records·random-round-records}
+use Rattle.record_calls.proofs.random_round_records.Met as by-thm
 use Rattle.record_trials.specs.declared.RolledRun.{RolledRun}
 use Rattle.record_trials.proofs.RolledRun as P
 use Rattle.record_trials.proofs.RolledRun.Laws as P′

@@ -49,23 +49,23 @@ use Rattle.zini.specs.declared.Rolled.{Rolled}
 use Rattle.zini.proofs.Rolled as S
 use Rattle.zini.proofs.Rolled.Laws as S′
 use Rattle.records.proofs.Again.{LentAgain, lends-again, comes-back}
-use Rattle.reads.specs.declared.DrawReader.{DrawReader}
-use Rattle.reads.proofs.DrawReader as T
-use Rattle.reads.proofs.DrawReader.Laws as T′
-use Rattle.reads.proofs.Lent.{LentWithin, comes-within, lends-within, lies-in, lies-out}
-use Rattle.reads.proofs.reader as new
-use Rattle.reads.proofs.reader.Symbol as new-def
-use Rattle.reads.proofs.reader.Symbol.{name as #reads·reader}
-use Rattle.reads.proofs.reader.Met as new-thm
-use Rattle.by_reader.specs.Stands.{readOn, standsAt}
-use Rattle.by_reader.proofs.random_round as rnd
-use Rattle.by_reader.proofs.random_round.Symbol as rnd-def
-use Rattle.by_reader.proofs.random_round.Symbol.{name as #by-reader·random-round}
-use Rattle.by_reader.proofs.random_round.Met as rnd-thm
-use Rattle.by_reader.proofs.random_search as sch
-use Rattle.by_reader.proofs.random_search.Symbol as sch-def
-use Rattle.by_reader.proofs.random_search.Symbol.{name as #by-reader·random-search}
-use Rattle.by_reader.proofs.random_search.Met as sch-thm
+use Rattle.draw_reader.specs.declared.DrawReader.{DrawReader}
+use Rattle.draw_reader.proofs.DrawReader as T
+use Rattle.draw_reader.proofs.DrawReader.Laws as T′
+use Rattle.draw_reader.proofs.Lent.{LentWithin, comes-within, lends-within, lies-in, lies-out}
+use Rattle.draw_reader.proofs.reader as new
+use Rattle.draw_reader.proofs.reader.Symbol as new-def
+use Rattle.draw_reader.proofs.reader.Symbol.{name as #reads·reader}
+use Rattle.draw_reader.proofs.reader.Met as new-thm
+use Rattle.reader_calls.specs.Stands.{readOn, standsAt}
+use Rattle.reader_calls.proofs.random_round as rnd
+use Rattle.reader_calls.proofs.random_round.Symbol as rnd-def
+use Rattle.reader_calls.proofs.random_round.Symbol.{name as #by-reader·random-round}
+use Rattle.reader_calls.proofs.random_round.Met as rnd-thm
+use Rattle.reader_calls.proofs.random_search as sch
+use Rattle.reader_calls.proofs.random_search.Symbol as sch-def
+use Rattle.reader_calls.proofs.random_search.Symbol.{name as #by-reader·random-search}
+use Rattle.reader_calls.proofs.random_search.Met as sch-thm
 use Rattle.record_trials.specs.Readings.{Twice}
 use Rattle.record_trials.specs.declared.ReadTwice.{ReadTwice}
 use Rattle.record_trials.proofs.ReadTwice as P
@@ -156,7 +156,7 @@ module _ {M : Type 1} (𝓤 : URA M) (H : Heap 𝓤) (A : Atoms 𝓤) (W : Given
         stands = ap (λ (y : DrawReader). y .place) (e₂ .1) ∙ ap (standsAt r₂) from;
       }
 
-  -- ---- the call of `reader`
+  -- ---- the call of `line_prices`
 
   abbrev at-new : List Val × (List Val × Unit {0})
   at-new = (vb ∷ [], (vint w64 place ∷ [], tt))

@@ -49,11 +49,11 @@ use Rattle.zini.specs.declared.Replayed.{Replayed}
 use Rattle.zini.proofs.Replayed as S
 use Rattle.zini.proofs.Replayed.Laws as S′
 use Rattle.records.specs.declared.MoveRecord.{MoveRecord}
-use Rattle.by_records.specs.Promises.{replayRecordsCall}
-use Rattle.by_records.proofs.replay_records as by
-use Rattle.by_records.proofs.replay_records.Symbol as by-def
-use Rattle.by_records.proofs.replay_records.Symbol.{name as #by-records·replay-records}
-use Rattle.by_records.proofs.replay_records.Met as by-thm
+use Rattle.record_calls.specs.Promises.{replayRecordsCall}
+use Rattle.record_calls.proofs.replay_records as by
+use Rattle.record_calls.proofs.replay_records.Symbol as by-def
+use Rattle.record_calls.proofs.replay_records.Symbol.{name as #by-records·replay-records}
+use Rattle.record_calls.proofs.replay_records.Met as by-thm
 use Rattle.record_trials.proofs.Arrays as Run
 use Rattle.record_trials.proofs.Arrays.{Nine, R, nine}
 use Rattle.record_trials.proofs.replay_run.Key.{name as #record-trials·replay-run}

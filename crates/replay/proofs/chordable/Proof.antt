@@ -13,8 +13,8 @@ returns c = let m = c .before in
     let a = b .args in
     λ g s old t. not-opened (a .rows) (a .columns) g s old (a .work .now) (a .index) (b .pre .1 .1) t (m .state .result) (m .state .ensures .0) (c .if1 .taken)
 
-kind-requires : tie.Need-kind-requires
-kind-requires c κs = search needs
+content-requires : tie.Need-content-requires
+content-requires c κs = search needs
 
 returns-2 : tie.Need-returns-2
 returns-2 c = let k = c .before in
@@ -22,7 +22,7 @@ returns-2 c = let k = c .before in
     let b = m .before in
     let a = b .args in
     λ g s old t. zero-opened (a .rows) (a .columns) g s old (a .work .now) (a .index) (b .pre .1 .1) t (m .state .result) (m .state .ensures .0) (k .before .if1 .left)
-    (k .kind .result) (k .kind .ensures .0) (c .if2 .taken)
+    (k .content .result) (k .content .ensures .0) (c .if2 .taken)
 
 unflagged-square-requires : tie.Need-unflagged-square-requires
 unflagged-square-requires c κs = search needs
@@ -33,7 +33,7 @@ returns-3 c = let k = c .before .before in
     let b = m .before in
     let a = b .args in
     λ g s old t. mines-decide (a .rows) (a .columns) g s old (a .work .now) (a .index) (b .pre .1 .1) t (m .state .result) (m .state .ensures .0) (k .before .if1 .left)
-    (k .kind .result) (c .unflagged-square .result) (k .kind .ensures .0) (c .before .if2 .left) (c .unflagged-square .ensures)
+    (k .content .result) (c .unflagged-square .result) (k .content .ensures .0) (c .before .if2 .left) (c .unflagged-square .ensures)
 
 pub chordable-spec : {M : Type 1} → statement M
 chordable-spec =
@@ -41,7 +41,7 @@ chordable-spec =
     (tie.spec
     state-requires
     returns
-    kind-requires
+    content-requires
     returns-2
     unflagged-square-requires
     returns-3)

@@ -4,8 +4,8 @@ use borrow.Author.Needs.{needs}
 use Rattle.replay.proofs.make_flag.Statement.{statement}
 use Rattle.replay.proofs.make_flag.Tie as tie
 
-kind-requires : tie.Need-kind-requires
-kind-requires c κs = search needs
+content-requires : tie.Need-content-requires
+content-requires c κs = search needs
 
 same-length : tie.Need-same-length
 same-length c = search needs
@@ -14,7 +14,7 @@ returns : tie.Need-returns
 returns c = let k = c .before in
     let b = k .before .before in
     let a = b .args in
-    λ g s old t. flag-safe (a .rows) (a .columns) g s old (a .work .now) (a .index) (b .pre .1 .1) t (k .kind .result) (k .kind .ensures .0) (c .if1 .taken)
+    λ g s old t. flag-safe (a .rows) (a .columns) g s old (a .work .now) (a .index) (b .pre .1 .1) t (k .content .result) (k .content .ensures .0) (c .if1 .taken)
 
 state-requires : tie.Need-state-requires
 state-requires c κs = search needs
@@ -42,14 +42,14 @@ returns-3 c = let q = c .before in
     let b = k .before .before in
     let a = b .args in
     λ g s old t. flag-played (a .rows) (a .columns) g s old (a .work .now) (a .index) (b .pre .1 .1) t
-    (k .kind .result) (m .state .result) (q .flag .last .0) (k .kind .ensures .0) (m .before .before .if1 .left) (m .state .ensures .0) (z .if2 .left)
+    (k .content .result) (m .state .result) (q .flag .last .0) (k .content .ensures .0) (m .before .before .if1 .left) (m .state .ensures .0) (z .if2 .left)
     (q .flag .ensures g s old t)
 
 pub make-flag-spec : {M : Type 1} → statement M
 make-flag-spec =
     tie.close
     (tie.spec
-    kind-requires
+    content-requires
     same-length
     returns
     state-requires

@@ -4,12 +4,12 @@ use native.Mathlib.Omega.{arith}
 use mathlib.Core.Path.{_≡_, refl}
 use lib.ListN.{length, take}
 use borrow.Author.Needs.{needs}
-use Rattle.replay.proofs.Runs.{Midway, begins, ends, goes-on, stops}
+use Rattle.replay.proofs.Runs.{ReplayMidway, begins, ends, goes-on, stops}
 use Rattle.replay.proofs.run.Statement.{statement}
 use Rattle.replay.proofs.run.Tie as tie
 
 abbrev Inv-loop : tie.InvT-loop
-Inv-loop work₀ rows columns list count safe closed₀ place₀ work closed place = (place ≤ count) × (length work ≡ length work₀) × Midway rows columns work₀ (take count list) safe place closed work
+Inv-loop work₀ rows columns list count safe closed₀ place₀ work closed place = (place ≤ count) × (length work ≡ length work₀) × ReplayMidway rows columns work₀ (take count list) safe place closed work
 
 abbrev μ-loop : tie.MeasureT-loop
 μ-loop work₀ rows columns list count safe closed₀ place₀ work closed place = count - place

@@ -6,7 +6,7 @@ use mathlib.Core.Path.{_∙_, _≡_, ap, refl}
 use Rattle.game.specs.Lists.{count, range}
 use lib.ListN.{length}
 use Rattle.ties.specs.Candidates.{candidateAt}
-use Rattle.choices.specs.Tops.{UnitsKept}
+use Rattle.choices.specs.Tops.{UnitsKnown}
 use Rattle.ties.proofs.Skips.{count-column-more, count-no-column, passed-few}
 use Rattle.ties.proofs.count.Statement.{statement}
 use Rattle.ties.proofs.count.Tie as tie
@@ -14,7 +14,7 @@ use Rattle.game.proofs.Squares.{next-column}
 
 abbrev Inv-loop : tie.InvT-loop
 Inv-loop work rows columns tops units₀ top candidates₀ column₀ units candidates column =
-    (column ≤ columns) × (length units ≡ length units₀) × UnitsKept work rows columns units units × (candidates ≡ count (candidateAt top work) (range 0 (column * rows))) × (candidates ≤ column * rows)
+    (column ≤ columns) × (length units ≡ length units₀) × UnitsKnown work rows columns units units × (candidates ≡ count (candidateAt top work) (range 0 (column * rows))) × (candidates ≤ column * rows)
 
 abbrev μ-loop : tie.MeasureT-loop
 μ-loop work rows columns tops units₀ top candidates₀ column₀ units candidates column = columns - column

@@ -6,7 +6,7 @@ use lib.ListN.{set}
 use mir.Syntax.{w32}
 use mir.Val.{toZ, ofZ}
 use mir.Facts.{toZ-ofZ}
-use Rattle.area.specs.Numbers.{kindPlace}
+use Rattle.area.specs.Numbers.{contentPlace}
 use Rattle.area.proofs.Signs.{stored, lowered-fits}
 use Rattle.area.proofs.five.put_lowered.Statement.{statement}
 use Rattle.area.proofs.five.put_lowered.Tie as tie
@@ -35,8 +35,8 @@ same-length c = search needs
 returns : tie.Need-returns
 returns c =
     let v = c .args .raised in
-    ap (λ (z : ℤ). set (c .args .work .now) (kindPlace (c .args .index)) (toZ w32 (ofZ w32 (z -ℤ pos 10)))) (stored v)
-    ∙ ap (λ (z : ℤ). set (c .args .work .now) (kindPlace (c .args .index)) z) (toZ-ofZ (lowered-fits v))
+    ap (λ (z : ℤ). set (c .args .work .now) (contentPlace (c .args .index)) (toZ w32 (ofZ w32 (z -ℤ pos 10)))) (stored v)
+    ∙ ap (λ (z : ℤ). set (c .args .work .now) (contentPlace (c .args .index)) z) (toZ-ofZ (lowered-fits v))
 
 pub put-lowered-spec : {M : Type 1} → statement M
 put-lowered-spec =

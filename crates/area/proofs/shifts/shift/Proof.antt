@@ -4,15 +4,15 @@ use borrow.Author.Needs.{needs}
 use Rattle.area.proofs.shifts.shift.Statement.{statement}
 use Rattle.area.proofs.shifts.shift.Tie as tie
 
-kind-requires : tie.Need-kind-requires
-kind-requires c κs = search needs
+content-requires : tie.Need-content-requires
+content-requires c κs = search needs
 
 same-length : tie.Need-same-length
 same-length c = search needs
 
 returns : tie.Need-returns
 returns c = let a = c .before .before .before .args in
-    shift-mine (a .up) (a .down) (a .work .now) (a .index) (c .before .kind .result) (c .before .kind .ensures .0) (c .if1 .taken)
+    shift-mine (a .up) (a .down) (a .work .now) (a .index) (c .before .content .result) (c .before .content .ensures .0) (c .if1 .taken)
 
 premium-requires : tie.Need-premium-requires
 premium-requires c κs = search needs
@@ -35,14 +35,14 @@ returns-2 c = let p = c .before in
     let g = q .before .before in
     let e = g .before .before in
     let a = e .before .before .before .args in
-    shift-safe (a .up) (a .down) (a .work .now) (a .index) (e .before .kind .result) (e .before .kind .ensures .0) (g .premium .result) (q .take-away .result)
+    shift-safe (a .up) (a .down) (a .work .now) (a .index) (e .before .content .result) (e .before .content .ensures .0) (g .premium .result) (q .take-away .result)
     (p .put-premium .last .0) (e .if1 .left) (g .premium .ensures .0) (q .take-away .ensures) (p .put-premium .ensures)
 
 pub shift-spec : {M : Type 1} → statement M
 shift-spec =
     tie.close
     (tie.spec
-    kind-requires
+    content-requires
     same-length
     returns
     premium-requires

@@ -1,12 +1,12 @@
--- `moves::opening_clicks::hit`: the kind that is read says whether the number is 0. Assumes nothing.
+-- `moves::opening_clicks::hit`: the content that is read says whether the number is 0. Assumes nothing.
 use native.Mathlib.Omega.{arith}
 use Rattle.moves.proofs.Hits.{hit-none, hit-zero}
 use borrow.Author.Needs.{needs}
 use Rattle.moves.proofs.opening_clicks.hit.Statement.{statement}
 use Rattle.moves.proofs.opening_clicks.hit.Tie as tie
 
-kind-requires : tie.Need-kind-requires
-kind-requires c κs = search needs
+content-requires : tie.Need-content-requires
+content-requires c κs = search needs
 
 same-length : tie.Need-same-length
 same-length c = search needs
@@ -16,7 +16,7 @@ returns c =
     let k = c .before in
     let b = k .before .before .before in
     let a = b .args in
-    (omega arith, hit-none (a .rows) (a .columns) (a .work .now) (a .list .now) (a .state) (a .index) (b .pre .1 .1) (k .kind .result) (k .kind .ensures .0) (c .if1 .taken))
+    (omega arith, hit-none (a .rows) (a .columns) (a .work .now) (a .list .now) (a .state) (a .index) (b .pre .1 .1) (k .content .result) (k .content .ensures .0) (c .if1 .taken))
 
 click-closed-requires : tie.Need-click-closed-requires
 click-closed-requires c κs = search needs
@@ -36,7 +36,7 @@ returns-2 c =
     let a = b .args in
     let y = x .click-closed in (
       omega arith,
-      hit-zero (a .rows) (a .columns) (a .work .now) (a .list .now) (a .state) (a .index) (b .pre .1 .1) (k .kind .result) (k .kind .ensures .0)
+      hit-zero (a .rows) (a .columns) (a .work .now) (a .list .now) (a .state) (a .index) (b .pre .1 .1) (k .content .result) (k .content .ensures .0)
           (y .last .0) (y .last .1 .1 .1 .0) (y .result) (z .if1 .left) (y .ensures .1),
     )
 
@@ -44,7 +44,7 @@ pub hit-spec : {M : Type 1} → statement M
 hit-spec =
     tie.close
     (tie.spec
-    kind-requires
+    content-requires
     same-length
     returns
     click-closed-requires

@@ -6,8 +6,8 @@ use borrow.Author.Needs.{needs}
 use Rattle.moves.proofs.single.flag_mine.Statement.{statement}
 use Rattle.moves.proofs.single.flag_mine.Tie as tie
 
-kind-requires : tie.Need-kind-requires
-kind-requires c κs = search needs
+content-requires : tie.Need-content-requires
+content-requires c κs = search needs
 
 same-length : tie.Need-same-length
 same-length c = search needs
@@ -17,7 +17,7 @@ returns c =
     let k = c .before in
     let b = k .before .before .before in
     let a = b .args in
-    (omega arith, flag-safe (a .rows) (a .columns) (a .work .now) (a .list .now) (a .state) (a .index) (b .pre .1 .1) (k .kind .result) (k .kind .ensures .0) (c .if1 .taken))
+    (omega arith, flag-safe (a .rows) (a .columns) (a .work .now) (a .list .now) (a .state) (a .index) (b .pre .1 .1) (k .content .result) (k .content .ensures .0) (c .if1 .taken))
 
 state-requires : tie.Need-state-requires
 state-requires c κs = search needs
@@ -56,15 +56,15 @@ returns-3 c =
     let b = k .before .before .before in
     let a = b .args in (
       omega (arith, n .carry-on .ensures .one-more),
-      flag-noted (a .rows) (a .columns) (a .work .now) (a .list .now) (a .state) (a .index) (b .pre .1 .1) (k .kind .result) (m .state .result) (q .flag .last .0) (n .carry-on .last .0)
-          (n .carry-on .result) (k .kind .ensures .0) (y .if1 .left) (m .state .ensures .0) (z .if2 .left) (q .flag .ensures) (n .carry-on .ensures),
+      flag-noted (a .rows) (a .columns) (a .work .now) (a .list .now) (a .state) (a .index) (b .pre .1 .1) (k .content .result) (m .state .result) (q .flag .last .0) (n .carry-on .last .0)
+          (n .carry-on .result) (k .content .ensures .0) (y .if1 .left) (m .state .ensures .0) (z .if2 .left) (q .flag .ensures) (n .carry-on .ensures),
     )
 
 pub flag-mine-spec : {M : Type 1} → statement M
 flag-mine-spec =
     tie.close
     (tie.spec
-    kind-requires
+    content-requires
     same-length
     returns
     state-requires

@@ -6,21 +6,21 @@ use native.Mathlib.Omega.{arith}
 use mathlib.Core.Path.{_≡_, _∙_, subst}
 use mathlib.Core.List.{List}
 use lib.IntN.{ℤ}
-use Rattle.area.specs.Numbers.{kindAt}
+use Rattle.area.specs.Numbers.{contentAt}
 use Rattle.openings.specs.Labels.{Ready, freeOf, putLabel, shaped}
 use Rattle.openings.specs.Spread.{Visited}
 use Rattle.area.proofs.Cells.{cells-few}
-use Rattle.openings.proofs.Edges.{fresh-no, fresh-yes, labelled-kind}
-use Rattle.openings.proofs.Changes.{kind-stays}
+use Rattle.openings.proofs.Edges.{fresh-no, fresh-yes, labelled-content}
+use Rattle.openings.proofs.Changes.{content-stays}
 use Rattle.openings.proofs.Frees.{free-le, free-labelled}
 use Rattle.openings.proofs.Visits.{border-free, opened-all, opened-not, ready-again, stepped, visited-more, visited-none}
 use borrow.Fn.Kinds.{In}
 use borrow.Fn.PlainCycle.{Measures, is, falls, and}
 use Rattle.openings.proofs.cycle.label_cell.Reads as label-cell
-use Rattle.openings.proofs.cycle.label_cell.Kinds as label-cell-kinds
+use Rattle.openings.proofs.cycle.label_cell.Kinds as label-cell-contents
 use Rattle.openings.proofs.cycle.+label_cell+visit.Lts-label_cell as label-cell-lts
 use Rattle.openings.proofs.cycle.visit.Reads as visit
-use Rattle.openings.proofs.cycle.visit.Kinds as visit-kinds
+use Rattle.openings.proofs.cycle.visit.Kinds as visit-contents
 use Rattle.openings.proofs.cycle.+label_cell+visit.Lts-visit as visit-lts
 use Rattle.openings.proofs.labels.border.Reads as border-reads
 use Rattle.openings.proofs.labels.fresh.Reads as fresh-reads
@@ -29,25 +29,25 @@ use Rattle.area.proofs.squares.near.Reads as near-reads
 use Rattle.openings.proofs.cycle.+label_cell+visit.{statement}
 use Rattle.openings.proofs.cycle.+label_cell+visit.Tie.{close}
 
-abbrev μ-label-cell : Measures 1 label-cell-kinds.ps ℕ
+abbrev μ-label-cell : Measures 1 label-cell-contents.ps ℕ
 μ-label-cell κs a = freeOf (a .1 .0 * a .1 .1 .0) (a .0 .now) * 2
 
-abbrev μ-visit : Measures 1 visit-kinds.ps ℕ
+abbrev μ-visit : Measures 1 visit-contents.ps ℕ
 μ-visit κs a = freeOf (a .1 .0 * a .1 .1 .0) (a .0 .now) * 2 + 1
 
-abbrev label-cell-at : ℕ → In 1 label-cell-kinds.ps
+abbrev label-cell-at : ℕ → In 1 label-cell-contents.ps
 label-cell-at t =
-    and 1 label-cell-kinds.ps (is 1 label-cell-kinds.ps μ-label-cell t) label-cell.Pre
+    and 1 label-cell-contents.ps (is 1 label-cell-contents.ps μ-label-cell t) label-cell.Pre
 
-abbrev label-cell-below : ℕ → In 1 label-cell-kinds.ps
+abbrev label-cell-below : ℕ → In 1 label-cell-contents.ps
 label-cell-below t =
-    and 1 label-cell-kinds.ps (falls 1 label-cell-kinds.ps _<_ μ-label-cell t) label-cell.Pre
+    and 1 label-cell-contents.ps (falls 1 label-cell-contents.ps _<_ μ-label-cell t) label-cell.Pre
 
-abbrev visit-at : ℕ → In 1 visit-kinds.ps
-visit-at t = and 1 visit-kinds.ps (is 1 visit-kinds.ps μ-visit t) visit.Pre
+abbrev visit-at : ℕ → In 1 visit-contents.ps
+visit-at t = and 1 visit-contents.ps (is 1 visit-contents.ps μ-visit t) visit.Pre
 
-abbrev visit-below : ℕ → In 1 visit-kinds.ps
-visit-below t = and 1 visit-kinds.ps (falls 1 visit-kinds.ps _<_ μ-visit t) visit.Pre
+abbrev visit-below : ℕ → In 1 visit-contents.ps
+visit-below t = and 1 visit-contents.ps (falls 1 visit-contents.ps _<_ μ-visit t) visit.Pre
 
 label-cell-mul-fresh : (t : ℕ) → label-cell-lts.Need-mul-fresh (
   fresh-reads.Asked,
@@ -125,7 +125,7 @@ label-cell-visit-requires t c κs =
     let f = fresh-yes n w (a .index) (c .before .before .before .before .before .fresh .result) (c .before .before .before .before .before .fresh .ensures) (c .before .before .before .before .if1 .left) in
     let e : w1 ≡ putLabel w (a .index) (a .op) = m .ensures in
     let less : freeOf n w1 + 1 ≡ freeOf n w = rw e (free-labelled n (a .op) (s .pre .1 .0 .some-label) w (a .index) (s .pre .1 .0 .room) f) in
-    (omega (arith, less, s .pre .0), (ready-again w w1 (s .pre .1 .0) (m .kept .0), (f .inside, (rw e (labelled-kind w (a .index) (a .op) ∙ f .zero-cell), s .pre .1 .1))))
+    (omega (arith, less, s .pre .0), (ready-again w w1 (s .pre .1 .0) (m .kept .0), (f .inside, (rw e (labelled-content w (a .index) (a .op) ∙ f .zero-cell), s .pre .1 .1))))
 
 label-cell-same-length-2 : (t : ℕ) → label-cell-lts.Need-same-length-2 (
   fresh-reads.Asked,
@@ -155,17 +155,17 @@ label-cell-returns-2 t c =
 
 abbrev visit-Inv-loop : visit-lts.InvT-loop
 visit-Inv-loop work₀ rows columns op index k₀ work k =
-    (k ≤ 9) × Visited (shaped rows columns) (kindAt work₀) op index k work₀ work
+    (k ≤ 9) × Visited (shaped rows columns) (contentAt work₀) op index k work₀ work
 
 abbrev visit-μ-loop : visit-lts.MeasureT-loop
 visit-μ-loop work₀ rows columns op index k₀ work k = 9 - k
 
 -- neighbours that were visited leave what the next one asks
-still-ready : {rows columns op i k : ℕ} (w w1 : List ℤ) → Ready rows columns op w → Visited (shaped rows columns) (kindAt w) op i k w w1 → Ready rows columns op w1
+still-ready : {rows columns op i k : ℕ} (w w1 : List ℤ) → Ready rows columns op w → Visited (shaped rows columns) (contentAt w) op i k w w1 → Ready rows columns op w1
 still-ready w w1 r v = ready-again w w1 r (v .change .long)
 
-still-zero : {rows columns op i k : ℕ} (w w1 : List ℤ) → Ready rows columns op w → Visited (shaped rows columns) (kindAt w) op i k w w1 → kindAt w i ≡ 1 → kindAt w1 i ≡ 1
-still-zero {rows = rows} {columns = columns} {op = op} {i = i} w w1 r v e = kind-stays (shaped rows columns) (kindAt w) op (r .some-label) i w w1 (v .change) i ∙ e
+still-zero : {rows columns op i k : ℕ} (w w1 : List ℤ) → Ready rows columns op w → Visited (shaped rows columns) (contentAt w) op i k w w1 → contentAt w i ≡ 1 → contentAt w1 i ≡ 1
+still-zero {rows = rows} {columns = columns} {op = op} {i = i} w w1 r v e = content-stays (shaped rows columns) (contentAt w) op (r .some-label) i w w1 (v .change) i ∙ e
 
 visit-loop-holds : (t : ℕ) → visit-lts.Need-loop-holds (
   near-reads.Asked,
@@ -232,7 +232,7 @@ visit-label-cell-requires t c κs =
     let r = still-ready (a .work .now) (l .work) (s .pre .1 .0) (l .inv .1) in
     let less = border-free g (a .op) (s .pre .1 .0 .some-label) (l .work) (b .last .0) (a .index) (l .k) (c .before .before .before .before .near .result) (s .pre .1 .1 .0)
     (still-zero (a .work .now) (l .work) (s .pre .1 .0) (l .inv .1) (s .pre .1 .1 .1 .0)) (omega (arith, c .before .before .before .before .before .loop-test .taken)) (r .room) (c .before .before .before .before .near .ensures) (b .ensures) in
-    let fewer = free-le g (kindAt (a .work .now)) (a .op) (s .pre .1 .0 .some-label) (a .index) (a .work .now) (l .work) (l .inv .1 .change) in
+    let fewer = free-le g (contentAt (a .work .now)) (a .op) (s .pre .1 .0 .some-label) (a .index) (a .work .now) (l .work) (l .inv .1 .change) in
     (omega (arith, less, fewer, s .pre .0), (ready-again (l .work) (b .last .0) r (b .kept .0), s .pre .1 .1 .1 .1))
 
 visit-add-k : (t : ℕ) → visit-lts.Need-add-k (
@@ -299,7 +299,7 @@ visit-returns t c =
     let l = c .before .loop in
     let a = s .args in
     let e : l .k ≡ 9 = omega (arith, l .inv .0, c .loop-test .left) in
-    subst (λ (n : ℕ). Visited (shaped (a .rows) (a .columns)) (kindAt (a .work .now)) (a .op) (a .index) n (a .work .now) (l .work)) e (l .inv .1)
+    subst (λ (n : ℕ). Visited (shaped (a .rows) (a .columns)) (contentAt (a .work .now)) (a .op) (a .index) n (a .work .now) (l .work)) e (l .inv .1)
 
 pub +label-cell+visit-spec : {M : Type 1} → statement M
 +label-cell+visit-spec = close μ-label-cell μ-visit (λ t. label-cell-lts.spec (

@@ -1,4 +1,4 @@
--- `labels::fresh`: on the grid the kind and the first label tell. Assumes nothing.
+-- `labels::fresh`: on the grid the content and the first label tell. Assumes nothing.
 use borrow.Author.Needs.{needs}
 use Rattle.openings.proofs.labels.fresh.Statement.{statement}
 use Rattle.openings.proofs.labels.fresh.Tie as tie
@@ -7,19 +7,19 @@ use borrow.Author.Tests.{eq-eqb, le-ltb, lt-ltb, ne-eqb}
 returns : tie.Need-returns
 returns c = simp (le-ltb _ _ (c .if1 .taken))
 
-kind-requires : tie.Need-kind-requires
-kind-requires c κs = search needs
+content-requires : tie.Need-content-requires
+content-requires c κs = search needs
 
 returns-2 : tie.Need-returns-2
-returns-2 c = simp (lt-ltb _ _ (c .before .before .if1 .left), ← c .before .kind .ensures .0, ne-eqb _ 1 (c .if2 .taken))
+returns-2 c = simp (lt-ltb _ _ (c .before .before .if1 .left), ← c .before .content .ensures .0, ne-eqb _ 1 (c .if2 .taken))
 
 first-label-requires : tie.Need-first-label-requires
 first-label-requires c κs = search needs
 
 returns-3 : tie.Need-returns-3
-returns-3 c = simp (lt-ltb _ _ (c .before .before .before .if1 .left), ← c .before .before .kind .ensures .0, eq-eqb _ 1 (c .before .if2 .left), c .first-label .ensures .0)
+returns-3 c = simp (lt-ltb _ _ (c .before .before .before .if1 .left), ← c .before .before .content .ensures .0, eq-eqb _ 1 (c .before .if2 .left), c .first-label .ensures .0)
 
 pub fresh-spec : {M : Type 1} → statement M
 fresh-spec =
     tie.close
-    (tie.spec returns kind-requires returns-2 first-label-requires returns-3)
+    (tie.spec returns content-requires returns-2 first-label-requires returns-3)

@@ -1,4 +1,4 @@
--- `labels::numbered`: on the grid the kind tells. Assumes nothing.
+-- `labels::numbered`: on the grid the content tells. Assumes nothing.
 use borrow.Author.Needs.{needs}
 use Rattle.openings.proofs.labels.numbered.Statement.{statement}
 use Rattle.openings.proofs.labels.numbered.Tie as tie
@@ -7,11 +7,11 @@ use borrow.Author.Tests.{le-ltb, lt-ltb}
 returns : tie.Need-returns
 returns c = simp (le-ltb _ _ (c .if1 .taken))
 
-kind-requires : tie.Need-kind-requires
-kind-requires c κs = search needs
+content-requires : tie.Need-content-requires
+content-requires c κs = search needs
 
 returns-2 : tie.Need-returns-2
-returns-2 c = simp (lt-ltb _ _ (c .before .if1 .left), c .kind .ensures .0)
+returns-2 c = simp (lt-ltb _ _ (c .before .if1 .left), c .content .ensures .0)
 
 pub numbered-spec : {M : Type 1} → statement M
-numbered-spec = tie.close (tie.spec returns kind-requires returns-2)
+numbered-spec = tie.close (tie.spec returns content-requires returns-2)

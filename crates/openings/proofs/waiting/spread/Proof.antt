@@ -1,5 +1,5 @@
 -- `waiting::spread`: each newly labelled 0-cell waits or has its square visited, until none waits. Twice the 0-cells without label, plus the cells that wait, fall. Assumes nothing.
-use Rattle.area.specs.Numbers.{HasCells, kindAt}
+use Rattle.area.specs.Numbers.{HasCells, contentAt}
 use Rattle.openings.proofs.waiting.spread.Statement.{statement}
 use Rattle.openings.proofs.waiting.spread.Tie as tie
 use Prim.Native.Nat.{ℕ, _*_, _+_, _-_, _<_, _≤_}
@@ -16,7 +16,7 @@ use Rattle.openings.proofs.Visits.{ready-again}
 
 abbrev Inv-loop : tie.InvT-loop
 Inv-loop work₀ rows columns op index top₀ work top =
-    (w : List ℤ) → HasCells w (rows * columns) → Waited (rows * columns) op index 0 w top₀ work₀ → Spreading (shaped rows columns) (kindAt w) op index w work top
+    (w : List ℤ) → HasCells w (rows * columns) → Waited (rows * columns) op index 0 w top₀ work₀ → Spreading (shaped rows columns) (contentAt w) op index w work top
 
 abbrev μ-loop : tie.MeasureT-loop
 μ-loop work₀ rows columns op index top₀ work top = 2 * freeOf (rows * columns) work + top
@@ -24,13 +24,13 @@ abbrev μ-loop : tie.MeasureT-loop
 -- a turn takes one of the cells that wait
 again : (c : tie.In-loop Inv-loop μ-loop) (w : List ℤ) → HasCells w (c .before .before .before .before .before .args .rows * c .before .before .before .before .before .args .columns)
     → Waited (c .before .before .before .before .before .args .rows * c .before .before .before .before .before .args .columns) (c .before .before .before .before .before .args .op) (c .before .before .before .before .before .args .index) 0 w (c .before .before .before .wait .result) (c .before .before .before .wait .last .0)
-    → Spreading (shaped (c .before .before .before .before .before .args .rows) (c .before .before .before .before .before .args .columns)) (kindAt w) (c .before .before .before .before .before .args .op) (c .before .before .before .before .before .args .index) w (c .before .loop .work) (c .before .loop .top - 1 + 1)
+    → Spreading (shaped (c .before .before .before .before .before .args .rows) (c .before .before .before .before .before .args .columns)) (contentAt w) (c .before .before .before .before .before .args .op) (c .before .before .before .before .before .args .index) w (c .before .loop .work) (c .before .loop .top - 1 + 1)
 again c w h q =
     let a = c .before .before .before .before .before .args in
     let e : c .before .loop .top ≡ c .before .loop .top - 1 + 1 = omega (arith, c .loop-test .taken) in
-    subst (λ (t : ℕ). Spreading (shaped (a .rows) (a .columns)) (kindAt w) (a .op) (a .index) w (c .before .loop .work) t) e (c .before .loop .inv w h q)
+    subst (λ (t : ℕ). Spreading (shaped (a .rows) (a .columns)) (contentAt w) (a .op) (a .index) w (c .before .loop .work) t) e (c .before .loop .inv w h q)
 
-so : (c : tie.In-loop Inv-loop μ-loop) → Spreading (shaped (c .before .before .before .before .before .args .rows) (c .before .before .before .before .before .args .columns)) (kindAt (c .before .before .before .before .before .args .work .now)) (c .before .before .before .before .before .args .op) (c .before .before .before .before .before .args .index)
+so : (c : tie.In-loop Inv-loop μ-loop) → Spreading (shaped (c .before .before .before .before .before .args .rows) (c .before .before .before .before .before .args .columns)) (contentAt (c .before .before .before .before .before .args .work .now)) (c .before .before .before .before .before .args .op) (c .before .before .before .before .before .args .index)
     (c .before .before .before .before .before .args .work .now) (c .before .loop .work) (c .before .loop .top - 1 + 1)
 so c = again c (c .before .before .before .before .before .args .work .now) (c .before .before .before .before .before .pre .0 .room) (c .before .before .before .wait .ensures)
 
@@ -100,7 +100,7 @@ loop-again c =
     let p = again (c .before .before .before .before .before .before .before .before) w h q in
     let room-now : HasCells (l .work) (a .rows * a .columns) = omega (arith, h, p .change .long) in
     spread-more g (a .op) (s .pre .0 .some-label) (a .index) w (l .work) w1 (v .last .0) (l .top - 1) (v .result) room-now p (c .before .before .before .before .put-waiting .ensures)
-    (subst (λ (x : ℕ). Pushed g (kindAt w1) (a .op) x (InSquare g x) w1 (l .top - 1) (v .last .0) (v .result)) (c .before .before .before .before .before .before .waiting .ensures .0) (v .ensures))
+    (subst (λ (x : ℕ). Pushed g (contentAt w1) (a .op) x (InSquare g x) w1 (l .top - 1) (v .last .0) (v .result)) (c .before .before .before .before .before .before .waiting .ensures .0) (v .ensures))
 
 same-length : tie.Need-same-length Inv-loop μ-loop
 same-length c =

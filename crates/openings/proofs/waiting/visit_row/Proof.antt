@@ -1,6 +1,6 @@
 -- `waiting::visit_row`: the cells of the row before the column are visited; the columns left fall. Assumes nothing.
 use borrow.Author.Needs.{needs}
-use Rattle.area.specs.Numbers.{HasCells, kindAt}
+use Rattle.area.specs.Numbers.{HasCells, contentAt}
 use Rattle.openings.proofs.waiting.visit_row.Statement.{statement}
 use Rattle.openings.proofs.waiting.visit_row.Tie as tie
 use Prim.Native.Nat.{_*_, _+_, _-_, _<_, _≤_}
@@ -19,7 +19,7 @@ use Rattle.openings.proofs.Stacks.{beside-at, border-places, pushed-aga
 abbrev Inv-loop : tie.InvT-loop
 Inv-loop work₀ rows columns op index row top column₀ end waiting₀ work column waiting =
     (column₀ ≤ column)
-    × Pushed (shaped rows columns) (kindAt work₀) op index (InRowBefore (shaped rows columns) index row column) work₀ top work waiting
+    × Pushed (shaped rows columns) (contentAt work₀) op index (InRowBefore (shaped rows columns) index row column) work₀ top work waiting
 
 abbrev μ-loop : tie.MeasureT-loop
 μ-loop work₀ rows columns op index row top column₀ end waiting₀ work column waiting = end - column
@@ -42,7 +42,7 @@ at-below c =
 
 -- it may be visited still
 visitable : (c : tie.In-loop Inv-loop μ-loop) → Visitable (c .before .before .before .before .args .rows * c .before .before .before .before .args .columns)
-    (kindAt (c .before .loop .work)) (c .before .before .before .before .args .index) (c .before .loop .waiting) (c .before .loop .work)
+    (contentAt (c .before .loop .work)) (c .before .before .before .before .args .index) (c .before .loop .waiting) (c .before .loop .work)
 visitable c =
     let s = c .before .before .before .before in
     let a = s .args in

@@ -1,5 +1,5 @@
 -- `waiting::visit_square`: the rows before the row are visited; the rows left fall. Assumes nothing.
-use Rattle.area.specs.Numbers.{kindAt}
+use Rattle.area.specs.Numbers.{contentAt}
 use Rattle.openings.proofs.waiting.visit_square.Statement.{statement}
 use Rattle.openings.proofs.waiting.visit_square.Tie as tie
 use borrow.Author.Needs.{needs}
@@ -13,7 +13,7 @@ use Rattle.openings.proofs.Visits.{ready-again}
 
 abbrev Inv-loop : tie.InvT-loop
 Inv-loop work₀ rows columns op index top row₀ end waiting₀ work row waiting =
-    (row₀ ≤ row) × Pushed (shaped rows columns) (kindAt work₀) op index (BeforeRow (shaped rows columns) index row) work₀ top work waiting
+    (row₀ ≤ row) × Pushed (shaped rows columns) (contentAt work₀) op index (BeforeRow (shaped rows columns) index row) work₀ top work waiting
 
 abbrev μ-loop : tie.MeasureT-loop
 μ-loop work₀ rows columns op index top row₀ end waiting₀ work row waiting = end - row

@@ -5,7 +5,7 @@ use mathlib.Core.Path.{_∙_, _≡_, ap}
 use mathlib.Core.List.{List}
 use Rattle.choices.specs.Picks.{foundColumn}
 use Rattle.game.specs.Moves.{Move}
-use Rattle.rounds.specs.Promises.{MadeKept}
+use Rattle.rounds.specs.Promises.{MadeKnown}
 use Rattle.rounds.proofs.Takes.{unit-inside, unit-missing, unit-taken}
 use borrow.Author.Needs.{needs}
 use Rattle.rounds.proofs.steps.click_lowest.Statement.{statement}
@@ -47,7 +47,7 @@ returns c =
     let y = x .click-at in
     λ o g s old st p n q e. let f = m .lowest .ensures g s old st in
     unit-taken (a .rows) (a .columns) (a .work .now) (m .lowest .result .found) g s
-    (λ (ms : List Move) (column : ℕ). MadeKept o (a .rows) (a .columns) g s old ms (a .list .now) (a .work .now) (a .tops .now) (a .state) (y .last .0) (y .last .1 .1 .1 .0) (y .last .1 .1 .1 .1 .0) (y .result)
+    (λ (ms : List Move) (column : ℕ). MadeKnown o (a .rows) (a .columns) g s old ms (a .list .now) (a .work .now) (a .tops .now) (a .state) (y .last .0) (y .last .1 .1 .1 .0) (y .last .1 .1 .1 .1 .0) (y .result)
     × (m .lowest .result .column ≡ column))
     (k .found .given .0 .0) (k .found .given .1) (f .0) (λ t u. (y .ensures o g s old st p t u q e, f .1 ∙ ap (foundColumn g) (k .found .given .1)))
 
@@ -59,7 +59,7 @@ returns-2 c =
     let m = c .before .before in
     let a = m .before .before .before .before .args in
     λ o g s old st p n q e. unit-missing (a .rows) (a .columns) (a .work .now) (m .lowest .result .found) g s
-    (λ (ms : List Move) (column : ℕ). MadeKept o (a .rows) (a .columns) g s old ms (a .list .now) (a .work .now) (a .tops .now) (a .state) (a .work .now) (a .list .now) (a .tops .now) (a .state)
+    (λ (ms : List Move) (column : ℕ). MadeKnown o (a .rows) (a .columns) g s old ms (a .list .now) (a .work .now) (a .tops .now) (a .state) (a .work .now) (a .list .now) (a .tops .now) (a .state)
     × (a .from ≡ column))
     (c .enum-told .given .1) (m .lowest .ensures g s old st .0) n
 

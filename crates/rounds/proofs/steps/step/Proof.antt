@@ -4,7 +4,7 @@ use native.Mathlib.Omega.{arith}
 use mathlib.Core.Path.{_≡_, refl}
 use mathlib.Core.List.{List}
 use Rattle.game.specs.Moves.{Move}
-use Rattle.rounds.specs.Promises.{MadeKept}
+use Rattle.rounds.specs.Promises.{MadeKnown}
 use Rattle.rounds.proofs.Columns.{step-kept}
 use Rattle.rounds.proofs.Takes.{click-taken, top-inside, top-taken}
 use borrow.Author.Needs.{needs}
@@ -50,7 +50,7 @@ returns c =
     let y = x .act-at in
     λ g s old st p n e. step-kept (a .opened-only) (a .rows) (a .columns) g s old (a .list .now) (a .work .now) tops (a .state) (a .from) (y .last .0) (y .last .1 .1 .1 .0) (y .last .1 .1 .1 .1 .0) (record { state = y .result; from = a .from })
     (top-taken (a .rows) (a .columns) (a .work .now) (m .best .result) g s
-    (λ (ms : List Move) (column : ℕ). MadeKept (a .opened-only) (a .rows) (a .columns) g s old ms (a .list .now) (a .work .now) tops (a .state) (y .last .0) (y .last .1 .1 .1 .0) (y .last .1 .1 .1 .1 .0) (y .result)
+    (λ (ms : List Move) (column : ℕ). MadeKnown (a .opened-only) (a .rows) (a .columns) g s old ms (a .list .now) (a .work .now) tops (a .state) (y .last .0) (y .last .1 .1 .1 .0) (y .last .1 .1 .1 .1 .0) (y .result)
     × (a .from ≡ column))
     (a .opened-only) (a .from) (m .best .ensures .1 g s old st) (k .found .given .0 .0) (k .found .given .1) (λ t z. (y .ensures (a .opened-only) g s old st p t z e, refl)))
     (m .best .ensures .0 .1)
@@ -74,7 +74,7 @@ returns-2 c =
     let y = x .click-lowest in
     λ g s old st p n e. step-kept (a .opened-only) (a .rows) (a .columns) g s old (a .list .now) (a .work .now) tops (a .state) (a .from) (y .last .0) (y .last .1 .1 .1 .0) (y .last .1 .1 .1 .1 .0) (y .result)
     (click-taken (a .rows) (a .columns) (a .work .now) (m .best .result) g s
-    (λ (ms : List Move) (column : ℕ). MadeKept (a .opened-only) (a .rows) (a .columns) g s old ms (a .list .now) (a .work .now) tops (a .state) (y .last .0) (y .last .1 .1 .1 .0) (y .last .1 .1 .1 .1 .0) (y .result .state)
+    (λ (ms : List Move) (column : ℕ). MadeKnown (a .opened-only) (a .rows) (a .columns) g s old ms (a .list .now) (a .work .now) tops (a .state) (y .last .0) (y .last .1 .1 .1 .0) (y .last .1 .1 .1 .1 .0) (y .result .state)
     × (y .result .from ≡ column))
     (a .opened-only) (a .from) (m .best .ensures .1 g s old st) p n (k .enum-told .given .1) (λ l q. y .ensures (a .opened-only) g s old st p l q e))
     (m .best .ensures .0 .1)

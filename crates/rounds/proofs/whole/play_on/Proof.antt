@@ -5,19 +5,19 @@ use mathlib.Core.Path.{_≡_, refl}
 use lib.ListN.{length}
 use borrow.Author.Needs.{needs}
 use Rattle.choices.specs.Tests.{NoUnitBelow}
-use Rattle.choices.specs.Tops.{Kept}
+use Rattle.choices.specs.Tops.{TopsKnown}
 use Rattle.game.specs.Moves.{after}
 use Rattle.game.specs.Position.{closedSafe}
 use Rattle.rounds.proofs.Lows.{low-goes-on}
 use Rattle.moves.proofs.Partway.{partway-few}
-use Rattle.rounds.proofs.Onward.{Midway, closed-falls, known, midway-begins, midway-ends, midway-goes-on}
+use Rattle.rounds.proofs.Onward.{StepsMidway, closed-falls, known, midway-begins, midway-ends, midway-goes-on}
 use Rattle.rounds.proofs.whole.play_on.Statement.{statement}
 use Rattle.rounds.proofs.whole.play_on.Tie as tie
 
 abbrev Inv-loop : tie.InvT-loop
 Inv-loop work₀ rows columns list₀ tops₀ opened-only current₀ from₀ work list tops current from =
     (length work ≡ length work₀) × (length list ≡ length list₀) × (length tops ≡ length tops₀)
-    × Midway opened-only rows columns work₀ list₀ current₀ work list current × Kept opened-only work rows columns tops × (from ≤ columns) × NoUnitBelow work (from * rows)
+    × StepsMidway opened-only rows columns work₀ list₀ current₀ work list current × TopsKnown opened-only work rows columns tops × (from ≤ columns) × NoUnitBelow work (from * rows)
 
 abbrev μ-loop : tie.MeasureT-loop
 μ-loop work₀ rows columns list₀ tops₀ opened-only current₀ from₀ work list tops current from = current .closed

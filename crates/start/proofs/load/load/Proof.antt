@@ -9,7 +9,7 @@ use lib.ListN.{length}
 use Rattle.game.specs.Lists.{range, fold}
 use Rattle.game.proofs.Members.{fold-more, length-fold}
 use Rattle.area.specs.Numbers.{gridOf}
-use Rattle.area.specs.Stages.{kind}
+use Rattle.area.specs.Stages.{content}
 use Rattle.start.specs.Passes.{loadCell}
 use Rattle.start.proofs.Loaded.{loaded-all, length-load}
 use Rattle.start.proofs.load.load.Statement.{statement}
@@ -21,7 +21,7 @@ column rows columns grid w c = fold (λ u r. loadCell (gridOf rows columns grid)
 length-column : (rows columns : ℕ) (grid w : List ℤ) (c : ℕ) → length (column rows columns grid w c) ≡ length w
 length-column rows columns grid w c =
     length-fold (λ u r. loadCell (gridOf rows columns grid) u (c * rows + r)) w (range 0 rows)
-    (λ u r. length-load u (c * rows + r) (kind (gridOf rows columns grid) (c * rows + r)))
+    (λ u r. length-load u (c * rows + r) (content (gridOf rows columns grid) (c * rows + r)))
 
 abbrev Inv-loop : tie.InvT-loop
 Inv-loop grid rows columns work₀ column₀ work col =

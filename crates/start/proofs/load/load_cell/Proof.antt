@@ -3,7 +3,7 @@ use borrow.Author.Needs.{needs}
 use mathlib.Core.Path.{_∙_, ap}
 use mathlib.Core.List.{List}
 use lib.IntN.{ℤ}
-use Rattle.area.specs.Numbers.{putKind, putPremium, putSecond, putState}
+use Rattle.area.specs.Numbers.{putContent, putPremium, putSecond, putState}
 use Rattle.start.proofs.load.load_cell.Statement.{statement}
 use Rattle.start.proofs.load.load_cell.Tie as tie
 
@@ -13,8 +13,8 @@ put-first-label-requires c κs = search needs
 put-second-label-requires : tie.Need-put-second-label-requires
 put-second-label-requires c κs = search needs
 
-put-kind-requires : tie.Need-put-kind-requires
-put-kind-requires c κs = search needs
+put-content-requires : tie.Need-put-content-requires
+put-content-requires c κs = search needs
 
 put-state-requires : tie.Need-put-state-requires
 put-state-requires c κs = search needs
@@ -33,10 +33,10 @@ returns c =
     let second = third .before .before .before in
     let first = second .before .before .before in
     let i = first .before .before .args .index in
-    let k = first .before .before .args .kind in
+    let k = first .before .before .args .content in
     fifth .put-premium .ensures ∙ ap (λ (w : List ℤ). putPremium w i 0)
     (fourth .put-state .ensures ∙ ap (λ (w : List ℤ). putState w i 0)
-    (third .put-kind .ensures ∙ ap (λ (w : List ℤ). putKind w i k)
+    (third .put-content .ensures ∙ ap (λ (w : List ℤ). putContent w i k)
     (second .put-second-label .ensures ∙ ap (λ (w : List ℤ). putSecond w i 0) (first .put-first-label .ensures))))
 
 pub load-cell-spec : {M : Type 1} → statement M
@@ -45,7 +45,7 @@ load-cell-spec =
     (tie.spec
     put-first-label-requires
     put-second-label-requires
-    put-kind-requires
+    put-content-requires
     put-state-requires
     put-premium-requires
     same-length

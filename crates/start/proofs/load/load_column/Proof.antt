@@ -13,7 +13,7 @@ use Rattle.game.specs.Lists.{range, fold}
 use Rattle.game.specs.Grid.{mine}
 use Rattle.game.proofs.Members.{fold-more}
 use Rattle.area.specs.Numbers.{gridOf, rowMine}
-use Rattle.area.specs.Stages.{kind}
+use Rattle.area.specs.Stages.{content}
 use Rattle.area.proofs.Cells.{cell-below, cells-few, mine-here}
 use Rattle.start.specs.Passes.{loadAt, loadCell, minesOf}
 use Rattle.start.proofs.Loaded.{length-load, mines-none, mines-row, number-by-rows}
@@ -33,16 +33,16 @@ abbrev μ-loop : tie.MeasureT-loop
 μ-loop grid rows columns work₀ column from to above₀ here₀ row₀ work above here row = rows - row
 
 one-more : (rows columns : ℕ) (grid work₀ work new : List ℤ) (column row k : ℕ) → work ≡ loaded rows columns grid work₀ column row
-    → k ≡ kind (gridOf rows columns grid) (column * rows + row) → new ≡ loadAt work (column * rows + row) k
+    → k ≡ content (gridOf rows columns grid) (column * rows + row) → new ≡ loadAt work (column * rows + row) k
     → new ≡ loaded rows columns grid work₀ column (row + 1)
 one-more rows columns grid work₀ work new column row k e q r =
     r ∙ ap (loadAt work (column * rows + row)) q ∙ ap (λ (w : List ℤ). loadCell (gridOf rows columns grid) w (column * rows + row)) e
     ∙ sym (fold-more (λ w r. loadCell (gridOf rows columns grid) w (column * rows + r)) work₀ 0 row (omega arith))
 
-kind-is : (rows columns : ℕ) (vs : List ℤ) (row column n k : ℕ) → row < rows → k ≡ cond (rowMine vs columns row column) 0 (1 + n)
-    → n ≡ Rattle.game.specs.Grid.number (gridOf rows columns vs) (column * rows + row) → k ≡ kind (gridOf rows columns vs) (column * rows + row)
-unfolding kind
-kind-is rows columns vs row column n k h e q =
+content-is : (rows columns : ℕ) (vs : List ℤ) (row column n k : ℕ) → row < rows → k ≡ cond (rowMine vs columns row column) 0 (1 + n)
+    → n ≡ Rattle.game.specs.Grid.number (gridOf rows columns vs) (column * rows + row) → k ≡ content (gridOf rows columns vs) (column * rows + row)
+unfolding content
+content-is rows columns vs row column n k h e q =
     e ∙ ap (λ (b : Bool). cond b 0 (1 + n)) (mine-here rows columns vs row column h)
     ∙ ap (λ (m : ℕ). cond (mine (gridOf rows columns vs) (column * rows + row)) 0 (1 + m)) q
 
@@ -96,20 +96,20 @@ few c =
     let s = c .before .before .before .before .before in
     cells-few (s .args .rows) (s .args .columns) (s .pre .0)
 
-mul-kind-of : tie.Need-mul-kind-of Inv-loop μ-loop
-mul-kind-of c = omega (arith, place (c .before), few (c .before))
+mul-content-of : tie.Need-mul-content-of Inv-loop μ-loop
+mul-content-of c = omega (arith, place (c .before), few (c .before))
 
-add-kind-of : tie.Need-add-kind-of Inv-loop μ-loop
-add-kind-of c = omega (arith, place (c .before), few (c .before))
+add-content-of : tie.Need-add-content-of Inv-loop μ-loop
+add-content-of c = omega (arith, place (c .before), few (c .before))
 
-add-kind-of-2 : tie.Need-add-kind-of-2 Inv-loop μ-loop
-add-kind-of-2 c = omega arith
+add-content-of-2 : tie.Need-add-content-of-2 Inv-loop μ-loop
+add-content-of-2 c = omega arith
 
-add-kind-of-3 : tie.Need-add-kind-of-3 Inv-loop μ-loop
-add-kind-of-3 c = omega arith
+add-content-of-3 : tie.Need-add-content-of-3 Inv-loop μ-loop
+add-content-of-3 c = omega arith
 
-kind-of-requires : tie.Need-kind-of-requires Inv-loop μ-loop
-kind-of-requires c κs = (omega (arith, place (c .before)), omega arith)
+content-of-requires : tie.Need-content-of-requires Inv-loop μ-loop
+content-of-requires c κs = (omega (arith, place (c .before)), omega arith)
 
 mul-load-cell : tie.Need-mul-load-cell Inv-loop μ-loop
 mul-load-cell c = omega (arith, below (c .before .before .before), few (c .before .before .before))
@@ -129,7 +129,7 @@ loop-less c = omega arith
 loop-again : tie.Need-loop-again Inv-loop μ-loop
 loop-again c =
     let new = c .before .load-cell in
-    let k = c .before .before .before .kind-of in
+    let k = c .before .before .before .content-of in
     let b = c .before .before .before .before .mines-below in
     let s = c .before .before .before .before .before .before in
     let l = s .loop in
@@ -144,7 +144,7 @@ loop-again c =
     let o : min (l .row + 2) (a .rows) ≡ min (l .row + 1 + 1) (a .rows) = omega arith in (
       omega arith,
       one-more (a .rows) (a .columns) (a .grid .now) (a .work .now) (l .work) (new .last .0) (a .column) (l .row) (k .result) (l .inv .1)
-          (kind-is (a .rows) (a .columns) (a .grid .now) (l .row) (a .column) (l .above + l .here + b .result) (k .result) (omega arith) (k .ensures) n) (new .ensures),
+          (content-is (a .rows) (a .columns) (a .grid .now) (l .row) (a .column) (l .above + l .here + b .result) (k .result) (omega arith) (k .ensures) n) (new .ensures),
       ap length (new .ensures) ∙ length-load (l .work) (a .column * a .rows + l .row) (k .result) ∙ l .inv .2,
       h ∙ ap (λ (x : ℕ). minesOf g (from .result) (to .result) x (l .row + 1)) m,
       b .ensures .0 ∙ ap (minesOf g (from .result) (to .result) (l .row + 1)) o,
@@ -173,11 +173,11 @@ load-column-spec =
     mines-in-row-requires
     loop-holds
     mines-below-requires
-    mul-kind-of
-    add-kind-of
-    add-kind-of-2
-    add-kind-of-3
-    kind-of-requires
+    mul-content-of
+    add-content-of
+    add-content-of-2
+    add-content-of-3
+    content-of-requires
     mul-load-cell
     add-load-cell
     load-cell-requires

@@ -3,12 +3,12 @@ use borrow.Author.Needs.{needs}
 use borrow.Author.Tests.{eq-eqb, ne-eqb}
 use mathlib.Core.Path.{_≡_, ap, sym, _∙_}
 use mathlib.Core.Bool.{Bool, cond}
-use Rattle.area.specs.Numbers.{kindAt, premiumAt, putLowered}
+use Rattle.area.specs.Numbers.{contentAt, premiumAt, putLowered}
 use Rattle.start.proofs.settle.lower_premium.Statement.{statement}
 use Rattle.start.proofs.settle.lower_premium.Tie as tie
 
-kind-requires : tie.Need-kind-requires
-kind-requires c κs = search needs
+content-requires : tie.Need-content-requires
+content-requires c κs = search needs
 
 same-length : tie.Need-same-length
 same-length c = search needs
@@ -17,7 +17,7 @@ returns : tie.Need-returns
 returns c =
     let w = c .before .before .before .args .work .now in
     let i = c .before .before .before .args .index in
-    sym (ap (λ (b : Bool). cond b w (putLowered w i (premiumAt w i))) (eq-eqb (kindAt w i) 0 (cc)))
+    sym (ap (λ (b : Bool). cond b w (putLowered w i (premiumAt w i))) (eq-eqb (contentAt w i) 0 (cc)))
 
 premium-requires : tie.Need-premium-requires
 premium-requires c κs = search needs
@@ -33,13 +33,13 @@ returns-2 c =
     let w = c .before .before .before .before .before .before .before .before .args .work .now in
     let i = c .before .before .before .before .before .before .before .before .args .index in
     let e : c .before .put-lowered .last .0 ≡ putLowered w i (premiumAt w i) = cc in
-    e ∙ sym (ap (λ (b : Bool). cond b w (putLowered w i (premiumAt w i))) (ne-eqb (kindAt w i) 0 (λ e. c .before .before .before .before .before .if1 .left (c .before .before .before .before .before .before .kind .ensures .0 ∙ e))))
+    e ∙ sym (ap (λ (b : Bool). cond b w (putLowered w i (premiumAt w i))) (ne-eqb (contentAt w i) 0 (λ e. c .before .before .before .before .before .if1 .left (c .before .before .before .before .before .before .content .ensures .0 ∙ e))))
 
 pub lower-premium-spec : {M : Type 1} → statement M
 lower-premium-spec =
     tie.close
     (tie.spec
-    kind-requires
+    content-requires
     same-length
     returns
     premium-requires

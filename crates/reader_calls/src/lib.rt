@@ -1,0 +1,103 @@
+// The random calls with a reader of draw bytes: they read on from its place, and it then stands where the bytes used say.
+use draw_reader::DrawReader;
+use zini::Rolled;
+ghost use mathlib.Core.Path.{_≡_};
+ghost use Prim.Native.Nat.{_<_, _^_};
+ghost use lib.ListN.{drop};
+ghost use Rattle.game.specs.Calls.{randomRoundCall, randomSearchCall};
+ghost use Rattle.area.specs.Numbers.{gridOf};
+ghost use Rattle.zini.specs.Answers.{Keeps, KeepsList, rolledAnswer};
+ghost use Rattle.reader_calls.specs.Stands.{Starts, standsAt, readOn};
+
+// Where in the bytes a place is; a place past the end is the end.
+fn start_at(place: usize, length: usize) -> usize
+    ensures { λ r. ⌜ Starts place length r ⌝ }
+{
+    if length < place {
+        return length;
+    }
+    place
+}
+
+// A single random round by the bytes from a place on.
+pub fn round_from(
+    rows: usize,
+    columns: usize,
+    grid: &[i32],
+    work: &mut [i32],
+    list: &mut [u32],
+    bytes: &[u8],
+    place: usize,
+) -> Rolled
+    ensures { λ r. ⌜ KeepsList (randomRoundCall (gridOf rows columns (now (grid .entry))) (now (work .entry)) (now (list .entry)) (drop place (now (bytes .entry)))) (rolledAnswer r) (now (work .exit)) (now (list .exit)) × (standsAt r place < 2 ^ 64) ⌝ }
+{
+    let start = start_at(place, bytes.len());
+    zini::random_calls::random_round(rows, columns, grid, work, list, &bytes[start..])
+}
+
+// Random search by the bytes from a place on.
+pub fn search_from(
+    rows: usize,
+    columns: usize,
+    grid: &[i32],
+    work: &mut [i32],
+    bytes: &[u8],
+    place: usize,
+    rounds: usize,
+) -> Rolled
+    ensures { λ r. ⌜ Keeps (randomSearchCall (gridOf rows columns (now (grid .entry))) (now (work .entry)) (drop place (now (bytes .entry))) rounds) (rolledAnswer r) (now (work .exit)) × (standsAt r place < 2 ^ 64) ⌝ }
+{
+    let start = start_at(place, bytes.len());
+    zini::random_calls::random_search(rows, columns, grid, work, &bytes[start..], rounds)
+}
+
+// Where a reader stands after a random call: on by the bytes used, or where it was after a refusal.
+pub(crate) fn place_after(rolled: Rolled, place: usize) -> usize
+    requires { ⌜ standsAt rolled place < 2 ^ 64 ⌝ }
+    ensures { λ r. ⌜ r ≡ standsAt rolled place ⌝ }
+{
+    match rolled {
+        Rolled::Clicks(_, used) => place + used,
+        Rolled::Refused(_) => place,
+    }
+}
+
+// A single random round by a reader: its clicks, its moves in the list, and the draw bytes used.
+pub fn random_round<'g, 'w, 'l, 's, 'a>(
+    rows: usize,
+    columns: usize,
+    grid: &'g [i32],
+    work: &'w mut [i32],
+    list: &'l mut [u32],
+    reader: &'s mut DrawReader<'a>,
+) -> Rolled
+    ensures { λ r. ⌜ KeepsList (randomRoundCall (gridOf rows columns (now (grid .entry))) (now (work .entry)) (now (list .entry)) (drop (now (reader .entry) .place) (now (now (reader .entry) .bytes)))) (rolledAnswer r) (now (work .exit)) (now (list .exit)) × (now (reader .exit) ≡ readOn (now (reader .entry)) r) ⌝ }
+{
+    let rolled = round_from(rows, columns, grid, work, list, reader.bytes, reader.place);
+    reader.place = place_after(rolled, reader.place);
+    rolled
+}
+
+// Random search by a reader: the least clicks, and the draw bytes used.
+pub fn random_search<'g, 'w, 's, 'a>(
+    rows: usize,
+    columns: usize,
+    grid: &'g [i32],
+    work: &'w mut [i32],
+    reader: &'s mut DrawReader<'a>,
+    rounds: usize,
+) -> Rolled
+    ensures { λ r. ⌜ Keeps (randomSearchCall (gridOf rows columns (now (grid .entry))) (now (work .entry)) (drop (now (reader .entry) .place) (now (now (reader .entry) .bytes))) rounds) (rolledAnswer r) (now (work .exit)) × (now (reader .exit) ≡ readOn (now (reader .entry)) r) ⌝ }
+{
+    let rolled = search_from(
+        rows,
+        columns,
+        grid,
+        work,
+        reader.bytes,
+        reader.place,
+        rounds,
+    );
+    reader.place = place_after(rolled, reader.place);
+    rolled
+}

@@ -1,0 +1,11 @@
+-- `record_calls::openings_first_records` meets its contract: its MIR is the walked one, with the flag true. Assumes nothing.
+use mathlib.Core.Bool.{true}
+use Rattle.record_calls.proofs.Walk.{price-records-spec}
+use Rattle.record_calls.proofs.openings_first_records.Key.{name}
+use Rattle.record_calls.proofs.openings_first_records.Statement.{statement}
+use Rattle.record_calls.proofs.openings_first_records.Code as code
+
+pub openings-first-records-spec : {M : Type 1} → statement M
+unfolding code.routine
+openings-first-records-spec 𝓤 H 𝓜 𝓖 𝓡 =
+    price-records-spec 𝓤 H 𝓜 𝓖 𝓡 true code.env name (code.unfolded 𝓤 H 𝓜 𝓡) code.calls-by-records·price-within code.calls-by-records·written-by code.calls-records·records-of
