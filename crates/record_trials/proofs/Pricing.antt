@@ -57,10 +57,10 @@ use Rattle.records.specs.declared.MoveRecord.{MoveRecord}
 use Rattle.record_calls.specs.Promises.{KeepsRecords, inRecords, within}
 use Rattle.record_calls.proofs.greedy_records as by
 use Rattle.record_calls.proofs.greedy_records.Symbol as greedy-def
-use Rattle.record_calls.proofs.greedy_records.Symbol.{name as #by-records·greedy-records}
+use Rattle.record_calls.proofs.greedy_records.Symbol.{name as #record-calls·greedy-records}
 use Rattle.record_calls.proofs.greedy_records.Met as greedy-thm
 use Rattle.record_calls.proofs.openings_first_records.Symbol as openings-def
-use Rattle.record_calls.proofs.openings_first_records.Symbol.{name as #by-records·openings-first-records}
+use Rattle.record_calls.proofs.openings_first_records.Symbol.{name as #record-calls·openings-first-records}
 use Rattle.record_calls.proofs.openings_first_records.Met as openings-thm
 use Rattle.record_trials.specs.declared.PricedRun.{PricedRun}
 use Rattle.record_trials.proofs.PricedRun as P
@@ -75,8 +75,8 @@ stayed = (stay-none (λ _. usize) yes, (stay-none (λ _. usize) yes, (stay-none-
 -- ---- the MIR of both functions, by the flag, as Rattle makes it
 
 abbrev callee : Bool → Name
-callee true = #by-records·openings-first-records
-callee false = #by-records·greedy-records
+callee true = #record-calls·openings-first-records
+callee false = #record-calls·greedy-records
 
 abbrev value : Ty → Local
 value τ = local τ valueLocal
@@ -293,10 +293,10 @@ module _ {M : Type 1} (𝓤 : URA M) (H : Heap 𝓤) (𝓜 : Model 𝓤 H) (𝓖
       entered 𝓤 H (tripleOf 𝓤 H (𝓖 .A) f.signature (closing 𝓤 H (𝓖 .A) f.ended (clauses 𝓤 b))) (tables 𝓤 H 𝓜 𝓡 env .C) (tables 𝓤 H 𝓜 𝓡 env .Λ) name (function b) unfolded
       (meets 𝓤 H (𝓖 .A) (givenOf 𝓤 H 𝓜 𝓖) b (tablesOf 𝓤 H 𝓜 (tables 𝓤 H 𝓜 𝓡 env)) known)
 
-  pub greedy-run : Closed 𝓤 H (tables 𝓤 H 𝓜 𝓡 env .C) (tables 𝓤 H 𝓜 𝓡 env .Λ) name (function false) → env #by-records·greedy-records ≡ greedy-def.routine
+  pub greedy-run : Closed 𝓤 H (tables 𝓤 H 𝓜 𝓡 env .C) (tables 𝓤 H 𝓜 𝓡 env .Λ) name (function false) → env #record-calls·greedy-records ≡ greedy-def.routine
       → Meets 𝓤 H (𝓖 .A) f.signature (𝓡 .run (env name)) (closing 𝓤 H (𝓖 .A) f.ended (clauses 𝓤 false))
-  greedy-run unfolded called = by-its-call false unfolded (cited 𝓤 H (Call 𝓤 H (𝓖 .A) false) 𝓜 𝓡 env #by-records·greedy-records greedy-def.routine called (greedy-thm.met 𝓤 H 𝓜 𝓖 𝓡))
+  greedy-run unfolded called = by-its-call false unfolded (cited 𝓤 H (Call 𝓤 H (𝓖 .A) false) 𝓜 𝓡 env #record-calls·greedy-records greedy-def.routine called (greedy-thm.met 𝓤 H 𝓜 𝓖 𝓡))
 
-  pub openings-first-run : Closed 𝓤 H (tables 𝓤 H 𝓜 𝓡 env .C) (tables 𝓤 H 𝓜 𝓡 env .Λ) name (function true) → env #by-records·openings-first-records ≡ openings-def.routine
+  pub openings-first-run : Closed 𝓤 H (tables 𝓤 H 𝓜 𝓡 env .C) (tables 𝓤 H 𝓜 𝓡 env .Λ) name (function true) → env #record-calls·openings-first-records ≡ openings-def.routine
       → Meets 𝓤 H (𝓖 .A) f.signature (𝓡 .run (env name)) (closing 𝓤 H (𝓖 .A) f.ended (clauses 𝓤 true))
-  openings-first-run unfolded called = by-its-call true unfolded (cited 𝓤 H (Call 𝓤 H (𝓖 .A) true) 𝓜 𝓡 env #by-records·openings-first-records openings-def.routine called (openings-thm.met 𝓤 H 𝓜 𝓖 𝓡))
+  openings-first-run unfolded called = by-its-call true unfolded (cited 𝓤 H (Call 𝓤 H (𝓖 .A) true) 𝓜 𝓡 env #record-calls·openings-first-records openings-def.routine called (openings-thm.met 𝓤 H 𝓜 𝓖 𝓡))

@@ -6,7 +6,7 @@ ghost use mathlib.Core.List.{[], _∷_};
 ghost use Prim.Native.Nat.{_*_, _≤_};
 ghost use lib.ListN.{length};
 ghost use Rattle.game.specs.Calls.{gives, greedyCall, openingsFirstCall, priceCall, pricedRound};
-ghost use Rattle.area.specs.Numbers.{gridOf};
+ghost use Rattle.area.specs.Numbers.{HasCells, gridOf};
 ghost use Rattle.area.specs.Stages.{Shape};
 ghost use Rattle.zini.specs.Answers.{KeepsList, pricedAnswer};
 
@@ -20,7 +20,7 @@ fn price_checked(
     openings_first: bool,
 ) -> usize
     requires { ⌜ Shape rows columns ⌝ }
-    requires { ⌜ (length (now grid) ≡ rows * columns) × (5 * (rows * columns) ≤ length (now work)) × (rows * columns ≤ length (now list)) ⌝ }
+    requires { ⌜ (length (now grid) ≡ rows * columns) × HasCells (now work) (rows * columns) × (rows * columns ≤ length (now list)) ⌝ }
     ensures { λ r. ⌜ KeepsList (pricedRound «openings_first» (gridOf rows columns (now (grid .entry))) (now (work .entry)) (now (list .entry))) (gives (r ∷ [])) (now (work .exit)) (now (list .exit)) ⌝ }
 {
     let counts = start::begin::set_up(grid, rows, columns, work);

@@ -13,7 +13,7 @@ ghost use Rattle.game.specs.Draws.{Places, Source, lent};
 ghost use Rattle.game.specs.Grid.{Grid, size};
 ghost use Rattle.game.specs.Rounds.{Searched, randomRound};
 ghost use Rattle.game.specs.Calls.{drawnSearch, randomRoundCall, randomSearchCall, roundBy, searchBy};
-ghost use Rattle.area.specs.Numbers.{gridOf};
+ghost use Rattle.area.specs.Numbers.{HasCells, gridOf};
 ghost use Rattle.area.specs.Stages.{Shape};
 ghost use Rattle.random.specs.Promises.{Rolling, Searching};
 ghost use Rattle.zini.specs.Answers.{Keeps, KeepsList, rolledAnswer};
@@ -27,8 +27,8 @@ fn end_round(
     list: &mut [u32],
 ) -> Rolled
     requires { ⌜ Shape rows columns ⌝ }
-    requires { ⌜ (5 * (rows * columns) ≤ length (now work)) × (rows * columns ≤ length (now list)) ⌝ }
-    ensures { λ r. ⌜ ((g : Grid) (source : Source) (old : List ℤ) (before : List ℕ) → Places source → size g ≡ rows * columns → 5 * size g ≤ length old → size g ≤ length before
+    requires { ⌜ HasCells (now work) (rows * columns) × (rows * columns ≤ length (now list)) ⌝ }
+    ensures { λ r. ⌜ ((g : Grid) (source : Source) (old : List ℤ) (before : List ℕ) → Places source → size g ≡ rows * columns → HasCells old (size g) → size g ≤ length before
         → Rolling rows columns g old (randomRound g source 0) before (now (work .entry)) (now (list .entry)) rolled
         → KeepsList (roundBy source g old before) (rolledAnswer r) (now (work .exit)) (now (list .exit))) ⌝ }
 {
@@ -48,8 +48,8 @@ fn end_round(
 // A random search's lent memory is handed back: settled, or filled with 0 where the draws ran dry.
 fn end_search(rolled: random::Finish, rows: usize, columns: usize, work: &mut [i32]) -> Rolled
     requires { ⌜ Shape rows columns ⌝ }
-    requires { ⌜ 5 * (rows * columns) ≤ length (now work) ⌝ }
-    ensures { λ r. ⌜ ((g : Grid) (o : Option Searched) (old : List ℤ) → size g ≡ rows * columns → 5 * size g ≤ length old
+    requires { ⌜ HasCells (now work) (rows * columns) ⌝ }
+    ensures { λ r. ⌜ ((g : Grid) (o : Option Searched) (old : List ℤ) → size g ≡ rows * columns → HasCells old (size g)
         → Searching rows columns g old o (now (work .entry)) rolled → Keeps (drawnSearch g o old) (rolledAnswer r) (now (work .exit))) ⌝ }
 {
     match rolled {
@@ -74,7 +74,7 @@ fn roll_checked(
     draws: &[u8],
 ) -> Rolled
     requires { ⌜ Shape rows columns ⌝ }
-    requires { ⌜ (length (now grid) ≡ rows * columns) × (5 * (rows * columns) ≤ length (now work)) × (rows * columns ≤ length (now list)) ⌝ }
+    requires { ⌜ (length (now grid) ≡ rows * columns) × HasCells (now work) (rows * columns) × (rows * columns ≤ length (now list)) ⌝ }
     ensures { λ r. ⌜ KeepsList (roundBy (lent (now (draws .entry))) (gridOf rows columns (now (grid .entry))) (now (work .entry)) (now (list .entry))) (rolledAnswer r) (now (work .exit)) (now (list .exit)) ⌝ }
 {
     let counts = start::begin::set_up(grid, rows, columns, work);
@@ -93,7 +93,7 @@ fn search_checked(
     rounds: usize,
 ) -> Rolled
     requires { ⌜ Shape rows columns ⌝ }
-    requires { ⌜ (length (now grid) ≡ rows * columns) × (5 * (rows * columns) ≤ length (now work)) × (1 ≤ rounds) ⌝ }
+    requires { ⌜ (length (now grid) ≡ rows * columns) × HasCells (now work) (rows * columns) × (1 ≤ rounds) ⌝ }
     ensures { λ r. ⌜ Keeps (searchBy (lent (now (draws .entry))) rounds (gridOf rows columns (now (grid .entry))) (now (work .entry))) (rolledAnswer r) (now (work .exit)) ⌝ }
 {
     let counts = start::begin::set_up(grid, rows, columns, work);

@@ -6,7 +6,7 @@ ghost use mathlib.Core.Path.{_≡_};
 ghost use Prim.Native.Nat.{_*_, _≤_};
 ghost use lib.ListN.{length};
 ghost use Rattle.game.specs.Calls.{replayCall, replayedList};
-ghost use Rattle.area.specs.Numbers.{gridOf};
+ghost use Rattle.area.specs.Numbers.{HasCells, gridOf};
 ghost use Rattle.area.specs.Stages.{Shape};
 ghost use Rattle.zini.specs.Answers.{Keeps, answered, replayedAnswer};
 
@@ -30,7 +30,7 @@ fn replay_checked(
     count: usize,
 ) -> Replayed
     requires { ⌜ Shape rows columns ⌝ }
-    requires { ⌜ (length (now grid) ≡ rows * columns) × (5 * (rows * columns) ≤ length (now work)) × (count ≤ length (now list)) ⌝ }
+    requires { ⌜ (length (now grid) ≡ rows * columns) × HasCells (now work) (rows * columns) × (count ≤ length (now list)) ⌝ }
     ensures { λ r. ⌜ Keeps (replayedList (gridOf rows columns (now (grid .entry))) (now (work .entry)) (now (list .entry)) count) (replayedAnswer r) (now (work .exit)) ⌝ }
 {
     let counts = start::begin::set_up(grid, rows, columns, work);

@@ -55,13 +55,13 @@ use Rattle.draws.proofs.Drawn as S
 use Rattle.draws.proofs.Drawn.Laws as S′
 use Rattle.draw_reader.proofs.reader as reader
 use Rattle.draw_reader.proofs.reader.Symbol as reader-def
-use Rattle.draw_reader.proofs.reader.Symbol.{name as #reads·reader}
+use Rattle.draw_reader.proofs.reader.Symbol.{name as #draw-reader·reader}
 use Rattle.draw_reader.proofs.reader.Met as reader-thm
 use Rattle.draw_reader.proofs.next_draw as next
 use Rattle.draw_reader.proofs.next_draw.Symbol as next-def
-use Rattle.draw_reader.proofs.next_draw.Symbol.{name as #reads·next-draw}
+use Rattle.draw_reader.proofs.next_draw.Symbol.{name as #draw-reader·next-draw}
 use Rattle.draw_reader.proofs.next_draw.Met as next-thm
-use Rattle.draw_reader.proofs.draw_from.Key.{name as #reads·draw-from}
+use Rattle.draw_reader.proofs.draw_from.Key.{name as #draw-reader·draw-from}
 use Rattle.draw_reader.proofs.draw_from as draw-from
 use Rattle.draw_reader.proofs.draw_from.Statement as stated
 use Rattle.draw_reader.proofs.draw_from.Code as code
@@ -155,7 +155,7 @@ module _ {M : Type 1} (𝓤 : URA M) (H : Heap 𝓤) (A : Atoms 𝓤) (W : Given
       suffices ! _ (ends-at 𝓤 H A draw-from.ended stayed (draw-from.clauses 𝓤 H A at-mem run) W (((κ, tt), (q, tt), tt, arg, at), tt) u t (tt, (tt, (tt, tt))) (tt, (tt, (tt, tt)))) $ says ! e $
       move ! (1 ∷ []) $ frame ! $ nothing ! $ owned ! usize (Is usize) (uint-makes 𝓤 H A W w64) n _ (refl, fits-n) $ fjoin ! $ owned ! usize (Is usize) (uint-makes 𝓤 H A W w64) i _ (refl, fits-i) $ fjoin ! $ move ! (2 ∷ 0 ∷ []) $ fjoin ! $ frame ! $ done !
 
-  module _ (C : Calls 𝓤 H) (Λ : Loops 𝓤 H) (fm : FmC 𝓤 H (W .laws) C) (known-new : Triple 𝓤 (C #reads·reader) (New 𝓤 H A at-mem run)) (known-next : Triple 𝓤 (C #reads·next-draw) (Next 𝓤 H A at-mem run)) where
+  module _ (C : Calls 𝓤 H) (Λ : Loops 𝓤 H) (fm : FmC 𝓤 H (W .laws) C) (known-new : Triple 𝓤 (C #draw-reader·reader) (New 𝓤 H A at-mem run)) (known-next : Triple 𝓤 (C #draw-reader·next-draw) (Next 𝓤 H A at-mem run)) where
     walk : Is (ShrSlice (named 0) κ u8) s (v ∷ []) → ent 𝓤 (onEntry 𝓤 H A draw-from.signature (κ, tt) (q, tt) arg at) (WpFn 𝓤 H C Λ code.function (v ∷ vint w64 i ∷ vint w64 n ∷ []) Post)
     walk p =
         qed W (raw (onEntry 𝓤 H A draw-from.signature (κ, tt) (q, tt) arg at) ∷ []) ∵ enter ! C Λ code.function (v ∷ vint w64 i ∷ vint w64 n ∷ []) _ $
@@ -196,13 +196,13 @@ module _ {M : Type 1} (𝓤 : URA M) (H : Heap 𝓤) (A : Atoms 𝓤) (W : Given
         by ! (exits t u′ (e′ .0 ∙ (ap (λ (x : RefT (List ℕ)). Game.draw (now x) (r .place) n) (e .0) ∙ ap (λ (j : ℕ). Game.draw (now s) j n) (e .1))))))))))))))))))))))
 
 module _ {M : Type 1} (𝓤 : URA M) (H : Heap 𝓤) (A : Atoms 𝓤) (W : Given 𝓤 H A) (at-mem : Memory → SProp 𝓤) (run : Routine → Fun 𝓤) where
-  draw-from-walks : (C : Calls 𝓤 H) (Λ : Loops 𝓤 H) → FmC 𝓤 H (W .laws) C → Triple 𝓤 (C #reads·reader) (New 𝓤 H A at-mem run) → Triple 𝓤 (C #reads·next-draw) (Next 𝓤 H A at-mem run)
+  draw-from-walks : (C : Calls 𝓤 H) (Λ : Loops 𝓤 H) → FmC 𝓤 H (W .laws) C → Triple 𝓤 (C #draw-reader·reader) (New 𝓤 H A at-mem run) → Triple 𝓤 (C #draw-reader·next-draw) (Next 𝓤 H A at-mem run)
       → Walks 𝓤 H A draw-from.ended stayed (WpFn 𝓤 H C Λ code.function) (draw-from.clauses 𝓤 H A at-mem run)
   draw-from-walks C Λ fm known-new known-next = walked 𝓤 H A draw-from.ended stayed (draw-from.clauses 𝓤 H A at-mem run) (WpFn 𝓤 H C Λ code.function) (λ κs. (slice-vals, (uint-vals w64, (uint-vals w64, tt)))) (λ κs. (shr-slice-tells (named 0) (κs .0) u8, (uint-tells w64, (uint-tells w64, tt))))
       (λ κs qs bounds a g are. via 𝓤 _ (fst∗ 𝓤 _ (emp 𝓤)) (walk 𝓤 H A W at-mem run (κs .0) (qs .0) (a .0) (a .1 .0) (a .1 .1 .0) (are .1 .0 .1) (are .1 .1 .0 .1) C Λ fm known-new known-next (are .0)))
 
 draw-from-meets : {M : Type 1} (𝓤 : URA M) (H : Heap 𝓤) (A : Atoms 𝓤) (W : Given 𝓤 H A) (at-mem : Memory → SProp 𝓤) (run : Routine → Fun 𝓤) (𝓣 : Tables 𝓤 H)
-    → Triple 𝓤 (𝓣 .C #reads·reader) (New 𝓤 H A at-mem run) → Triple 𝓤 (𝓣 .C #reads·next-draw) (Next 𝓤 H A at-mem run)
+    → Triple 𝓤 (𝓣 .C #draw-reader·reader) (New 𝓤 H A at-mem run) → Triple 𝓤 (𝓣 .C #draw-reader·next-draw) (Next 𝓤 H A at-mem run)
     → Meets 𝓤 H A draw-from.signature (WpFn 𝓤 H (𝓣 .C) (𝓣 .Λ) code.function) (draw-from.spec 𝓤 H A at-mem run)
 draw-from-meets 𝓤 H A W at-mem run 𝓣 known-new known-next = walk-meets 𝓤 H A draw-from.ended stayed W (goes-none-slice 𝓤 H A W 1 (0 ∷ []) tt (plain (λ _. u8)) yes, (goes-none 𝓤 H A W 1 (λ _. usize) yes (λ κs x f. refl), (goes-none 𝓤 H A W 1 (λ _. usize) yes (λ κs x f. refl), tt))) (draw-from.clauses 𝓤 H A at-mem run) (WpFn 𝓤 H (𝓣 .C) (𝓣 .Λ) code.function) (WpFn-mono 𝓤 H (W .laws) 𝓣 code.function)
     (draw-from-walks 𝓤 H A W at-mem run (𝓣 .C) (𝓣 .Λ) (fmOf 𝓤 H (W .laws) 𝓣) known-new known-next)
@@ -211,7 +211,7 @@ pub draw-from-spec : {M : Type 1} → stated.statement M
 unfolding code.routine tablesOf
 draw-from-spec 𝓤 H 𝓜 𝓖 𝓡 =
     entered 𝓤 H (tripleOf 𝓤 H (𝓖 .A) draw-from.signature (draw-from.spec 𝓤 H (𝓖 .A) (𝓜 .mem) (𝓡 .run)))
-    (tables 𝓤 H 𝓜 𝓡 code.env .C) (tables 𝓤 H 𝓜 𝓡 code.env .Λ) #reads·draw-from code.function (code.unfolded 𝓤 H 𝓜 𝓡)
+    (tables 𝓤 H 𝓜 𝓡 code.env .C) (tables 𝓤 H 𝓜 𝓡 code.env .Λ) #draw-reader·draw-from code.function (code.unfolded 𝓤 H 𝓜 𝓡)
     (draw-from-meets 𝓤 H (𝓖 .A) (givenOf 𝓤 H 𝓜 𝓖) (𝓜 .mem) (𝓡 .run) (tablesOf 𝓤 H 𝓜 (tables 𝓤 H 𝓜 𝓡 code.env))
-    (cited 𝓤 H (New 𝓤 H (𝓖 .A) (𝓜 .mem) (𝓡 .run)) 𝓜 𝓡 code.env #reads·reader reader-def.routine code.calls-reads·reader (reader-thm.met 𝓤 H 𝓜 𝓖 𝓡))
-    (cited 𝓤 H (Next 𝓤 H (𝓖 .A) (𝓜 .mem) (𝓡 .run)) 𝓜 𝓡 code.env #reads·next-draw next-def.routine code.calls-reads·next-draw (next-thm.met 𝓤 H 𝓜 𝓖 𝓡)))
+    (cited 𝓤 H (New 𝓤 H (𝓖 .A) (𝓜 .mem) (𝓡 .run)) 𝓜 𝓡 code.env #draw-reader·reader reader-def.routine code.calls-draw-reader·reader (reader-thm.met 𝓤 H 𝓜 𝓖 𝓡))
+    (cited 𝓤 H (Next 𝓤 H (𝓖 .A) (𝓜 .mem) (𝓡 .run)) 𝓜 𝓡 code.env #draw-reader·next-draw next-def.routine code.calls-draw-reader·next-draw (next-thm.met 𝓤 H 𝓜 𝓖 𝓡)))

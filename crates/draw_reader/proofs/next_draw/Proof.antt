@@ -62,9 +62,9 @@ use Rattle.draws.proofs.draw.Symbol.{name as #draws·draw}
 use Rattle.draws.proofs.draw.Met as one-thm
 use Rattle.draw_reader.proofs.place_after as aft
 use Rattle.draw_reader.proofs.place_after.Symbol as aft-def
-use Rattle.draw_reader.proofs.place_after.Symbol.{name as #reads·place-after}
+use Rattle.draw_reader.proofs.place_after.Symbol.{name as #draw-reader·place-after}
 use Rattle.draw_reader.proofs.place_after.Met as aft-thm
-use Rattle.draw_reader.proofs.next_draw.Key.{name as #reads·next-draw}
+use Rattle.draw_reader.proofs.next_draw.Key.{name as #draw-reader·next-draw}
 use Rattle.draw_reader.proofs.next_draw as f
 use Rattle.draw_reader.proofs.next_draw.Statement as stated
 use Rattle.draw_reader.proofs.next_draw.Code as code
@@ -167,7 +167,7 @@ module _ {M : Type 1} (𝓤 : URA M) (H : Heap 𝓤) (A : Atoms 𝓤) (W : Given
       move ! (2 ∷ 3 ∷ []) $ join ! $
       frame ! $ feqI ! (List Val) (vptr b o ∷ []) (vptr b o ∷ []) refl $ fjoin3 ! $ nothing ! $ owned ! usize (Is usize) (uint-makes 𝓤 H A W w64) n _ (refl, fits-n) $ fjoin ! $ move ! (1 ∷ 0 ∷ []) $ fjoin ! $ frame ! $ done !
 
-  module _ (C : Calls 𝓤 H) (Λ : Loops 𝓤 H) (fm : FmC 𝓤 H (W .laws) C) (known-one : Triple 𝓤 (C #draws·draw) (One 𝓤 H A at-mem run)) (known-after : Triple 𝓤 (C #reads·place-after) (After 𝓤 H A at-mem run)) where
+  module _ (C : Calls 𝓤 H) (Λ : Loops 𝓤 H) (fm : FmC 𝓤 H (W .laws) C) (known-one : Triple 𝓤 (C #draws·draw) (One 𝓤 H A at-mem run)) (known-after : Triple 𝓤 (C #draw-reader·place-after) (After 𝓤 H A at-mem run)) where
     walk : ent 𝓤 (onEntry 𝓤 H A f.signature (κ, (κ′, tt)) (q, (q′, tt)) x at) (WpFn 𝓤 H C Λ code.function (vptr b o ∷ vint w64 n ∷ []) Post)
     walk =
         qed W ((‵ (flft κ q) ⊛ ‵ (flft κ′ q′) ⊛ ‵ ftrue) ∷ ‵ (owns (MutRef (named 0) κ (B κ′) ∷ usize ∷ []) x at) ∷ []) ∵ enter ! C Λ code.function (vptr b o ∷ vint w64 n ∷ []) _ $
@@ -210,7 +210,7 @@ module _ {M : Type 1} (𝓤 : URA M) (H : Heap 𝓤) (A : Atoms 𝓤) (W : Given
         keep ! (0 ∷ 1 ∷ 2 ∷ 6 ∷ 5 ∷ []) $ by ! (exits r u e))))))))))))))))))
 
 module _ {M : Type 1} (𝓤 : URA M) (H : Heap 𝓤) (A : Atoms 𝓤) (W : Given 𝓤 H A) (at-mem : Memory → SProp 𝓤) (run : Routine → Fun 𝓤) (𝓣 : Tables 𝓤 H)
-    (known-one : Triple 𝓤 (𝓣 .C #draws·draw) (One 𝓤 H A at-mem run)) (known-after : Triple 𝓤 (𝓣 .C #reads·place-after) (After 𝓤 H A at-mem run)) where
+    (known-one : Triple 𝓤 (𝓣 .C #draws·draw) (One 𝓤 H A at-mem run)) (known-after : Triple 𝓤 (𝓣 .C #draw-reader·place-after) (After 𝓤 H A at-mem run)) where
   next-draw-walks : Walks 𝓤 H A f.ended stayed (WpFn 𝓤 H (𝓣 .C) (𝓣 .Λ) code.function) (f.clauses 𝓤 H A at-mem run)
   next-draw-walks = walked 𝓤 H A f.ended stayed (f.clauses 𝓤 H A at-mem run) (WpFn 𝓤 H (𝓣 .C) (𝓣 .Λ) code.function) (λ κs. (ptr-vals, (uint-vals w64, tt))) (λ κs. (mut-tells (named 0) (κs .0) (B (κs .1 .0)), (uint-tells w64, tt)))
       (λ κs qs bounds a _ are. via 𝓤 _ (fst∗ 𝓤 _ (emp 𝓤)) (walk 𝓤 H A W at-mem run (κs .0) (κs .1 .0) (qs .0) (qs .1 .0) bounds (a .0 .ptr .0) (a .0 .ptr .1) (a .0 .name) (a .0 .now) (a .1 .0) (are .1 .0 .1) (𝓣 .C) (𝓣 .Λ) (fmOf 𝓤 H (W .laws) 𝓣) known-one known-after))
@@ -222,7 +222,7 @@ pub next-draw-spec : {M : Type 1} → stated.statement M
 unfolding code.routine tablesOf
 next-draw-spec 𝓤 H 𝓜 𝓖 𝓡 =
     entered 𝓤 H (tripleOf 𝓤 H (𝓖 .A) f.signature (f.spec 𝓤 H (𝓖 .A) (𝓜 .mem) (𝓡 .run)))
-    (tables 𝓤 H 𝓜 𝓡 code.env .C) (tables 𝓤 H 𝓜 𝓡 code.env .Λ) #reads·next-draw code.function (code.unfolded 𝓤 H 𝓜 𝓡)
+    (tables 𝓤 H 𝓜 𝓡 code.env .C) (tables 𝓤 H 𝓜 𝓡 code.env .Λ) #draw-reader·next-draw code.function (code.unfolded 𝓤 H 𝓜 𝓡)
     (next-draw-meets 𝓤 H (𝓖 .A) (givenOf 𝓤 H 𝓜 𝓖) (𝓜 .mem) (𝓡 .run) (tablesOf 𝓤 H 𝓜 (tables 𝓤 H 𝓜 𝓡 code.env))
     (cited 𝓤 H (One 𝓤 H (𝓖 .A) (𝓜 .mem) (𝓡 .run)) 𝓜 𝓡 code.env #draws·draw one-def.routine code.calls-draws·draw (one-thm.met 𝓤 H 𝓜 𝓖 𝓡))
-    (cited 𝓤 H (After 𝓤 H (𝓖 .A) (𝓜 .mem) (𝓡 .run)) 𝓜 𝓡 code.env #reads·place-after aft-def.routine code.calls-reads·place-after (aft-thm.met 𝓤 H 𝓜 𝓖 𝓡)))
+    (cited 𝓤 H (After 𝓤 H (𝓖 .A) (𝓜 .mem) (𝓡 .run)) 𝓜 𝓡 code.env #draw-reader·place-after aft-def.routine code.calls-draw-reader·place-after (aft-thm.met 𝓤 H 𝓜 𝓖 𝓡)))

@@ -58,13 +58,13 @@ use Rattle.draw_reader.proofs.DrawReader.Laws as T′
 use Rattle.reader_calls.specs.Stands.{standsAt, readOn}
 use Rattle.reader_calls.proofs.round_from as rf
 use Rattle.reader_calls.proofs.round_from.Symbol as rf-def
-use Rattle.reader_calls.proofs.round_from.Symbol.{name as #by-reader·round-from}
+use Rattle.reader_calls.proofs.round_from.Symbol.{name as #reader-calls·round-from}
 use Rattle.reader_calls.proofs.round_from.Met as rf-thm
 use Rattle.reader_calls.proofs.place_after as aft
 use Rattle.reader_calls.proofs.place_after.Symbol as aft-def
-use Rattle.reader_calls.proofs.place_after.Symbol.{name as #by-reader·place-after}
+use Rattle.reader_calls.proofs.place_after.Symbol.{name as #reader-calls·place-after}
 use Rattle.reader_calls.proofs.place_after.Met as aft-thm
-use Rattle.reader_calls.proofs.random_round.Key.{name as #by-reader·random-round}
+use Rattle.reader_calls.proofs.random_round.Key.{name as #reader-calls·random-round}
 use Rattle.reader_calls.proofs.random_round as f
 use Rattle.reader_calls.proofs.random_round.Statement as stated
 use Rattle.reader_calls.proofs.random_round.Code as code
@@ -207,7 +207,7 @@ module _ {M : Type 1} (𝓤 : URA M) (H : Heap 𝓤) (A : Atoms 𝓤) (W : Given
   abbrev Ends : Type 0
   Ends = Unit {0} × (Unit {0} × (Unit {0} × (List ℤ × (List ℕ × (Unit {0} × (Unit {0} × Unit {0}))))))
 
-  module _ (C : Calls 𝓤 H) (Λ : Loops 𝓤 H) (fm : FmC 𝓤 H (W .laws) C) (known-round : Triple 𝓤 (C #by-reader·round-from) (Round 𝓤 H A at-mem run)) (known-after : Triple 𝓤 (C #by-reader·place-after) (After 𝓤 H A at-mem run)) where
+  module _ (C : Calls 𝓤 H) (Λ : Loops 𝓤 H) (fm : FmC 𝓤 H (W .laws) C) (known-round : Triple 𝓤 (C #reader-calls·round-from) (Round 𝓤 H A at-mem run)) (known-after : Triple 𝓤 (C #reader-calls·place-after) (After 𝓤 H A at-mem run)) where
     walk : ent 𝓤 (onEntry 𝓤 H A f.signature (κg, (κw, (κl, (κ, (κ′, tt))))) (qg, (qw, (ql, (q, (q′, tt))))) x at) (WpFn 𝓤 H C Λ code.function (vint w64 rows ∷ vint w64 columns ∷ vg ∷ vw ∷ vl ∷ vptr b o ∷ []) Post)
     walk =
         qed W ((‵ (flft κg qg) ⊛ (‵ (flft κw qw) ⊛ (‵ (flft κl ql) ⊛ (‵ (flft κ q) ⊛ (‵ (flft κ′ q′) ⊛ ‵ ftrue))))) ∷ ‵ (owns (usize ∷ usize ∷ ShrSlice (named 0) κg i32 ∷ MutSlice (named 1) κw i32 ∷ MutSlice (named 2) κl u32 ∷ MutRef (named 3) κ (B κ′) ∷ []) x at) ∷ []) ∵ enter ! C Λ code.function (vint w64 rows ∷ vint w64 columns ∷ vg ∷ vw ∷ vl ∷ vptr b o ∷ []) _ $
@@ -263,7 +263,7 @@ module _ {M : Type 1} (𝓤 : URA M) (H : Heap 𝓤) (A : Atoms 𝓤) (W : Given
         keep ! (0 ∷ 1 ∷ 2 ∷ 7 ∷ 3 ∷ 9 ∷ 8 ∷ 6 ∷ []) $ by ! (exits r u (ends .1 .1 .1 .0) (ends .1 .1 .1 .1 .0) len len₂ (e .0))))))))))))))))))))))))))))))
 
 module _ {M : Type 1} (𝓤 : URA M) (H : Heap 𝓤) (A : Atoms 𝓤) (W : Given 𝓤 H A) (at-mem : Memory → SProp 𝓤) (run : Routine → Fun 𝓤) (𝓣 : Tables 𝓤 H)
-    (known-round : Triple 𝓤 (𝓣 .C #by-reader·round-from) (Round 𝓤 H A at-mem run)) (known-after : Triple 𝓤 (𝓣 .C #by-reader·place-after) (After 𝓤 H A at-mem run)) where
+    (known-round : Triple 𝓤 (𝓣 .C #reader-calls·round-from) (Round 𝓤 H A at-mem run)) (known-after : Triple 𝓤 (𝓣 .C #reader-calls·place-after) (After 𝓤 H A at-mem run)) where
   random-round-walks : Walks 𝓤 H A f.ended stayed (WpFn 𝓤 H (𝓣 .C) (𝓣 .Λ) code.function) (f.clauses 𝓤 H A at-mem run)
   random-round-walks = walked 𝓤 H A f.ended stayed (f.clauses 𝓤 H A at-mem run) (WpFn 𝓤 H (𝓣 .C) (𝓣 .Λ) code.function) (λ κs. (uint-vals w64, (uint-vals w64, (slice-vals, (slice-vals, (slice-vals, (ptr-vals, tt)))))))
       (λ κs. (uint-tells w64, (uint-tells w64, (shr-slice-tells (named 0) (κs .0) i32, (mut-slice-tells (named 1) (κs .1 .0) i32, (mut-slice-tells (named 2) (κs .1 .1 .0) u32, (mut-tells (named 3) (κs .1 .1 .1 .0) (B (κs .1 .1 .1 .1 .0)), tt)))))))
@@ -279,7 +279,7 @@ pub random-round-spec : {M : Type 1} → stated.statement M
 unfolding code.routine tablesOf
 random-round-spec 𝓤 H 𝓜 𝓖 𝓡 =
     entered 𝓤 H (tripleOf 𝓤 H (𝓖 .A) f.signature (f.spec 𝓤 H (𝓖 .A) (𝓜 .mem) (𝓡 .run)))
-    (tables 𝓤 H 𝓜 𝓡 code.env .C) (tables 𝓤 H 𝓜 𝓡 code.env .Λ) #by-reader·random-round code.function (code.unfolded 𝓤 H 𝓜 𝓡)
+    (tables 𝓤 H 𝓜 𝓡 code.env .C) (tables 𝓤 H 𝓜 𝓡 code.env .Λ) #reader-calls·random-round code.function (code.unfolded 𝓤 H 𝓜 𝓡)
     (random-round-meets 𝓤 H (𝓖 .A) (givenOf 𝓤 H 𝓜 𝓖) (𝓜 .mem) (𝓡 .run) (tablesOf 𝓤 H 𝓜 (tables 𝓤 H 𝓜 𝓡 code.env))
-    (cited 𝓤 H (Round 𝓤 H (𝓖 .A) (𝓜 .mem) (𝓡 .run)) 𝓜 𝓡 code.env #by-reader·round-from rf-def.routine code.calls-by-reader·round-from (rf-thm.met 𝓤 H 𝓜 𝓖 𝓡))
-    (cited 𝓤 H (After 𝓤 H (𝓖 .A) (𝓜 .mem) (𝓡 .run)) 𝓜 𝓡 code.env #by-reader·place-after aft-def.routine code.calls-by-reader·place-after (aft-thm.met 𝓤 H 𝓜 𝓖 𝓡)))
+    (cited 𝓤 H (Round 𝓤 H (𝓖 .A) (𝓜 .mem) (𝓡 .run)) 𝓜 𝓡 code.env #reader-calls·round-from rf-def.routine code.calls-reader-calls·round-from (rf-thm.met 𝓤 H 𝓜 𝓖 𝓡))
+    (cited 𝓤 H (After 𝓤 H (𝓖 .A) (𝓜 .mem) (𝓡 .run)) 𝓜 𝓡 code.env #reader-calls·place-after aft-def.routine code.calls-reader-calls·place-after (aft-thm.met 𝓤 H 𝓜 𝓖 𝓡)))

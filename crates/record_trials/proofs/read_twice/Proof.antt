@@ -55,16 +55,16 @@ use Rattle.draw_reader.proofs.DrawReader.Laws as T′
 use Rattle.draw_reader.proofs.Lent.{LentWithin, comes-within, lends-within, lies-in, lies-out}
 use Rattle.draw_reader.proofs.reader as new
 use Rattle.draw_reader.proofs.reader.Symbol as new-def
-use Rattle.draw_reader.proofs.reader.Symbol.{name as #reads·reader}
+use Rattle.draw_reader.proofs.reader.Symbol.{name as #draw-reader·reader}
 use Rattle.draw_reader.proofs.reader.Met as new-thm
 use Rattle.reader_calls.specs.Stands.{readOn, standsAt}
 use Rattle.reader_calls.proofs.random_round as rnd
 use Rattle.reader_calls.proofs.random_round.Symbol as rnd-def
-use Rattle.reader_calls.proofs.random_round.Symbol.{name as #by-reader·random-round}
+use Rattle.reader_calls.proofs.random_round.Symbol.{name as #reader-calls·random-round}
 use Rattle.reader_calls.proofs.random_round.Met as rnd-thm
 use Rattle.reader_calls.proofs.random_search as sch
 use Rattle.reader_calls.proofs.random_search.Symbol as sch-def
-use Rattle.reader_calls.proofs.random_search.Symbol.{name as #by-reader·random-search}
+use Rattle.reader_calls.proofs.random_search.Symbol.{name as #reader-calls·random-search}
 use Rattle.reader_calls.proofs.random_search.Met as sch-thm
 use Rattle.record_trials.specs.Readings.{Twice}
 use Rattle.record_trials.specs.declared.ReadTwice.{ReadTwice}
@@ -258,7 +258,7 @@ module _ {M : Type 1} (𝓤 : URA M) (H : Heap 𝓤) (A : Atoms 𝓤) (W : Given
   abbrev SearchEnds : Type 0
   SearchEnds = Unit {0} × (Unit {0} × (Unit {0} × (List ℤ × (DrawReader × (Unit {0} × Unit {0})))))
 
-  module _ (C : Calls 𝓤 H) (Λ : Loops 𝓤 H) (fm : FmC 𝓤 H (W .laws) C) (known-new : Triple 𝓤 (C #reads·reader) (New 𝓤 H A at-mem run)) (known-round : Triple 𝓤 (C #by-reader·random-round) (Round 𝓤 H A at-mem run)) (known-search : Triple 𝓤 (C #by-reader·random-search) (Search 𝓤 H A at-mem run)) where
+  module _ (C : Calls 𝓤 H) (Λ : Loops 𝓤 H) (fm : FmC 𝓤 H (W .laws) C) (known-new : Triple 𝓤 (C #draw-reader·reader) (New 𝓤 H A at-mem run)) (known-round : Triple 𝓤 (C #reader-calls·random-round) (Round 𝓤 H A at-mem run)) (known-search : Triple 𝓤 (C #reader-calls·random-search) (Search 𝓤 H A at-mem run)) where
     walk : ent 𝓤 (onEntry 𝓤 H A f.signature (κg, (κw, (κl, (κb, tt)))) (qg, (qw, (ql, (qb, tt)))) arg at) (WpFn 𝓤 H C Λ code.function (vint w64 rows ∷ vint w64 columns ∷ vg ∷ vw ∷ vl ∷ vb ∷ vint w64 place ∷ vint w64 rounds ∷ []) Post)
     walk =
         qed W ((‵ (flft κg qg) ⊛ (‵ (flft κw qw) ⊛ (‵ (flft κl ql) ⊛ (‵ (flft κb qb) ⊛ ‵ ftrue)))) ∷ ‵ (owns (usize ∷ usize ∷ ShrSlice (named 0) κg i32 ∷ MutSlice (named 1) κw i32 ∷ MutSlice (named 2) κl u32 ∷ ShrSlice (named 3) κb u8 ∷ usize ∷ usize ∷ []) arg at) ∷ []) ∵ enter ! C Λ code.function (vint w64 rows ∷ vint w64 columns ∷ vg ∷ vw ∷ vl ∷ vb ∷ vint w64 place ∷ vint w64 rounds ∷ []) _ $
@@ -319,7 +319,7 @@ module _ {M : Type 1} (𝓤 : URA M) (H : Heap 𝓤) (A : Atoms 𝓤) (W : Given
         keep ! (3 ∷ 2 ∷ 6 ∷ 0 ∷ 5 ∷ 8 ∷ 4 ∷ 7 ∷ []) $ by ! (exits r₁ r₂ h₂ u₁ u₂ w₂ l (len₃ ∙ len) len₂ (twice r h h₂ r₁ r₂ w₁ w₂ l e e₁ e₂) is₃)))))))))))))))))))))))))))))))))))))))))))))))
 
 module _ {M : Type 1} (𝓤 : URA M) (H : Heap 𝓤) (A : Atoms 𝓤) (W : Given 𝓤 H A) (at-mem : Memory → SProp 𝓤) (run : Routine → Fun 𝓤) (𝓣 : Tables 𝓤 H)
-    (known-new : Triple 𝓤 (𝓣 .C #reads·reader) (New 𝓤 H A at-mem run)) (known-round : Triple 𝓤 (𝓣 .C #by-reader·random-round) (Round 𝓤 H A at-mem run)) (known-search : Triple 𝓤 (𝓣 .C #by-reader·random-search) (Search 𝓤 H A at-mem run)) where
+    (known-new : Triple 𝓤 (𝓣 .C #draw-reader·reader) (New 𝓤 H A at-mem run)) (known-round : Triple 𝓤 (𝓣 .C #reader-calls·random-round) (Round 𝓤 H A at-mem run)) (known-search : Triple 𝓤 (𝓣 .C #reader-calls·random-search) (Search 𝓤 H A at-mem run)) where
   walks : Walks 𝓤 H A f.ended stayed (WpFn 𝓤 H (𝓣 .C) (𝓣 .Λ) code.function) (f.clauses 𝓤 H A at-mem run)
   walks = walked 𝓤 H A f.ended stayed (f.clauses 𝓤 H A at-mem run) (WpFn 𝓤 H (𝓣 .C) (𝓣 .Λ) code.function) (λ κs. (uint-vals w64, (uint-vals w64, (slice-vals, (slice-vals, (slice-vals, (slice-vals, (uint-vals w64, (uint-vals w64, tt)))))))))
       (λ κs. (uint-tells w64, (uint-tells w64, (shr-slice-tells (named 0) (κs .0) i32, (mut-slice-tells (named 1) (κs .1 .0) i32, (mut-slice-tells (named 2) (κs .1 .1 .0) u32, (shr-slice-tells (named 3) (κs .1 .1 .1 .0) u8, (uint-tells w64, (uint-tells w64, tt)))))))))
@@ -337,6 +337,6 @@ read-twice-spec 𝓤 H 𝓜 𝓖 𝓡 =
     entered 𝓤 H (tripleOf 𝓤 H (𝓖 .A) f.signature (f.spec 𝓤 H (𝓖 .A) (𝓜 .mem) (𝓡 .run)))
     (tables 𝓤 H 𝓜 𝓡 code.env .C) (tables 𝓤 H 𝓜 𝓡 code.env .Λ) #record-trials·read-twice code.function (code.unfolded 𝓤 H 𝓜 𝓡)
     (meets 𝓤 H (𝓖 .A) (givenOf 𝓤 H 𝓜 𝓖) (𝓜 .mem) (𝓡 .run) (tablesOf 𝓤 H 𝓜 (tables 𝓤 H 𝓜 𝓡 code.env))
-    (cited 𝓤 H (New 𝓤 H (𝓖 .A) (𝓜 .mem) (𝓡 .run)) 𝓜 𝓡 code.env #reads·reader new-def.routine code.calls-reads·reader (new-thm.met 𝓤 H 𝓜 𝓖 𝓡))
-    (cited 𝓤 H (Round 𝓤 H (𝓖 .A) (𝓜 .mem) (𝓡 .run)) 𝓜 𝓡 code.env #by-reader·random-round rnd-def.routine code.calls-by-reader·random-round (rnd-thm.met 𝓤 H 𝓜 𝓖 𝓡))
-    (cited 𝓤 H (Search 𝓤 H (𝓖 .A) (𝓜 .mem) (𝓡 .run)) 𝓜 𝓡 code.env #by-reader·random-search sch-def.routine code.calls-by-reader·random-search (sch-thm.met 𝓤 H 𝓜 𝓖 𝓡)))
+    (cited 𝓤 H (New 𝓤 H (𝓖 .A) (𝓜 .mem) (𝓡 .run)) 𝓜 𝓡 code.env #draw-reader·reader new-def.routine code.calls-draw-reader·reader (new-thm.met 𝓤 H 𝓜 𝓖 𝓡))
+    (cited 𝓤 H (Round 𝓤 H (𝓖 .A) (𝓜 .mem) (𝓡 .run)) 𝓜 𝓡 code.env #reader-calls·random-round rnd-def.routine code.calls-reader-calls·random-round (rnd-thm.met 𝓤 H 𝓜 𝓖 𝓡))
+    (cited 𝓤 H (Search 𝓤 H (𝓖 .A) (𝓜 .mem) (𝓡 .run)) 𝓜 𝓡 code.env #reader-calls·random-search sch-def.routine code.calls-reader-calls·random-search (sch-thm.met 𝓤 H 𝓜 𝓖 𝓡)))

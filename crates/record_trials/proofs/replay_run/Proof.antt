@@ -52,7 +52,7 @@ use Rattle.records.specs.declared.MoveRecord.{MoveRecord}
 use Rattle.record_calls.specs.Promises.{replayRecordsCall}
 use Rattle.record_calls.proofs.replay_records as by
 use Rattle.record_calls.proofs.replay_records.Symbol as by-def
-use Rattle.record_calls.proofs.replay_records.Symbol.{name as #by-records·replay-records}
+use Rattle.record_calls.proofs.replay_records.Symbol.{name as #record-calls·replay-records}
 use Rattle.record_calls.proofs.replay_records.Met as by-thm
 use Rattle.record_trials.proofs.Arrays as Run
 use Rattle.record_trials.proofs.Arrays.{Nine, R, nine}
@@ -150,7 +150,7 @@ module _ {M : Type 1} (𝓤 : URA M) (H : Heap 𝓤) (A : Atoms 𝓤) (W : Given
   abbrev Ends : Type 0
   Ends = Unit {0} × (Unit {0} × (Unit {0} × (List ℤ × (List ℕ × (Unit {0} × (Unit {0} × Unit {0}))))))
 
-  module _ (C : Calls 𝓤 H) (Λ : Loops 𝓤 H) (fm : FmC 𝓤 H (W .laws) C) (known : Triple 𝓤 (C #by-records·replay-records) (Call 𝓤 H A at-mem run)) where
+  module _ (C : Calls 𝓤 H) (Λ : Loops 𝓤 H) (fm : FmC 𝓤 H (W .laws) C) (known : Triple 𝓤 (C #record-calls·replay-records) (Call 𝓤 H A at-mem run)) where
     walk : ent 𝓤 (onEntry 𝓤 H A f.signature (κg, (κw, (κl, tt))) (qg, (qw, (ql, tt))) a at) (WpFn 𝓤 H C Λ code.function (vint w64 rows ∷ vint w64 columns ∷ vg ∷ vw ∷ vl ∷ Run.val ys ∷ vint w64 count ∷ []) Post)
     walk =
         let typed-run = Run.lawful 𝓤 H A W .typed ys _ is-run .0 in
@@ -194,7 +194,7 @@ module _ {M : Type 1} (𝓤 : URA M) (H : Heap 𝓤) (A : Atoms 𝓤) (W : Given
         move ! (38 ∷ 39 ∷ []) $ free1 ! $ move ! (36 ∷ 37 ∷ []) $ free1 ! $ move ! (34 ∷ 35 ∷ []) $ free1 ! $ move ! (32 ∷ 33 ∷ []) $ free1 ! $ move ! (30 ∷ 31 ∷ []) $ free1 ! $ move ! (28 ∷ 29 ∷ []) $ free1 ! $ move ! (26 ∷ 27 ∷ []) $ free1 ! $ move ! (24 ∷ 25 ∷ []) $ free1 ! $ move ! (0 ∷ 23 ∷ []) $ free1 ! $ move ! (20 ∷ 21 ∷ []) $ free1 ! $ move ! (18 ∷ 19 ∷ []) $ free1 ! $ move ! (16 ∷ 17 ∷ []) $ free1 ! $ move ! (14 ∷ 15 ∷ []) $ free1 ! $ move ! (12 ∷ 13 ∷ []) $ free1 ! $ move ! (10 ∷ 11 ∷ []) $ free1 ! $ free0 ! $
         keep ! (4 ∷ 3 ∷ 2 ∷ 8 ∷ 7 ∷ 6 ∷ 5 ∷ []) $ by ! (exits r u w l len len₂ e)))))))))))))))))))))))))
 
-module _ {M : Type 1} (𝓤 : URA M) (H : Heap 𝓤) (A : Atoms 𝓤) (W : Given 𝓤 H A) (at-mem : Memory → SProp 𝓤) (run : Routine → Fun 𝓤) (𝓣 : Tables 𝓤 H) (known : Triple 𝓤 (𝓣 .C #by-records·replay-records) (Call 𝓤 H A at-mem run)) where
+module _ {M : Type 1} (𝓤 : URA M) (H : Heap 𝓤) (A : Atoms 𝓤) (W : Given 𝓤 H A) (at-mem : Memory → SProp 𝓤) (run : Routine → Fun 𝓤) (𝓣 : Tables 𝓤 H) (known : Triple 𝓤 (𝓣 .C #record-calls·replay-records) (Call 𝓤 H A at-mem run)) where
   walks : Walks 𝓤 H A f.ended stayed (WpFn 𝓤 H (𝓣 .C) (𝓣 .Λ) code.function) (f.clauses 𝓤 H A at-mem run)
   walks = walked 𝓤 H A f.ended stayed (f.clauses 𝓤 H A at-mem run) (WpFn 𝓤 H (𝓣 .C) (𝓣 .Λ) code.function) (λ κs. (uint-vals w64, (uint-vals w64, (slice-vals, (slice-vals, (slice-vals, (Run.vals, (uint-vals w64, tt))))))))
       (λ κs. (uint-tells w64, (uint-tells w64, (shr-slice-tells (named 0) (κs .0) i32, (mut-slice-tells (named 1) (κs .1 .0) i32, (mut-slice-tells (named 2) (κs .1 .1 .0) u32, (Run.tells, (uint-tells w64, tt))))))))
@@ -211,4 +211,4 @@ replay-run-spec 𝓤 H 𝓜 𝓖 𝓡 =
     entered 𝓤 H (tripleOf 𝓤 H (𝓖 .A) f.signature (f.spec 𝓤 H (𝓖 .A) (𝓜 .mem) (𝓡 .run)))
     (tables 𝓤 H 𝓜 𝓡 code.env .C) (tables 𝓤 H 𝓜 𝓡 code.env .Λ) #record-trials·replay-run code.function (code.unfolded 𝓤 H 𝓜 𝓡)
     (meets 𝓤 H (𝓖 .A) (givenOf 𝓤 H 𝓜 𝓖) (𝓜 .mem) (𝓡 .run) (tablesOf 𝓤 H 𝓜 (tables 𝓤 H 𝓜 𝓡 code.env))
-    (cited 𝓤 H (Call 𝓤 H (𝓖 .A) (𝓜 .mem) (𝓡 .run)) 𝓜 𝓡 code.env #by-records·replay-records by-def.routine code.calls-by-records·replay-records (by-thm.met 𝓤 H 𝓜 𝓖 𝓡)))
+    (cited 𝓤 H (Call 𝓤 H (𝓖 .A) (𝓜 .mem) (𝓡 .run)) 𝓜 𝓡 code.env #record-calls·replay-records by-def.routine code.calls-record-calls·replay-records (by-thm.met 𝓤 H 𝓜 𝓖 𝓡)))
