@@ -28,7 +28,7 @@ pub record Cell : Type 0 where
   pub content : ℕ
 
 abbrev pub numbers : Cell → List ℤ
-numbers c = five (c .first) (c .second) (c .premium) (c .state) (c .content)
+numbers c = five (c .first) (c .second) (c .content) (c .state) (c .premium)
 
 -- the work area of such cells
 abbrev pub cellArea : (ℕ → Cell) → ℕ → List ℤ → List ℤ

@@ -33,7 +33,7 @@ putAt w k v = set w k (pos (v % 2147483648))
 
 -- as they lie while a call runs: labels, content, state, raised premium
 abbrev pub five : ℕ → ℕ → ℕ → ℕ → ℕ → List ℤ
-five first second premium state content = pos first ∷ pos second ∷ pos content ∷ pos state ∷ pos premium ∷ []
+five first second content state premium = pos first ∷ pos second ∷ pos content ∷ pos state ∷ pos premium ∷ []
 
 -- the work area has n cells' numbers
 abbrev pub HasCells : List ℤ → ℕ → Type 0

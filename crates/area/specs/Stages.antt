@@ -21,15 +21,15 @@ raised g s i = cond (mine g i) 0 (10 + gain g s i - cost g s i)
 
 -- before labelling: the content alone
 unfoldable pub loadedFive : Grid → ℕ → List ℤ
-loadedFive g i = five 0 0 0 0 (content g i)
+loadedFive g i = five 0 0 (content g i) 0 0
 
 -- once labelled
 unfoldable pub labelledFive : Grid → ℕ → List ℤ
-labelledFive g i = five (firstLabel g i) (secondLabel g i) 0 0 (content g i)
+labelledFive g i = five (firstLabel g i) (secondLabel g i) (content g i) 0 0
 
--- during play: labels, raised premium, state, content
+-- during play: labels, content, state, raised premium
 unfoldable pub heldFive : Grid → Position → ℕ → List ℤ
-heldFive g s i = five (firstLabel g i) (secondLabel g i) (raised g s i) (getD s i 0) (content g i)
+heldFive g s i = five (firstLabel g i) (secondLabel g i) (content g i) (getD s i 0) (raised g s i)
 
 -- the work area during play
 abbrev pub held : Grid → Position → List ℤ → List ℤ

@@ -1,3 +1,3 @@
 -- There is only one answer, and a local reader lent to a call.
 pub mod Lent
-pub mod Once
+pub mod OneAnswer

@@ -96,7 +96,7 @@ Labelling rows columns w r w′ =
 
 -- a cell's five numbers while the openings os are labelled
 unfoldable pub partFive : Grid → List (List ℕ) → ℕ → List ℤ
-partFive g os i = five (getD (places g i 1 os) 0 0) (getD (places g i 1 os) 1 0) 0 0 (content g i)
+partFive g os i = five (getD (places g i 1 os) 0 0) (getD (places g i 1 os) 1 0) (content g i) 0 0
 
 -- the openings whose lowest 0-cells are below i
 abbrev pub upto : Grid → ℕ → List (List ℕ)

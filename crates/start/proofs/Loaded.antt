@@ -27,7 +27,7 @@ pub length-load : (w : List ℤ) (i k : ℕ) → length (loadAt w i k) ≡ lengt
 length-load w i k = simp length-set
 
 -- the five numbers are set one after the other
-load-sets : (w : List ℤ) (i k : ℕ) → k < 2147483648 → loadAt w i k ≡ sets w (firstPlace i) (five 0 0 0 0 k)
+load-sets : (w : List ℤ) (i k : ℕ) → k < 2147483648 → loadAt w i k ≡ sets w (firstPlace i) (five 0 0 k 0 0)
 load-sets w i k h = rw (mod-eq-of-lt h) (simp towards-suc)
 
 -- ---- the number of a cell, by rows
