@@ -4,7 +4,7 @@ use mathlib.Core.Path.{_≡_, ap, sym, _∙_}
 use mathlib.Core.List.{List}
 use lib.IntN.{ℤ}
 use Rattle.game.specs.Calls.{Answer, ListOutcome, Outcome}
-use Rattle.zini.specs.Answers.{Keeps, KeepsList}
+use Rattle.answers.specs.Answers.{Keeps, KeepsList}
 use Rattle.lavgerin.specs.Names.{Returned, ReturnedList, ReturnedListTwo, ReturnedTwo, told}
 
 -- the answer's number, carried from the answer that came to the one promised

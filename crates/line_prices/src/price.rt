@@ -14,7 +14,7 @@ ghost use Rattle.game.specs.Openings.{threeBV};
 ghost use Rattle.game.specs.Rounds.{movesOf, roundSteps};
 ghost use Rattle.game.specs.Calls.{gives};
 ghost use Rattle.area.specs.Numbers.{gridOf};
-ghost use Rattle.zini.specs.Answers.{countedAnswer, pricedAnswer};
+ghost use Rattle.answers.specs.Answers.{countedAnswer, pricedAnswer};
 ghost use Rattle.refusals.specs.Names.{named};
 ghost use Rattle.lines.specs.PriceLine.{heldPrice};
 ghost use Rattle.line_prices.specs.Taken.{Taken};

@@ -1,3 +1,4 @@
 pub mod Takes
 pub mod Courses
 pub mod Searches
+pub mod Finishes

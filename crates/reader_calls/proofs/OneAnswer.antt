@@ -5,9 +5,9 @@ use mathlib.Core.List.{List}
 use lib.IntN.{ℤ}
 use Rattle.game.specs.Calls.{ListOutcome, Outcome}
 use Rattle.draw_reader.specs.declared.DrawReader.{DrawReader}
-use Rattle.zini.specs.Answers.{Keeps, KeepsList, rolledAnswer}
-use Rattle.zini.specs.declared.Rolled.{Rolled}
-use Rattle.zini.proofs.OneAnswer.{rolled-once, searched-once}
+use Rattle.answers.specs.Answers.{Keeps, KeepsList, rolledAnswer}
+use Rattle.answers.specs.declared.Rolled.{Rolled}
+use Rattle.answers.proofs.OneAnswer.{rolled-once, searched-once}
 use Rattle.reader_calls.specs.Stands.{readOn}
 
 -- the reader stands by the answer

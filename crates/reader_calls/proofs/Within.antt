@@ -14,9 +14,9 @@ use Rattle.game.specs.Rounds.{Round, Searched, randomRound, randomSearch}
 use Rattle.game.specs.Calls.{Answer, Refusal, drawnRound, drawnSearch, firstGiven, gridChecks, listCheck, randomRoundCall, randomSearchCall, roundsCheck, unless, unlessListed}
 use Rattle.game.proofs.Randoms.{random-within}
 use Rattle.game.proofs.Searches.{search-within}
-use Rattle.zini.specs.Answers.{rolledAnswer}
-use Rattle.zini.specs.declared.Rolled.{Rolled}
-use Rattle.zini.specs.declared.Rolled.the-variants as Rolls
+use Rattle.answers.specs.Answers.{rolledAnswer}
+use Rattle.answers.specs.declared.Rolled.{Rolled}
+use Rattle.answers.specs.declared.Rolled.the-variants as Rolls
 use Rattle.reader_calls.specs.Stands.{Starts, standsAt}
 
 -- the bytes from a place on

@@ -3,8 +3,8 @@ use Prim.Native.Nat.{ℕ, _+_, _≤_}
 use mathlib.Core.Path.{_≡_}
 use mathlib.Core.Logic.{_⊎_}
 use Rattle.draw_reader.specs.declared.DrawReader.{DrawReader}
-use Rattle.zini.specs.declared.Rolled.{Rolled}
-use Rattle.zini.specs.declared.Rolled.the-variants as Rolls
+use Rattle.answers.specs.declared.Rolled.{Rolled}
+use Rattle.answers.specs.declared.Rolled.the-variants as Rolls
 
 -- where in so many bytes a place is: a place past the end is the end
 pub record Starts (place length start : ℕ) : Type 0 where

@@ -6,7 +6,7 @@ ghost use Prim.Native.Nat.{_<_, _^_};
 ghost use lib.ListN.{drop};
 ghost use Rattle.game.specs.Calls.{randomRoundCall, randomSearchCall};
 ghost use Rattle.area.specs.Numbers.{gridOf};
-ghost use Rattle.zini.specs.Answers.{Keeps, KeepsList, rolledAnswer};
+ghost use Rattle.answers.specs.Answers.{Keeps, KeepsList, rolledAnswer};
 ghost use Rattle.reader_calls.specs.Stands.{Starts, standsAt, readOn};
 
 // Where in the bytes a place is; a place past the end is the end.

@@ -6,7 +6,7 @@ use lib.IntN.{ℤ}
 use lib.ListN.{length, take}
 use Rattle.game.specs.Grid.{Grid}
 use Rattle.game.specs.Calls.{Answer, ListOutcome, replayCall}
-use Rattle.zini.specs.Answers.{Keeps, KeepsList}
+use Rattle.answers.specs.Answers.{Keeps, KeepsList}
 use Rattle.records.specs.Records.{over, recordOf}
 use Rattle.records.specs.declared.MoveRecord.{MoveRecord}
 use Rattle.record_calls.specs.Promises.{KeepsRecords, copiedWords, inRecords, replayRecordsCall, replayWithin, writtenBy}

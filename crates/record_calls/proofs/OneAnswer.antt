@@ -4,11 +4,11 @@ use mathlib.Core.Path.{_∙_, _≡_, sym}
 use mathlib.Core.List.{List}
 use lib.IntN.{ℤ}
 use Rattle.game.specs.Calls.{ListOutcome}
-use Rattle.zini.specs.Answers.{KeepsList, pricedAnswer, replayedAnswer, rolledAnswer}
-use Rattle.zini.specs.declared.Priced.{Priced}
-use Rattle.zini.specs.declared.Replayed.{Replayed}
-use Rattle.zini.specs.declared.Rolled.{Rolled}
-use Rattle.zini.proofs.OneAnswer.{priced-once, replayed-once, rolled-once}
+use Rattle.answers.specs.Answers.{KeepsList, pricedAnswer, replayedAnswer, rolledAnswer}
+use Rattle.answers.specs.declared.Priced.{Priced}
+use Rattle.answers.specs.declared.Replayed.{Replayed}
+use Rattle.answers.specs.declared.Rolled.{Rolled}
+use Rattle.answers.proofs.OneAnswer.{priced-once, replayed-once, rolled-once}
 use Rattle.records.specs.declared.MoveRecord.{MoveRecord}
 use Rattle.record_calls.specs.Promises.{KeepsRecords, RecordsOutcome}
 

@@ -20,7 +20,7 @@ use Rattle.game.proofs.Truth.{and-both, no→false}
 use Rattle.area.specs.Stages.{Shape}
 use Rattle.checks.proofs.More.{enough, reaches}
 use Rattle.checks.proofs.Verdict.{all-passed}
-use Rattle.zini.specs.Answers.{Keeps, KeepsList}
+use Rattle.answers.specs.Answers.{Keeps, KeepsList}
 use Rattle.records.specs.Records.{moveWord, over, placed, recordOf}
 use Rattle.records.specs.declared.MoveRecord.{MoveRecord}
 use Rattle.records.proofs.Copies.{length-over, over-begun}

@@ -48,10 +48,10 @@ use denote.Triple.Walked.{says, Stays, stay-slice, gave-slice, stay-none, stay-n
 use denote.Exit.{yes}
 use Rattle.area.specs.Numbers.{gridOf}
 use Rattle.game.specs.Calls.{priceCall}
-use Rattle.zini.specs.Answers.{KeepsList, pricedAnswer}
-use Rattle.zini.specs.declared.Priced.{Priced}
-use Rattle.zini.proofs.Priced as S
-use Rattle.zini.proofs.Priced.Laws as S′
+use Rattle.answers.specs.Answers.{KeepsList, pricedAnswer}
+use Rattle.answers.specs.declared.Priced.{Priced}
+use Rattle.answers.proofs.Priced as S
+use Rattle.answers.proofs.Priced.Laws as S′
 use Rattle.records.specs.Records.{over, recordOf}
 use Rattle.records.specs.declared.MoveRecord.{MoveRecord}
 use Rattle.records.proofs.MoveRecord as T

@@ -9,7 +9,7 @@ use lib.Dec.{eqb}
 use lib.ListN.{getD, length, take}
 use Rattle.game.specs.Grid.{Grid}
 use Rattle.game.specs.Calls.{Answer, Check, ListOutcome, Outcome, Refusal, aboveCheck, draws, firstGiven, gridChecks, numberOf, priceCall, randomRoundCall, replayCall, roomCheck, unless, unlessListed}
-use Rattle.zini.specs.Answers.{KeepsList}
+use Rattle.answers.specs.Answers.{KeepsList}
 use Rattle.records.specs.Records.{moveWord, over, recordOf}
 use Rattle.records.specs.declared.MoveRecord.{MoveRecord}
 

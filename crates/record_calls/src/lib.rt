@@ -13,7 +13,7 @@ ghost use lib.ListN.{length};
 ghost use Rattle.game.specs.Calls.{firstGiven, priceCall, randomRoundCall, refuses, replayCall};
 ghost use Rattle.area.specs.Numbers.{gridOf};
 ghost use Rattle.refusals.specs.Names.{named};
-ghost use Rattle.zini.specs.Answers.{Keeps, KeepsList, pricedAnswer, replayedAnswer, rolledAnswer};
+ghost use Rattle.answers.specs.Answers.{Keeps, KeepsList, pricedAnswer, replayedAnswer, rolledAnswer};
 ghost use Rattle.record_calls.specs.Promises.{KeepsRecords, copiedIf, priceRecordsCall, randomRecordsCall, replayChecks, replayRecordsCall, replayWithin, within, writtenBy};
 
 // Greedy or openings-first for a run of so many records.

@@ -49,10 +49,10 @@ use denote.Triple.Walked.{says, Stays, gave-slice, stay-none, stay-none-slice, w
 use denote.Exit.{yes}
 use Rattle.area.specs.Numbers.{gridOf}
 use Rattle.game.specs.Calls.{priceCall}
-use Rattle.zini.specs.Answers.{pricedAnswer}
-use Rattle.zini.specs.declared.Priced.{Priced}
-use Rattle.zini.proofs.Priced as S
-use Rattle.zini.proofs.Priced.Laws as S′
+use Rattle.answers.specs.Answers.{pricedAnswer}
+use Rattle.answers.specs.declared.Priced.{Priced}
+use Rattle.answers.proofs.Priced as S
+use Rattle.answers.proofs.Priced.Laws as S′
 use Rattle.records.specs.declared.MoveRecord.{MoveRecord}
 use Rattle.record_calls.specs.Promises.{KeepsRecords, inRecords, within}
 use Rattle.record_calls.proofs.greedy_records as by

@@ -6,8 +6,8 @@ use lib.IntN.{ℤ}
 use lib.ListN.{drop}
 use Rattle.game.specs.Grid.{Grid}
 use Rattle.game.specs.Calls.{randomRoundCall, randomSearchCall}
-use Rattle.zini.specs.Answers.{Keeps, KeepsList, rolledAnswer}
-use Rattle.zini.specs.declared.Rolled.{Rolled}
+use Rattle.answers.specs.Answers.{Keeps, KeepsList, rolledAnswer}
+use Rattle.answers.specs.declared.Rolled.{Rolled}
 use Rattle.reader_calls.specs.Stands.{standsAt}
 
 -- the promises of both calls, from a place of the bytes; between is the work area after the round

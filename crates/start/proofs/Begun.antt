@@ -8,7 +8,7 @@ use lib.Dec.{eqb}
 use lib.IntN.{ℤ}
 use lib.ListN.{length}
 use Rattle.area.specs.Numbers.{HasCells, firstAt}
-use Rattle.area.specs.Stages.{Stands, held, content, labelledFive}
+use Rattle.area.specs.Stages.{Shape, Stands, held, content, labelledFive}
 use Rattle.game.specs.Area.{laid}
 use Rattle.game.specs.Calls.{work}
 use Rattle.game.specs.Grid.{Grid, cells, safe, size}
@@ -20,6 +20,7 @@ use Rattle.start.specs.Setting.{Setting}
 use Rattle.game.proofs.Counts.{count-ext}
 use Rattle.game.proofs.Labels.{first-label}
 use Rattle.game.proofs.Squares.{cells→}
+use Rattle.game.proofs.Tidy.{untouched-tidy}
 use Rattle.game.proofs.Truth.{and-true}
 use Rattle.game.proofs.Units.{closed-untouched, units-at-most-cells}
 use Rattle.area.proofs.CellByCell.{Cell, cellArea, read-first, read-content}
@@ -100,3 +101,9 @@ begun-again-by rows columns g s old w₀ w₁ w₂ t e₁ e₂ =
 
     c : columns ≡ g .columns
     c = sym (t .columns-are)
+
+-- the work area that stands for the untouched grid
+pub fresh : (rows columns : ℕ) (g : Grid) (old w : List ℤ) → g .rows ≡ rows → g .columns ≡ columns → Shape rows columns → 5 * size g ≤ length old
+    → w ≡ held g (untouched g) old → Stands rows columns g (untouched g) old w
+fresh rows columns g old w er ec h room e =
+    record { rows-are = er; columns-are = ec; shape = h; room = room; long = untouched-tidy g .long; holds-it = e }

@@ -25,7 +25,7 @@ use Rattle.game.proofs.Rounds.{greedy-sound, openings-first-sound}
 use Rattle.game.proofs.Searches.{search-sound}
 use Rattle.area.proofs.Cells.{cells-few}
 use Rattle.refusals.proofs.ReadBack.{numbered}
-use Rattle.zini.specs.Answers.{Keeps, KeepsList}
+use Rattle.answers.specs.Answers.{Keeps, KeepsList}
 use Rattle.zini.specs.Written.{Told, Written}
 use Rattle.checks.proofs.More.{none-below}
 use Rattle.checks.proofs.Verdict.{all-passed}

@@ -1,4 +1,2 @@
--- What the answers of the public calls stand for.
-pub mod Answers
-pub mod Clearing
+-- What the lists and answers of the public calls are.
 pub mod Written

@@ -1,7 +1,7 @@
 -- `lavgerin::lavgerin_random_search`, random search: the number, the clicks and the bytes of the answer that came. Assumes nothing.
 use borrow.Author.Needs.{needs}
 use mathlib.Core.Path.{ap, refl}
-use Rattle.zini.specs.Answers.{rolledAnswer}
+use Rattle.answers.specs.Answers.{rolledAnswer}
 use Rattle.lavgerin.proofs.Returns.{returned-two}
 use Rattle.lavgerin.proofs.lavgerin_random_search.Statement.{statement}
 use Rattle.lavgerin.proofs.lavgerin_random_search.Tie as tie

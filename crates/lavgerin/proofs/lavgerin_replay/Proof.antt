@@ -1,7 +1,7 @@
 -- `lavgerin::lavgerin_replay`, replay: the number and the values of the answer that came; MOVE has one. Assumes nothing.
 use borrow.Author.Needs.{needs}
 use mathlib.Core.Path.{ap, refl}
-use Rattle.zini.specs.Answers.{replayedAnswer}
+use Rattle.answers.specs.Answers.{replayedAnswer}
 use Rattle.lavgerin.proofs.Returns.{returned-two}
 use Rattle.lavgerin.proofs.lavgerin_replay.Statement.{statement}
 use Rattle.lavgerin.proofs.lavgerin_replay.Tie as tie

@@ -1,7 +1,7 @@
 -- `lavgerin::lavgerin_three_bv`, 3BV: the number and the units of the answer that came. Assumes nothing.
 use borrow.Author.Needs.{needs}
 use mathlib.Core.Path.{ap, refl}
-use Rattle.zini.specs.Answers.{countedAnswer}
+use Rattle.answers.specs.Answers.{countedAnswer}
 use Rattle.lavgerin.proofs.Returns.{returned}
 use Rattle.lavgerin.proofs.lavgerin_three_bv.Statement.{statement}
 use Rattle.lavgerin.proofs.lavgerin_three_bv.Tie as tie

@@ -1,7 +1,7 @@
 -- `lavgerin::price`, greedy or openings-first: the number and the clicks of the answer that came. Assumes nothing.
 use borrow.Author.Needs.{needs}
 use mathlib.Core.Path.{ap, refl}
-use Rattle.zini.specs.Answers.{pricedAnswer}
+use Rattle.answers.specs.Answers.{pricedAnswer}
 use Rattle.lavgerin.proofs.Returns.{returned-list}
 use Rattle.lavgerin.proofs.price.Statement.{statement}
 use Rattle.lavgerin.proofs.price.Tie as tie

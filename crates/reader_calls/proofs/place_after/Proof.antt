@@ -3,7 +3,7 @@ use Prim.Native.Nat.{_<_, _^_}
 use mathlib.Core.Path.{sym, ap, subst}
 use borrow.Author.Needs.{needs}
 use Rattle.reader_calls.specs.Stands.{standsAt}
-use Rattle.zini.specs.declared.Rolled.{Rolled}
+use Rattle.answers.specs.declared.Rolled.{Rolled}
 use Rattle.reader_calls.proofs.place_after.Statement.{statement}
 use Rattle.reader_calls.proofs.place_after.Tie as tie
 

@@ -48,10 +48,10 @@ use denote.Triple.Walked.{says, Stays, stay-ref, stay-none, stay-none-slice, gav
 use denote.Exit.{yes}
 use Rattle.game.specs.Calls.{randomRoundCall}
 use Rattle.area.specs.Numbers.{gridOf}
-use Rattle.zini.specs.Answers.{KeepsList, rolledAnswer}
-use Rattle.zini.specs.declared.Rolled.{Rolled}
-use Rattle.zini.proofs.Rolled as S
-use Rattle.zini.proofs.Rolled.Laws as S′
+use Rattle.answers.specs.Answers.{KeepsList, rolledAnswer}
+use Rattle.answers.specs.declared.Rolled.{Rolled}
+use Rattle.answers.proofs.Rolled as S
+use Rattle.answers.proofs.Rolled.Laws as S′
 use Rattle.draw_reader.specs.declared.DrawReader.{DrawReader}
 use Rattle.draw_reader.proofs.DrawReader as T
 use Rattle.draw_reader.proofs.DrawReader.Laws as T′

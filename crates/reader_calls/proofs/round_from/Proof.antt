@@ -6,7 +6,7 @@ use denote.Ref.{now}
 use borrow.Author.Needs.{needs}
 use Rattle.game.specs.Calls.{randomRoundCall}
 use Rattle.area.specs.Numbers.{gridOf}
-use Rattle.zini.specs.Answers.{KeepsList, rolledAnswer}
+use Rattle.answers.specs.Answers.{KeepsList, rolledAnswer}
 use Rattle.reader_calls.proofs.Within.{from-place, round-fits}
 use Rattle.reader_calls.proofs.round_from.Statement.{statement}
 use Rattle.reader_calls.proofs.round_from.Tie as tie

@@ -6,7 +6,7 @@ use denote.Ref.{now}
 use borrow.Author.Needs.{needs}
 use Rattle.game.specs.Calls.{randomSearchCall}
 use Rattle.area.specs.Numbers.{gridOf}
-use Rattle.zini.specs.Answers.{Keeps, rolledAnswer}
+use Rattle.answers.specs.Answers.{Keeps, rolledAnswer}
 use Rattle.reader_calls.proofs.Within.{from-place, search-fits}
 use Rattle.reader_calls.proofs.search_from.Statement.{statement}
 use Rattle.reader_calls.proofs.search_from.Tie as tie

@@ -46,10 +46,10 @@ use denote.Triple.Walked.{says, Stays, stay-slice, gave-slice, stay-none, stay-n
 use denote.Exit.{yes}
 use Rattle.game.specs.Calls.{randomRoundCall}
 use Rattle.area.specs.Numbers.{gridOf}
-use Rattle.zini.specs.Answers.{KeepsList, rolledAnswer}
-use Rattle.zini.specs.declared.Rolled.{Rolled}
-use Rattle.zini.proofs.Rolled as S
-use Rattle.zini.proofs.Rolled.Laws as S′
+use Rattle.answers.specs.Answers.{KeepsList, rolledAnswer}
+use Rattle.answers.specs.declared.Rolled.{Rolled}
+use Rattle.answers.proofs.Rolled as S
+use Rattle.answers.proofs.Rolled.Laws as S′
 use Rattle.records.specs.Records.{over, recordOf}
 use Rattle.records.specs.declared.MoveRecord.{MoveRecord}
 use Rattle.records.proofs.MoveRecord as T

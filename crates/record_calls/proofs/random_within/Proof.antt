@@ -7,7 +7,7 @@ use borrow.Author.Needs.{needs}
 use Rattle.game.specs.Calls.{ListOutcome, Refusal, firstGiven, randomRoundCall, gridChecks, roomCheck}
 use Rattle.area.specs.Numbers.{gridOf}
 use Rattle.refusals.specs.Names.{refusalOf}
-use Rattle.zini.proofs.Promises.{list-else, list-refused}
+use Rattle.answers.proofs.Promises.{list-else, list-refused}
 use Rattle.record_calls.proofs.random_within.Statement.{statement}
 use Rattle.record_calls.proofs.random_within.Tie as tie
 

@@ -46,10 +46,10 @@ use denote.Triple.Walked.{says, Stays, stay-slice, gave-slice, stay-none, stay-n
 use denote.Exit.{yes}
 use Rattle.game.specs.Calls.{firstGiven, replayCall}
 use Rattle.area.specs.Numbers.{gridOf}
-use Rattle.zini.specs.Answers.{Keeps, replayedAnswer}
-use Rattle.zini.specs.declared.Replayed.{Replayed}
-use Rattle.zini.proofs.Replayed as S
-use Rattle.zini.proofs.Replayed.Laws as S′
+use Rattle.answers.specs.Answers.{Keeps, replayedAnswer}
+use Rattle.answers.specs.declared.Replayed.{Replayed}
+use Rattle.answers.proofs.Replayed as S
+use Rattle.answers.proofs.Replayed.Laws as S′
 use Rattle.records.specs.Records.{moveWord, over}
 use Rattle.records.specs.declared.MoveRecord.{MoveRecord}
 use Rattle.records.proofs.MoveRecord as T

@@ -7,7 +7,7 @@ use borrow.Author.Needs.{needs}
 use Rattle.game.specs.Calls.{Outcome, Refusal, firstGiven, gridChecks, replayCall, aboveCheck}
 use Rattle.area.specs.Numbers.{gridOf}
 use Rattle.refusals.specs.Names.{refusalOf}
-use Rattle.zini.proofs.Promises.{keeps-else, keeps-refused}
+use Rattle.answers.proofs.Promises.{keeps-else, keeps-refused}
 use Rattle.record_calls.proofs.replay_within.Statement.{statement}
 use Rattle.record_calls.proofs.replay_within.Tie as tie
 

@@ -1,8 +1,8 @@
 -- `record_calls::written_by`: each arm by the answer it is for. Assumes nothing.
 use mathlib.Core.Path.{sym, ap, _∙_}
 use borrow.Author.Needs.{needs}
-use Rattle.zini.specs.Answers.{pricedAnswer}
-use Rattle.zini.specs.declared.Priced.{Priced}
+use Rattle.answers.specs.Answers.{pricedAnswer}
+use Rattle.answers.specs.declared.Priced.{Priced}
 use Rattle.record_calls.specs.Promises.{writtenBy}
 use Rattle.record_calls.proofs.written_by.Statement.{statement}
 use Rattle.record_calls.proofs.written_by.Tie as tie

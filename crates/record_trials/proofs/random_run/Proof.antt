@@ -48,10 +48,10 @@ use denote.Triple.Walked.{says, Stays, gave-slice, stay-none, stay-none-slice, w
 use denote.Exit.{yes}
 use Rattle.area.specs.Numbers.{gridOf}
 use Rattle.game.specs.Calls.{randomRoundCall}
-use Rattle.zini.specs.Answers.{rolledAnswer}
-use Rattle.zini.specs.declared.Rolled.{Rolled}
-use Rattle.zini.proofs.Rolled as S
-use Rattle.zini.proofs.Rolled.Laws as S′
+use Rattle.answers.specs.Answers.{rolledAnswer}
+use Rattle.answers.specs.declared.Rolled.{Rolled}
+use Rattle.answers.proofs.Rolled as S
+use Rattle.answers.proofs.Rolled.Laws as S′
 use Rattle.records.specs.declared.MoveRecord.{MoveRecord}
 use Rattle.record_calls.specs.Promises.{KeepsRecords, inRecords, within}
 use Rattle.record_calls.proofs.random_round_records as by

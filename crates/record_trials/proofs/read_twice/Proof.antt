@@ -44,10 +44,10 @@ use denote.Triple.Walked.{says, Stays, gave-slice, stay-none, stay-none-slice, w
 use denote.Exit.{yes}
 use Rattle.area.specs.Numbers.{gridOf}
 use Rattle.game.specs.Calls.{randomRoundCall, randomSearchCall}
-use Rattle.zini.specs.Answers.{Keeps, KeepsList, rolledAnswer}
-use Rattle.zini.specs.declared.Rolled.{Rolled}
-use Rattle.zini.proofs.Rolled as S
-use Rattle.zini.proofs.Rolled.Laws as S′
+use Rattle.answers.specs.Answers.{Keeps, KeepsList, rolledAnswer}
+use Rattle.answers.specs.declared.Rolled.{Rolled}
+use Rattle.answers.proofs.Rolled as S
+use Rattle.answers.proofs.Rolled.Laws as S′
 use Rattle.records.proofs.Again.{LentAgain, lends-again, comes-back}
 use Rattle.draw_reader.specs.declared.DrawReader.{DrawReader}
 use Rattle.draw_reader.proofs.DrawReader as T

@@ -44,10 +44,10 @@ use denote.Triple.Table.{entered, cited}
 use denote.Triple.Walked.{says, Stays, gave-slice, stay-none, stay-none-slice, walkOf, Walks, ends-at, walked, goes-gave-slice, goes-none, goes-none-slice, walk-meets}
 use denote.Exit.{yes}
 use Rattle.area.specs.Numbers.{gridOf}
-use Rattle.zini.specs.Answers.{KeepsList, replayedAnswer}
-use Rattle.zini.specs.declared.Replayed.{Replayed}
-use Rattle.zini.proofs.Replayed as S
-use Rattle.zini.proofs.Replayed.Laws as S′
+use Rattle.answers.specs.Answers.{KeepsList, replayedAnswer}
+use Rattle.answers.specs.declared.Replayed.{Replayed}
+use Rattle.answers.proofs.Replayed as S
+use Rattle.answers.proofs.Replayed.Laws as S′
 use Rattle.records.specs.declared.MoveRecord.{MoveRecord}
 use Rattle.record_calls.specs.Promises.{replayRecordsCall}
 use Rattle.record_calls.proofs.replay_records as by

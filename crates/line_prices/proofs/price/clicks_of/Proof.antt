@@ -1,7 +1,7 @@
 -- `line_prices::price::clicks_of`: the clicks of an answer of one value. Assumes nothing.
 use mathlib.Core.Path.{ap, sym}
 use Rattle.refusals.specs.Names.{named}
-use Rattle.zini.specs.Answers.{pricedAnswer}
+use Rattle.answers.specs.Answers.{pricedAnswer}
 use Rattle.line_prices.proofs.Figures.{no-value, one-value}
 use borrow.Author.Needs.{needs}
 use Rattle.line_prices.proofs.price.clicks_of.Statement.{statement}

@@ -1,7 +1,7 @@
 -- `line_prices::price::units_of`: the units of an answer of one value. Assumes nothing.
 use mathlib.Core.Path.{ap, sym}
 use Rattle.refusals.specs.Names.{named}
-use Rattle.zini.specs.Answers.{countedAnswer}
+use Rattle.answers.specs.Answers.{countedAnswer}
 use Rattle.line_prices.proofs.Figures.{no-value, one-value}
 use borrow.Author.Needs.{needs}
 use Rattle.line_prices.proofs.price.units_of.Statement.{statement}

@@ -1,0 +1,89 @@
+-- There is only one answer and one end content of each lent run for every call: the promises are functions, and each enum is read back from its number and values. Assumes nothing.
+use Prim.Native.Nat.{ℕ}
+use mathlib.Core.Path.{_≡_, refl}
+use mathlib.Core.List.{List, [], _∷_}
+use mathlib.Mathlib.Logic.Function.Defs.{LeftInverse·injective}
+use lib.IntN.{ℤ}
+use lib.ListN.{getD}
+use Rattle.game.specs.Calls.{ListOutcome, Outcome}
+use Rattle.refusals.proofs.ReadBack.{readBack, refused-back}
+use Rattle.answers.specs.Answers.{Keeps, KeepsList, countedAnswer, pricedAnswer, replayedAnswer, rolledAnswer}
+use Rattle.answers.specs.declared.Counted.{Counted}
+use Rattle.answers.specs.declared.Counted.the-variants as Counts
+use Rattle.answers.specs.declared.Replayed.{Replayed}
+use Rattle.answers.specs.declared.Replayed.the-variants as Replays
+use Rattle.answers.specs.declared.Priced.{Priced}
+use Rattle.answers.specs.declared.Priced.the-variants as Prices
+use Rattle.answers.specs.declared.Rolled.{Rolled}
+use Rattle.answers.specs.declared.Rolled.the-variants as Rolls
+use Rattle.answers.proofs.Promises.{keeps-once, list-once}
+
+-- ---- each enum is read back
+
+counted-same : (r r′ : Counted) → countedAnswer r ≡ countedAnswer r′ → r ≡ r′
+counted-same = LeftInverse·injective (readBack units Counts.Refused) countedAnswer back
+  where
+    units : List ℕ → Counted
+    units vs = Counts.Units (getD vs 0 0)
+
+    back : (r : Counted) → readBack units Counts.Refused (countedAnswer r) ≡ r
+    back (Counts.Units n) = refl
+    back (Counts.Refused f) = refused-back units Counts.Refused f
+
+priced-same : (r r′ : Priced) → pricedAnswer r ≡ pricedAnswer r′ → r ≡ r′
+priced-same = LeftInverse·injective (readBack clicks Prices.Refused) pricedAnswer back
+  where
+    clicks : List ℕ → Priced
+    clicks vs = Prices.Clicks (getD vs 0 0)
+
+    back : (r : Priced) → readBack clicks Prices.Refused (pricedAnswer r) ≡ r
+    back (Prices.Clicks n) = refl
+    back (Prices.Refused f) = refused-back clicks Prices.Refused f
+
+rolled-same : (r r′ : Rolled) → rolledAnswer r ≡ rolledAnswer r′ → r ≡ r′
+rolled-same = LeftInverse·injective (readBack clicks Rolls.Refused) rolledAnswer back
+  where
+    clicks : List ℕ → Rolled
+    clicks vs = Rolls.Clicks (getD vs 0 0) (getD vs 1 0)
+
+    back : (r : Rolled) → readBack clicks Rolls.Refused (rolledAnswer r) ≡ r
+    back (Rolls.Clicks n k) = refl
+    back (Rolls.Refused f) = refused-back clicks Rolls.Refused f
+
+-- a replay: success by two values, a bad move by its place alone
+replayed-same : (r r′ : Replayed) → replayedAnswer r ≡ replayedAnswer r′ → r ≡ r′
+replayed-same = LeftInverse·injective (readBack told Replays.Refused) replayedAnswer back
+  where
+    told : List ℕ → Replayed
+    told (n ∷ k ∷ vs) = Replays.Played n k
+    told (k ∷ []) = Replays.Move k
+    told [] = Replays.Move 0
+
+    back : (r : Replayed) → readBack told Replays.Refused (replayedAnswer r) ≡ r
+    back (Replays.Played n k) = refl
+    back (Replays.Move k) = refl
+    back (Replays.Refused f) = refused-back told Replays.Refused f
+
+-- ---- one answer and one end of each lent run
+
+-- the 3BV count
+pub counted-once : (p : Outcome) (r r′ : Counted) (w w′ : List ℤ) → Keeps p (countedAnswer r) w → Keeps p (countedAnswer r′) w′ → (r ≡ r′) × (w ≡ w′)
+counted-once p r r′ w w′ k k′ = let e = keeps-once p (countedAnswer r) (countedAnswer r′) w w′ k k′ in (counted-same r r′ (e .0), e .1)
+
+-- greedy and openings-first
+pub priced-once : (p : ListOutcome) (r r′ : Priced) (w w′ : List ℤ) (l l′ : List ℕ) → KeepsList p (pricedAnswer r) w l → KeepsList p (pricedAnswer r′) w′ l′ → (r ≡ r′) × (w ≡ w′) × (l ≡ l′)
+priced-once p r r′ w w′ l l′ k k′ =
+    let e = list-once p (pricedAnswer r) (pricedAnswer r′) w w′ l l′ k k′ in (priced-same r r′ (e .0), e .1, e .2)
+
+-- a single random round
+pub rolled-once : (p : ListOutcome) (r r′ : Rolled) (w w′ : List ℤ) (l l′ : List ℕ) → KeepsList p (rolledAnswer r) w l → KeepsList p (rolledAnswer r′) w′ l′ → (r ≡ r′) × (w ≡ w′) × (l ≡ l′)
+rolled-once p r r′ w w′ l l′ k k′ =
+    let e = list-once p (rolledAnswer r) (rolledAnswer r′) w w′ l l′ k k′ in (rolled-same r r′ (e .0), e .1, e .2)
+
+-- random search
+pub searched-once : (p : Outcome) (r r′ : Rolled) (w w′ : List ℤ) → Keeps p (rolledAnswer r) w → Keeps p (rolledAnswer r′) w′ → (r ≡ r′) × (w ≡ w′)
+searched-once p r r′ w w′ k k′ = let e = keeps-once p (rolledAnswer r) (rolledAnswer r′) w w′ k k′ in (rolled-same r r′ (e .0), e .1)
+
+-- replay
+pub replayed-once : (p : Outcome) (r r′ : Replayed) (w w′ : List ℤ) → Keeps p (replayedAnswer r) w → Keeps p (replayedAnswer r′) w′ → (r ≡ r′) × (w ≡ w′)
+replayed-once p r r′ w w′ k k′ = let e = keeps-once p (replayedAnswer r) (replayedAnswer r′) w w′ k k′ in (replayed-same r r′ (e .0), e .1)

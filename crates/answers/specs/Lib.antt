@@ -1,0 +1,2 @@
+-- What the answers of the public calls stand for.
+pub mod Answers
