@@ -1,4 +1,4 @@
--- `record_calls::price_within`: refused as the checks say, else the flat call. Assumes nothing.
+-- `record_checks::price_within`: refused as the checks say, else the flat call. Assumes nothing.
 use mathlib.Core.Path.{_≡_, ap, sym, _∙_}
 use mathlib.Core.List.{[], _∷_, _++_}
 use mathlib.Core.Option.{Option}
@@ -8,8 +8,8 @@ use Rattle.game.specs.Calls.{ListOutcome, Refusal, firstGiven, gridChecks, pric
 use Rattle.area.specs.Numbers.{gridOf}
 use Rattle.refusals.specs.Names.{refusalOf}
 use Rattle.zini.proofs.Promises.{list-else, list-refused}
-use Rattle.record_calls.proofs.price_within.Statement.{statement}
-use Rattle.record_calls.proofs.price_within.Tie as tie
+use Rattle.record_checks.proofs.price_within.Statement.{statement}
+use Rattle.record_checks.proofs.price_within.Tie as tie
 
 -- the refusal that is given
 abbrev given : tie.Start → Option Refusal

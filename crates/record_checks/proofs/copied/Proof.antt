@@ -1,4 +1,4 @@
--- `record_calls::copied`: nothing where the checks by lengths refuse, else the two that follow decide. Assumes nothing.
+-- `record_checks::copied`: nothing where the checks by lengths refuse, else the two that follow decide. Assumes nothing.
 use Prim.Native.Nat.{ℕ, _<_, _≤_}
 use mathlib.Core.Path.{_≡_, ap, sym, _∙_}
 use mathlib.Core.List.{List, _++_}
@@ -10,9 +10,9 @@ use Rattle.game.specs.Grid.{Grid}
 use Rattle.area.specs.Numbers.{gridOf}
 use Rattle.refusals.specs.Names.{refusalOf}
 use Rattle.checks.proofs.More.{enough, first-stands, reaches, too-low}
-use Rattle.record_calls.specs.Promises.{copiedIf}
-use Rattle.record_calls.proofs.copied.Statement.{statement}
-use Rattle.record_calls.proofs.copied.Tie as tie
+use Rattle.record_checks.specs.Promises.{copiedIf}
+use Rattle.record_checks.proofs.copied.Statement.{statement}
+use Rattle.record_checks.proofs.copied.Tie as tie
 
 -- how many are copied, by the checks of every call and the two that follow
 module _ (g : Grid) (ws : List ℤ) (room words count : ℕ) where

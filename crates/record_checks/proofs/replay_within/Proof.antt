@@ -1,4 +1,4 @@
--- `record_calls::replay_within`: refused as the checks say, else the flat replay. Assumes nothing.
+-- `record_checks::replay_within`: refused as the checks say, else the flat replay. Assumes nothing.
 use mathlib.Core.Path.{ap, sym, _∙_}
 use mathlib.Core.List.{[], _∷_, _++_}
 use mathlib.Core.Option.{Option}
@@ -8,8 +8,8 @@ use Rattle.game.specs.Calls.{Outcome, Refusal, firstGiven, gridChecks, replayCa
 use Rattle.area.specs.Numbers.{gridOf}
 use Rattle.refusals.specs.Names.{refusalOf}
 use Rattle.zini.proofs.Promises.{keeps-else, keeps-refused}
-use Rattle.record_calls.proofs.replay_within.Statement.{statement}
-use Rattle.record_calls.proofs.replay_within.Tie as tie
+use Rattle.record_checks.proofs.replay_within.Statement.{statement}
+use Rattle.record_checks.proofs.replay_within.Tie as tie
 
 -- the refusal that is given
 abbrev given : tie.Start → Option Refusal

@@ -1,11 +1,11 @@
--- `record_calls::written_by`: each arm by the answer it is for. Assumes nothing.
+-- `record_checks::written_by`: each arm by the answer it is for. Assumes nothing.
 use mathlib.Core.Path.{sym, ap, _∙_}
 use borrow.Author.Needs.{needs}
 use Rattle.zini.specs.Answers.{pricedAnswer}
 use Rattle.zini.specs.declared.Priced.{Priced}
-use Rattle.record_calls.specs.Promises.{writtenBy}
-use Rattle.record_calls.proofs.written_by.Statement.{statement}
-use Rattle.record_calls.proofs.written_by.Tie as tie
+use Rattle.record_checks.specs.Promises.{writtenBy}
+use Rattle.record_checks.proofs.written_by.Statement.{statement}
+use Rattle.record_checks.proofs.written_by.Tie as tie
 
 enum-known-priced : tie.Need-enum-known-priced
 enum-known-priced c = search needs

@@ -1,4 +1,4 @@
--- `record_calls::random_within`: refused as the checks say, else the flat call. Assumes nothing.
+-- `record_checks::random_within`: refused as the checks say, else the flat call. Assumes nothing.
 use mathlib.Core.Path.{ap, sym, _∙_}
 use mathlib.Core.List.{[], _∷_, _++_}
 use mathlib.Core.Option.{Option}
@@ -8,8 +8,8 @@ use Rattle.game.specs.Calls.{ListOutcome, Refusal, firstGiven, randomRoundCall,
 use Rattle.area.specs.Numbers.{gridOf}
 use Rattle.refusals.specs.Names.{refusalOf}
 use Rattle.zini.proofs.Promises.{list-else, list-refused}
-use Rattle.record_calls.proofs.random_within.Statement.{statement}
-use Rattle.record_calls.proofs.random_within.Tie as tie
+use Rattle.record_checks.proofs.random_within.Statement.{statement}
+use Rattle.record_checks.proofs.random_within.Tie as tie
 
 -- the refusal that is given
 abbrev given : tie.Start → Option Refusal

@@ -1,4 +1,4 @@
--- `record_calls::written_on`: by whether its number is that of DRAWS; no refusal's number is 0. Assumes nothing.
+-- `record_checks::written_on`: by whether its number is that of DRAWS; no refusal's number is 0. Assumes nothing.
 use Prim.Native.Nat.{ℕ, _≤_}
 use native.Mathlib.Omega.{arith}
 use mathlib.Core.Path.{_≡_, sym, _∙_}
@@ -9,9 +9,9 @@ use borrow.Author.Needs.{needs}
 use Rattle.game.specs.Calls.{draws, numberOf}
 use Rattle.refusals.specs.Names.{named}
 use Rattle.refusals.proofs.ReadBack.{numbered}
-use Rattle.record_calls.specs.Promises.{writtenBy}
-use Rattle.record_calls.proofs.written_on.Statement.{statement}
-use Rattle.record_calls.proofs.written_on.Tie as tie
+use Rattle.record_checks.specs.Promises.{writtenBy}
+use Rattle.record_checks.proofs.written_on.Statement.{statement}
+use Rattle.record_checks.proofs.written_on.Tie as tie
 
 -- by the number
 on-draws : (cells n : ℕ) → n ≡ numberOf draws → cells ≡ writtenBy cells (record { number = n; values = [] })

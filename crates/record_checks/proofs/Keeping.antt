@@ -9,7 +9,7 @@ use Rattle.game.specs.Calls.{Answer, ListOutcome, replayCall}
 use Rattle.zini.specs.Answers.{Keeps, KeepsList}
 use Rattle.records.specs.Records.{over, recordOf}
 use Rattle.records.specs.declared.MoveRecord.{MoveRecord}
-use Rattle.record_calls.specs.Promises.{KeepsRecords, copiedWords, inRecords, replayRecordsCall, replayWithin, writtenBy}
+use Rattle.record_checks.specs.Promises.{KeepsRecords, copiedWords, inRecords, replayRecordsCall, replayWithin, writtenBy}
 
 -- the flat call's promise, how many words are copied, and the copy
 pub keeps-records : (g : Grid) (promise : ListOutcome) (before : List MoveRecord) (a : Answer) (w : List ℤ) (l : List ℕ) (after : List MoveRecord) (count : ℕ) → KeepsList promise a w l → count ≡ writtenBy (length (g .values)) a

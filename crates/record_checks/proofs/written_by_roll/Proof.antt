@@ -1,11 +1,11 @@
--- `record_calls::written_by_roll`: each arm by the answer it is for. Assumes nothing.
+-- `record_checks::written_by_roll`: each arm by the answer it is for. Assumes nothing.
 use mathlib.Core.Path.{sym, ap, _∙_}
 use borrow.Author.Needs.{needs}
 use Rattle.zini.specs.Answers.{rolledAnswer}
 use Rattle.zini.specs.declared.Rolled.{Rolled}
-use Rattle.record_calls.specs.Promises.{writtenBy}
-use Rattle.record_calls.proofs.written_by_roll.Statement.{statement}
-use Rattle.record_calls.proofs.written_by_roll.Tie as tie
+use Rattle.record_checks.specs.Promises.{writtenBy}
+use Rattle.record_checks.proofs.written_by_roll.Statement.{statement}
+use Rattle.record_checks.proofs.written_by_roll.Tie as tie
 
 enum-known-rolled : tie.Need-enum-known-rolled
 enum-known-rolled c = search needs
