@@ -16,8 +16,8 @@ use Rattle.game.specs.Calls.{Answer, Refusal, firstGiven, gives, gridChecks, li
 use Rattle.checks.proofs.Verdict.{all-fine}
 use Rattle.checks.proofs.More.{enough}
 use Rattle.lines.specs.PriceLine.{Price}
-use Rattle.line_prices.specs.Prices.{priceOr}
-use Rattle.line_prices.specs.Taken.{Taken}
+use Rattle.line_price.specs.Prices.{priceOr}
+use Rattle.line_price.specs.Taken.{Taken}
 
 -- an answer of one value is that value's
 pub one-value : (m n : ℕ) (a : Answer) → gives (m ∷ []) ≡ a → a ≡ gives (n ∷ []) → m ≡ n

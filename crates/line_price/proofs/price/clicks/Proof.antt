@@ -1,12 +1,12 @@
--- `line_prices::price::clicks`: the clicks as the call answers them. Assumes nothing.
+-- `line_price::price::clicks`: the clicks as the call answers them. Assumes nothing.
 use mathlib.Core.Path.{_∙_}
 use lib.ListN.{length}
 use Rattle.game.specs.Rounds.{movesOf, roundSteps}
 use Rattle.area.specs.Numbers.{gridOf}
-use Rattle.line_prices.proofs.Figures.{clicks-answer}
+use Rattle.line_price.proofs.Figures.{clicks-answer}
 use borrow.Author.Needs.{needs}
-use Rattle.line_prices.proofs.price.clicks.Statement.{statement}
-use Rattle.line_prices.proofs.price.clicks.Tie as tie
+use Rattle.line_price.proofs.price.clicks.Statement.{statement}
+use Rattle.line_price.proofs.price.clicks.Tie as tie
 
 slice-aggregate-price : tie.Need-slice-aggregate-price
 slice-aggregate-price c = search needs

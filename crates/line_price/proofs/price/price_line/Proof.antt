@@ -1,4 +1,4 @@
--- `line_prices::price::price_line`: refused as reading the line says, else priced by its figures. Assumes nothing.
+-- `line_price::price::price_line`: refused as reading the line says, else priced by its figures. Assumes nothing.
 use Prim.Native.Nat.{ℕ, _*_, _≤_}
 use native.Mathlib.Omega.{arith}
 use mathlib.Core.Path.{_≡_, ap, subst, sym, _∙_}
@@ -11,12 +11,12 @@ use Rattle.lines.specs.BoardLine.{boardLineCall, lineGrid}
 use Rattle.lines.specs.Answers.{KeepsGrid, boardAnswer}
 use Rattle.refusals.specs.Names.{named}
 use Rattle.area.specs.Numbers.{gridOf}
-use Rattle.line_prices.specs.Taken.{Taken}
-use Rattle.line_prices.specs.Prices.{priceOf, priceOr}
-use Rattle.line_prices.proofs.Boards.{enough-values, line-priced, line-refused, line-taken}
+use Rattle.line_price.specs.Taken.{Taken}
+use Rattle.line_price.specs.Prices.{priceOf, priceOr}
+use Rattle.line_price.proofs.Boards.{enough-values, line-priced, line-refused, line-taken}
 use borrow.Author.Needs.{needs}
-use Rattle.line_prices.proofs.price.price_line.Statement.{statement}
-use Rattle.line_prices.proofs.price.price_line.Tie as tie
+use Rattle.line_price.proofs.price.price_line.Statement.{statement}
+use Rattle.line_price.proofs.price.price_line.Tie as tie
 
 -- the lent run
 abbrev grid : List ℤ

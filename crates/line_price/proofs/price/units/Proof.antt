@@ -1,11 +1,11 @@
--- `line_prices::price::units`: 3BV as the call answers it. Assumes nothing.
+-- `line_price::price::units`: 3BV as the call answers it. Assumes nothing.
 use mathlib.Core.Path.{_∙_}
 use Rattle.game.specs.Openings.{threeBV}
 use Rattle.area.specs.Numbers.{gridOf}
-use Rattle.line_prices.proofs.Figures.{units-answer}
+use Rattle.line_price.proofs.Figures.{units-answer}
 use borrow.Author.Needs.{needs}
-use Rattle.line_prices.proofs.price.units.Statement.{statement}
-use Rattle.line_prices.proofs.price.units.Tie as tie
+use Rattle.line_price.proofs.price.units.Statement.{statement}
+use Rattle.line_price.proofs.price.units.Tie as tie
 
 slice-aggregate-three-bv : tie.Need-slice-aggregate-three-bv
 slice-aggregate-three-bv c = search needs

@@ -17,8 +17,8 @@ ghost use Rattle.area.specs.Numbers.{gridOf};
 ghost use Rattle.zini.specs.Answers.{countedAnswer, pricedAnswer};
 ghost use Rattle.refusals.specs.Names.{named};
 ghost use Rattle.lines.specs.PriceLine.{heldPrice};
-ghost use Rattle.line_prices.specs.Taken.{Taken};
-ghost use Rattle.line_prices.specs.Prices.{priceOf, priceOr};
+ghost use Rattle.line_price.specs.Taken.{Taken};
+ghost use Rattle.line_price.specs.Prices.{priceOf, priceOr};
 
 // The units that were counted.
 fn units_of(counted: Counted) -> usize

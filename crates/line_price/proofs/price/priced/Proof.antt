@@ -1,11 +1,11 @@
--- `line_prices::price::priced`: the three figures. Assumes nothing.
+-- `line_price::price::priced`: the three figures. Assumes nothing.
 use native.Mathlib.Omega.{arith}
 use Rattle.area.specs.Numbers.{gridOf}
 use Rattle.lines.specs.PriceLine.{heldPrice}
-use Rattle.line_prices.proofs.Figures.{by-figures}
+use Rattle.line_price.proofs.Figures.{by-figures}
 use borrow.Author.Needs.{needs}
-use Rattle.line_prices.proofs.price.priced.Statement.{statement}
-use Rattle.line_prices.proofs.price.priced.Tie as tie
+use Rattle.line_price.proofs.price.priced.Statement.{statement}
+use Rattle.line_price.proofs.price.priced.Tie as tie
 
 units-requires : tie.Need-units-requires
 units-requires c κs = search needs

@@ -1,11 +1,11 @@
--- `line_prices::price::clicks_of`: the clicks of an answer of one value. Assumes nothing.
+-- `line_price::price::clicks_of`: the clicks of an answer of one value. Assumes nothing.
 use mathlib.Core.Path.{ap, sym}
 use Rattle.refusals.specs.Names.{named}
 use Rattle.zini.specs.Answers.{pricedAnswer}
-use Rattle.line_prices.proofs.Figures.{no-value, one-value}
+use Rattle.line_price.proofs.Figures.{no-value, one-value}
 use borrow.Author.Needs.{needs}
-use Rattle.line_prices.proofs.price.clicks_of.Statement.{statement}
-use Rattle.line_prices.proofs.price.clicks_of.Tie as tie
+use Rattle.line_price.proofs.price.clicks_of.Statement.{statement}
+use Rattle.line_price.proofs.price.clicks_of.Tie as tie
 
 enum-known-priced : tie.Need-enum-known-priced
 enum-known-priced c = search needs

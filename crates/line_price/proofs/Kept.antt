@@ -14,7 +14,7 @@ use Rattle.game.specs.Calls.{Refusal, frame}
 use Rattle.lines.specs.BoardLine.{lineGrid}
 use Rattle.lines.specs.PriceLine.{Price, priceDigits}
 use Rattle.lines.proofs.Verdict.{long-refused}
-use Rattle.line_prices.specs.Prices.{answerLine, priceOf, priceOr}
+use Rattle.line_price.specs.Prices.{answerLine, priceOf, priceOr}
 
 -- fourteen digits and a line feed
 pub answer-long : (line : List ℕ) → length (answerLine line) ≡ 15

@@ -15,8 +15,8 @@ use Rattle.lines.specs.BoardLine.{boardLineCall, lineGrid, lineRefusal}
 use Rattle.lines.specs.Answers.{KeepsGrid}
 use Rattle.lines.proofs.Calls.{board-read, board-refused}
 use Rattle.lines.proofs.Verdict.{length-values, passed}
-use Rattle.line_prices.specs.Taken.{Taken}
-use Rattle.line_prices.specs.Prices.{priceOf, priceOr}
+use Rattle.line_price.specs.Taken.{Taken}
+use Rattle.line_price.specs.Prices.{priceOf, priceOr}
 
 -- a refusal is no answer with values
 never : (f : Refusal) (m n : ℕ) → refuses f ≡ gives (m ∷ n ∷ []) → ⊥

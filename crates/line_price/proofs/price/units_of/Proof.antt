@@ -1,11 +1,11 @@
--- `line_prices::price::units_of`: the units of an answer of one value. Assumes nothing.
+-- `line_price::price::units_of`: the units of an answer of one value. Assumes nothing.
 use mathlib.Core.Path.{ap, sym}
 use Rattle.refusals.specs.Names.{named}
 use Rattle.zini.specs.Answers.{countedAnswer}
-use Rattle.line_prices.proofs.Figures.{no-value, one-value}
+use Rattle.line_price.proofs.Figures.{no-value, one-value}
 use borrow.Author.Needs.{needs}
-use Rattle.line_prices.proofs.price.units_of.Statement.{statement}
-use Rattle.line_prices.proofs.price.units_of.Tie as tie
+use Rattle.line_price.proofs.price.units_of.Statement.{statement}
+use Rattle.line_price.proofs.price.units_of.Tie as tie
 
 enum-known-counted : tie.Need-enum-known-counted
 enum-known-counted c = search needs

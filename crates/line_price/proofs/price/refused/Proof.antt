@@ -1,11 +1,11 @@
--- `line_prices::price::refused`: zeros after the number. Assumes nothing.
+-- `line_price::price::refused`: zeros after the number. Assumes nothing.
 use native.Mathlib.Omega.{arith}
 use Rattle.refusals.specs.Names.{named}
 use Rattle.lines.specs.PriceLine.{heldPrice}
-use Rattle.line_prices.proofs.Figures.{zeros-after}
+use Rattle.line_price.proofs.Figures.{zeros-after}
 use borrow.Author.Needs.{needs}
-use Rattle.line_prices.proofs.price.refused.Statement.{statement}
-use Rattle.line_prices.proofs.price.refused.Tie as tie
+use Rattle.line_price.proofs.price.refused.Statement.{statement}
+use Rattle.line_price.proofs.price.refused.Tie as tie
 
 number-of-requires : tie.Need-number-of-requires
 number-of-requires c κs = search needs
