@@ -9,7 +9,7 @@ use lib.ListN.{drop, length, length-append, length-replicate, take}
 use Rattle.game.specs.Lists.{concat-map}
 use Rattle.game.specs.Calls.{Refusal, gives, refuses}
 use Rattle.game.proofs.Members.{concat-map-append}
-use Rattle.line_prices.specs.Prices.{answerLine}
+use Rattle.line_price.specs.Prices.{answerLine}
 use Rattle.line_prices.specs.Blocks.{Desk, DeskOutcome, blockCall, cutFrom, deskAfter, endCall, lastLine, unlessDesk}
 use Rattle.line_prices.specs.Answers.{KeepsDesk}
 use Rattle.line_prices.specs.Sessions.{Fits, KeptOf, joined}

@@ -7,7 +7,7 @@ use lib.Dec.{eqb}
 use lib.IntN.{negsuc, pos, ℤ}
 use lib.ListN.{length, replicate, take}
 use Rattle.game.specs.Lists.{concat-map}
-use Rattle.line_prices.specs.Prices.{answerLine}
+use Rattle.line_price.specs.Prices.{answerLine}
 use Rattle.line_prices.specs.Blocks.{Cut, cutFrom, deskAfter, lastLine}
 use Rattle.line_prices.specs.Sessions.{KeptOf, joined}
 use Rattle.board_reader.specs.declared.Got.{Got}

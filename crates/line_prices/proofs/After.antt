@@ -9,12 +9,12 @@ use lib.ListN.{drop, length, length-append, length-set, length-take, set, take, 
 use lib.Seq.{drop-set-lt, length-take-le}
 use borrow.Author.Tests.{ltb-false, ltb-true}
 use Rattle.game.specs.Lists.{concat-map}
-use Rattle.line_prices.specs.Prices.{answerLine}
+use Rattle.line_price.specs.Prices.{answerLine}
 use Rattle.line_prices.specs.Blocks.{Cut, Desk, cutFrom, deskAfter, heldAfter, keptOver, lastLine}
 use Rattle.line_prices.specs.Bytes.{Room, blockRead, byteRead, deskOf}
 use Rattle.line_prices.proofs.Bytes.{own-line}
 use Rattle.line_prices.proofs.Desks.{Keeps, Told, block-answers, fed, more-kept, next-line, no-more-kept, past-later}
-use Rattle.line_prices.proofs.Kept.{answer-long}
+use Rattle.line_price.proofs.Kept.{answer-long}
 
 -- ---- what is kept
 

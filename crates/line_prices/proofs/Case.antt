@@ -8,7 +8,7 @@ use Rattle.game.specs.Rounds.{choice, firstClicks, greedySteps, movesAt, openin
 use Rattle.hex.specs.Hex.{hexDigit, hexValue}
 use Rattle.lines.specs.BoardLine.{bitAt, bitBetween, gridOfBytes, lineRefusal}
 use Rattle.lines.specs.PriceLine.{priceDigits}
-use Rattle.line_prices.specs.Prices.{answerLine, priceOf}
+use Rattle.line_price.specs.Prices.{answerLine, priceOf}
 use Rattle.line_prices.specs.Blocks.{printed}
 use Rattle.line_prices.specs.WholeCase.{wholeInput, wholeOutput}
 

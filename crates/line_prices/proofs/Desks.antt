@@ -12,10 +12,10 @@ use borrow.Author.Tests.{ltb-false, ltb-true}
 use Rattle.game.specs.Lists.{concat-map}
 use Rattle.hex.specs.Hex.{putDigits}
 use Rattle.lines.proofs.Priced.{put-there}
-use Rattle.line_prices.specs.Prices.{answerLine}
+use Rattle.line_price.specs.Prices.{answerLine}
 use Rattle.line_prices.specs.Blocks.{Cut, Desk, cutFrom}
 use Rattle.line_prices.specs.Bytes.{blockRead}
-use Rattle.line_prices.proofs.Kept.{answer-kept, answer-long}
+use Rattle.line_price.proofs.Kept.{answer-kept, answer-long}
 
 -- ---- the words of the theorems
 

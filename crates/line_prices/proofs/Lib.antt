@@ -1,12 +1,9 @@
 pub mod Cuts
-pub mod Kept
 pub mod Desks
 pub mod Bytes
 pub mod After
 pub mod Verdict
 pub mod Case
-pub mod Figures
-pub mod Boards
 pub mod Lines
 pub mod Sessions
 pub mod OneAnswer

@@ -8,7 +8,7 @@ use Rattle.hex.specs.Hex.{putDigits}
 use Rattle.lines.specs.PriceLine.{Price, priceDigits}
 use Rattle.hex.proofs.Bytes.{sets-more}
 use Rattle.lines.proofs.Priced.{length-price, put-there}
-use Rattle.line_prices.specs.Prices.{answerLine, priceOf}
+use Rattle.line_price.specs.Prices.{answerLine, priceOf}
 use Rattle.line_prices.specs.Blocks.{Desk}
 use Rattle.line_prices.specs.Bytes.{Room, byteRead}
 

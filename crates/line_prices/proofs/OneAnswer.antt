@@ -5,9 +5,6 @@ use mathlib.Core.List.{List}
 use mathlib.Mathlib.Logic.Function.Defs.{LeftInverse·injective}
 use lib.ListN.{getD}
 use Rattle.refusals.proofs.ReadBack.{readBack, refused-back}
-use Rattle.lines.specs.PriceLine.{heldPrice}
-use Rattle.lines.specs.declared.price.Price as Struct
-use Rattle.line_prices.specs.Prices.{priceOf}
 use Rattle.line_prices.specs.Blocks.{DeskOutcome}
 use Rattle.line_prices.specs.Answers.{KeepsDesk, answeredAnswer}
 use Rattle.line_prices.specs.declared.Answered.{Answered}
@@ -27,9 +24,3 @@ block-once p r r′ held held′ out out′ k k′ = (
     back : (r : Answered) → readBack kept Refused (answeredAnswer r) ≡ r
     back (Kept count written) = refl
     back (Refused f) = refused-back kept Refused f
-
--- a line priced
-pub price-once : (line : List ℕ) (r r′ : Struct.Price) → heldPrice r ≡ priceOf line → heldPrice r′ ≡ priceOf line → r ≡ r′
-price-once line r r′ e e′ =
-    let q : heldPrice r ≡ heldPrice r′ = e ∙ sym e′ in
-    λ i. record { number = q i .number; units = q i .units; greedy = q i .greedy; «openings_first» = q i .openings-first }

@@ -9,7 +9,7 @@ use lib.Seq.{drop-at, take-at}
 use Rattle.game.specs.Lists.{Each, concat-map}
 use Rattle.game.specs.Calls.{Answer, Refusal, gives, refuses}
 use Rattle.game.proofs.Members.{concat-map-append}
-use Rattle.line_prices.specs.Prices.{answerLine}
+use Rattle.line_price.specs.Prices.{answerLine}
 use Rattle.line_prices.specs.Blocks.{Cut, Desk, DeskOutcome, blockCall, cutFrom, deskAfter, endCall, heldAfter, keptOver, lastLine, printed, unlessDesk}
 use Rattle.line_prices.specs.Bytes.{Room, deskOf}
 use Rattle.line_prices.specs.Sessions.{AllAnswered, Fits, KeptOf, calls, joined, toPrint}
@@ -17,7 +17,7 @@ use Rattle.line_prices.specs.Answers.{KeepsDesk}
 use Rattle.line_prices.proofs.After.{block-desk, held-reads, heldBy}
 use Rattle.line_prices.proofs.Cuts.{cut-joins}
 use Rattle.line_prices.proofs.Desks.{Keeps, Told, block-answers}
-use Rattle.line_prices.proofs.Kept.{answer-kept}
+use Rattle.line_price.proofs.Kept.{answer-kept}
 use Rattle.line_prices.proofs.Verdict.{fine}
 
 -- ---- one call

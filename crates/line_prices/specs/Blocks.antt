@@ -8,7 +8,7 @@ use mathlib.Core.Option.{Option, none, some}
 use Rattle.game.specs.Area.{begun}
 use Rattle.game.specs.Lists.{concat-map}
 use Rattle.game.specs.Calls.{Answer, Check, Refusal, firstGiven, gives, refuses, trace, work}
-use Rattle.line_prices.specs.Prices.{answerLine}
+use Rattle.line_price.specs.Prices.{answerLine}
 
 -- lines that have ended, and the line that goes on
 pub record Cut : Type 0 where

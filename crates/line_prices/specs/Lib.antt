@@ -1,6 +1,4 @@
 -- The board reader: board lines in, prices out.
-pub mod Taken
-pub mod Prices
 pub mod Blocks
 pub mod Bytes
 pub mod Answers

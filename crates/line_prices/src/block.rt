@@ -20,7 +20,7 @@ fn end_line(held: &[u8], out: &mut [u8], place: Place) -> Place
 {
     let count = place.count;
     let written = place.written;
-    let price = crate::price::price_line(&held[..count]);
+    let price = line_price::price::price_line(&held[..count]);
     lines::price::put_price(out, written, price);
     out[written + 14] = 10;
     Place {

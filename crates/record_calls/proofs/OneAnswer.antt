@@ -10,7 +10,7 @@ use Rattle.answers.specs.declared.Replayed.{Replayed}
 use Rattle.answers.specs.declared.Rolled.{Rolled}
 use Rattle.answers.proofs.OneAnswer.{priced-once, replayed-once, rolled-once}
 use Rattle.records.specs.declared.MoveRecord.{MoveRecord}
-use Rattle.record_calls.specs.Promises.{KeepsRecords, RecordsOutcome}
+use Rattle.record_checks.specs.Promises.{KeepsRecords, RecordsOutcome}
 
 module _ (p : RecordsOutcome) (w w′ : List ℤ) (l l′ : List ℕ) (run run′ : List MoveRecord) where
   -- greedy and openings-first over a run

@@ -25,7 +25,7 @@ use Rattle.records.specs.Records.{moveWord, over, placed, recordOf}
 use Rattle.records.specs.declared.MoveRecord.{MoveRecord}
 use Rattle.records.proofs.Copies.{length-over, over-begun}
 use Rattle.records.proofs.Words.{word-record}
-use Rattle.record_calls.specs.Promises.{copiedIf, copiedWords, replayRecordsCall, replayWithin}
+use Rattle.record_checks.specs.Promises.{copiedIf, copiedWords, replayRecordsCall, replayWithin}
 
 take-map : {A B : Type 0} (f : A → B) (n : ℕ) (xs : List A) → take n (map f xs) ≡ map f (take n xs)
 take-map f zero xs = refl

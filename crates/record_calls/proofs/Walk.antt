@@ -60,17 +60,17 @@ use Rattle.records.proofs.records_of as rec
 use Rattle.records.proofs.records_of.Symbol as rec-def
 use Rattle.records.proofs.records_of.Symbol.{name as #records·records-of}
 use Rattle.records.proofs.records_of.Met as rec-thm
-use Rattle.record_calls.specs.Promises.{KeepsRecords, priceRecordsCall, within, writtenBy}
+use Rattle.record_checks.specs.Promises.{KeepsRecords, priceRecordsCall, within, writtenBy}
 use Rattle.records.proofs.Again.{LentAgain, lends-again, comes-back}
-use Rattle.record_calls.proofs.Keeping.{keeps-records}
-use Rattle.record_calls.proofs.price_within as fl
-use Rattle.record_calls.proofs.price_within.Symbol as fl-def
-use Rattle.record_calls.proofs.price_within.Symbol.{name as #record-calls·price-within}
-use Rattle.record_calls.proofs.price_within.Met as fl-thm
-use Rattle.record_calls.proofs.written_by as cnt
-use Rattle.record_calls.proofs.written_by.Symbol as cnt-def
-use Rattle.record_calls.proofs.written_by.Symbol.{name as #record-calls·written-by}
-use Rattle.record_calls.proofs.written_by.Met as cnt-thm
+use Rattle.record_checks.proofs.Keeping.{keeps-records}
+use Rattle.record_checks.proofs.price_within as fl
+use Rattle.record_checks.proofs.price_within.Symbol as fl-def
+use Rattle.record_checks.proofs.price_within.Symbol.{name as #record-checks·price-within}
+use Rattle.record_checks.proofs.price_within.Met as fl-thm
+use Rattle.record_checks.proofs.written_by as cnt
+use Rattle.record_checks.proofs.written_by.Symbol as cnt-def
+use Rattle.record_checks.proofs.written_by.Symbol.{name as #record-checks·written-by}
+use Rattle.record_checks.proofs.written_by.Met as cnt-thm
 use Rattle.record_calls.proofs.greedy_records as f
 
 abbrev R : RattleType
@@ -113,8 +113,8 @@ function b = record {
   locals = value S′.mir ∷ value (tyInt w64) ∷ value (tyInt w64) ∷ slice (named 0) imm (tyInt w32) ∷ slice (named 1) mut (tyInt w32) ∷ slice (named 2) mut (tyInt w32) ∷ slice (named 3) mut (pointee (R .written)) ∷ value S′.mir ∷ value (tyInt w64)
       ∷ pointer mut (tyInt w32) ∷ slice erased mut (tyInt w32) ∷ pointer mut (tyInt w32) ∷ slice erased mut (tyInt w32) ∷ value (tyInt w64) ∷ value tyUnit
       ∷ pointer mut (pointee (R .written)) ∷ slice erased mut (pointee (R .written)) ∷ pointer imm (tyInt w32) ∷ slice erased imm (tyInt w32) ∷ [];
-  body = lent-on 4 9 10 (tyInt w32) (lent-on 5 11 12 (tyInt w32) (measured 6 (seq (call #record-calls·price-within (var 1 ∷ var 2 ∷ var 3 ∷ var 10 ∷ var 12 ∷ var 13 ∷ flag b ∷ []) (place 7 []))
-      (measured 3 (seq (call #record-calls·written-by (var 7 ∷ var 13 ∷ []) (place 8 []))
+  body = lent-on 4 9 10 (tyInt w32) (lent-on 5 11 12 (tyInt w32) (measured 6 (seq (call #record-checks·price-within (var 1 ∷ var 2 ∷ var 3 ∷ var 10 ∷ var 12 ∷ var 13 ∷ flag b ∷ []) (place 7 []))
+      (measured 3 (seq (call #record-checks·written-by (var 7 ∷ var 13 ∷ []) (place 8 []))
       (lent-on 6 15 16 T′.mir (lent-on 5 17 18 (tyInt w32) (seq (call #records·records-of (var 16 ∷ var 18 ∷ var 8 ∷ var 1 ∷ []) (place 14 [])) (seq (assign (place 0 []) (rvOpd (var 7))) return)))))))));
 }
 
@@ -259,7 +259,7 @@ module _ {M : Type 1} (𝓤 : URA M) (H : Heap 𝓤) (A : Atoms 𝓤) (W : Given
   abbrev CopyEnds : Type 0
   CopyEnds = List MoveRecord × (Unit {0} × (Unit {0} × (Unit {0} × Unit {0})))
 
-  module _ (C : Calls 𝓤 H) (Λ : Loops 𝓤 H) (fm : FmC 𝓤 H (W .laws) C) (known-flat : Triple 𝓤 (C #record-calls·price-within) (Flat 𝓤 H A at-mem run)) (known-count : Triple 𝓤 (C #record-calls·written-by) (Count 𝓤 H A at-mem run)) (known-copy : Triple 𝓤 (C #records·records-of) (Copy 𝓤 H A at-mem run)) where
+  module _ (C : Calls 𝓤 H) (Λ : Loops 𝓤 H) (fm : FmC 𝓤 H (W .laws) C) (known-flat : Triple 𝓤 (C #record-checks·price-within) (Flat 𝓤 H A at-mem run)) (known-count : Triple 𝓤 (C #record-checks·written-by) (Count 𝓤 H A at-mem run)) (known-copy : Triple 𝓤 (C #records·records-of) (Copy 𝓤 H A at-mem run)) where
     walk : ent 𝓤 (onEntry 𝓤 H A f.signature (κg, (κw, (κl, (κr, tt)))) (qg, (qw, (ql, (qr, tt)))) a at) (WpFn 𝓤 H C Λ (function openings-first) (vint w64 rows ∷ vint w64 columns ∷ vg ∷ vw ∷ v ∷ vr ∷ []) Post)
     walk =
         qed W ((‵ (flft κg qg) ⊛ (‵ (flft κw qw) ⊛ (‵ (flft κl ql) ⊛ (‵ (flft κr qr) ⊛ ‵ ftrue)))) ∷ ‵ (owns (usize ∷ usize ∷ ShrSlice (named 0) κg i32 ∷ MutSlice (named 1) κw i32 ∷ MutSlice (named 2) κl u32 ∷ MutSlice (named 3) κr R ∷ []) a at) ∷ []) ∵ enter ! C Λ (function openings-first) (vint w64 rows ∷ vint w64 columns ∷ vg ∷ vw ∷ v ∷ vr ∷ []) _ $
@@ -329,7 +329,7 @@ module _ {M : Type 1} (𝓤 : URA M) (H : Heap 𝓤) (A : Atoms 𝓤) (W : Given
         keep ! (0 ∷ 1 ∷ 2 ∷ 11 ∷ 12 ∷ 4 ∷ 14 ∷ 13 ∷ 6 ∷ 10 ∷ []) $ by ! (exits r u w l rs n len len₂ len₃ e e₂ e₃)))))))))))))))))))))))))))))))))))))))))
 
 module _ {M : Type 1} (𝓤 : URA M) (H : Heap 𝓤) (A : Atoms 𝓤) (W : Given 𝓤 H A) (at-mem : Memory → SProp 𝓤) (run : Routine → Fun 𝓤) (openings-first : Bool) (𝓣 : Tables 𝓤 H)
-    (known-flat : Triple 𝓤 (𝓣 .C #record-calls·price-within) (Flat 𝓤 H A at-mem run)) (known-count : Triple 𝓤 (𝓣 .C #record-calls·written-by) (Count 𝓤 H A at-mem run)) (known-copy : Triple 𝓤 (𝓣 .C #records·records-of) (Copy 𝓤 H A at-mem run)) where
+    (known-flat : Triple 𝓤 (𝓣 .C #record-checks·price-within) (Flat 𝓤 H A at-mem run)) (known-count : Triple 𝓤 (𝓣 .C #record-checks·written-by) (Count 𝓤 H A at-mem run)) (known-copy : Triple 𝓤 (𝓣 .C #records·records-of) (Copy 𝓤 H A at-mem run)) where
   walks : Walks 𝓤 H A f.ended stayed (WpFn 𝓤 H (𝓣 .C) (𝓣 .Λ) (function openings-first)) (clauses 𝓤 openings-first)
   walks = walked 𝓤 H A f.ended stayed (clauses 𝓤 openings-first) (WpFn 𝓤 H (𝓣 .C) (𝓣 .Λ) (function openings-first)) (λ κs. (uint-vals w64, (uint-vals w64, (slice-vals, (slice-vals, (slice-vals, (slice-vals, tt)))))))
       (λ κs. (uint-tells w64, (uint-tells w64, (shr-slice-tells (named 0) (κs .0) i32, (mut-slice-tells (named 1) (κs .1 .0) i32, (mut-slice-tells (named 2) (κs .1 .1 .0) u32, (mut-slice-tells (named 3) (κs .1 .1 .1 .0) R, tt)))))))
@@ -343,12 +343,12 @@ module _ {M : Type 1} (𝓤 : URA M) (H : Heap 𝓤) (A : Atoms 𝓤) (W : Given
 
 -- a function of this MIR meets this contract in every environment that has its callees
 module _ {M : Type 1} (𝓤 : URA M) (H : Heap 𝓤) (𝓜 : Model 𝓤 H) (𝓖 : GhostRules 𝓤 H) (𝓡 : Running 𝓤 H 𝓜) (openings-first : Bool) (env : Env) (name : Name) where
-  pub price-records-spec : Closed 𝓤 H (tables 𝓤 H 𝓜 𝓡 env .C) (tables 𝓤 H 𝓜 𝓡 env .Λ) name (function openings-first) → env #record-calls·price-within ≡ fl-def.routine → env #record-calls·written-by ≡ cnt-def.routine → env #records·records-of ≡ rec-def.routine
+  pub price-records-spec : Closed 𝓤 H (tables 𝓤 H 𝓜 𝓡 env .C) (tables 𝓤 H 𝓜 𝓡 env .Λ) name (function openings-first) → env #record-checks·price-within ≡ fl-def.routine → env #record-checks·written-by ≡ cnt-def.routine → env #records·records-of ≡ rec-def.routine
       → Meets 𝓤 H (𝓖 .A) f.signature (𝓡 .run (env name)) (closing 𝓤 H (𝓖 .A) f.ended (clauses 𝓤 openings-first))
   unfolding tablesOf
   price-records-spec unfolded flat count copied =
       entered 𝓤 H (tripleOf 𝓤 H (𝓖 .A) f.signature (closing 𝓤 H (𝓖 .A) f.ended (clauses 𝓤 openings-first))) (tables 𝓤 H 𝓜 𝓡 env .C) (tables 𝓤 H 𝓜 𝓡 env .Λ) name (function openings-first) unfolded
       (meets 𝓤 H (𝓖 .A) (givenOf 𝓤 H 𝓜 𝓖) (𝓜 .mem) (𝓡 .run) openings-first (tablesOf 𝓤 H 𝓜 (tables 𝓤 H 𝓜 𝓡 env))
-      (cited 𝓤 H (Flat 𝓤 H (𝓖 .A) (𝓜 .mem) (𝓡 .run)) 𝓜 𝓡 env #record-calls·price-within fl-def.routine flat (fl-thm.met 𝓤 H 𝓜 𝓖 𝓡))
-      (cited 𝓤 H (Count 𝓤 H (𝓖 .A) (𝓜 .mem) (𝓡 .run)) 𝓜 𝓡 env #record-calls·written-by cnt-def.routine count (cnt-thm.met 𝓤 H 𝓜 𝓖 𝓡))
+      (cited 𝓤 H (Flat 𝓤 H (𝓖 .A) (𝓜 .mem) (𝓡 .run)) 𝓜 𝓡 env #record-checks·price-within fl-def.routine flat (fl-thm.met 𝓤 H 𝓜 𝓖 𝓡))
+      (cited 𝓤 H (Count 𝓤 H (𝓖 .A) (𝓜 .mem) (𝓡 .run)) 𝓜 𝓡 env #record-checks·written-by cnt-def.routine count (cnt-thm.met 𝓤 H 𝓜 𝓖 𝓡))
       (cited 𝓤 H (Copy 𝓤 H (𝓖 .A) (𝓜 .mem) (𝓡 .run)) 𝓜 𝓡 env #records·records-of rec-def.routine copied (rec-thm.met 𝓤 H 𝓜 𝓖 𝓡)))

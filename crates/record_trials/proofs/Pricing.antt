@@ -54,7 +54,7 @@ use Rattle.answers.specs.declared.Priced.{Priced}
 use Rattle.answers.proofs.Priced as S
 use Rattle.answers.proofs.Priced.Laws as S′
 use Rattle.records.specs.declared.MoveRecord.{MoveRecord}
-use Rattle.record_calls.specs.Promises.{KeepsRecords, inRecords, within}
+use Rattle.record_checks.specs.Promises.{KeepsRecords, inRecords, within}
 use Rattle.record_calls.proofs.greedy_records as by
 use Rattle.record_calls.proofs.greedy_records.Symbol as greedy-def
 use Rattle.record_calls.proofs.greedy_records.Symbol.{name as #record-calls·greedy-records}

@@ -9,7 +9,7 @@ use zini::Rolled;
 ghost use Rattle.game.specs.Calls.{greedyCall, openingsFirstCall, randomRoundCall};
 ghost use Rattle.area.specs.Numbers.{gridOf};
 ghost use Rattle.answers.specs.Answers.{KeepsList, pricedAnswer, replayedAnswer, rolledAnswer};
-ghost use Rattle.record_calls.specs.Promises.{KeepsRecords, inRecords, replayRecordsCall, within};
+ghost use Rattle.record_checks.specs.Promises.{KeepsRecords, inRecords, replayRecordsCall, within};
 ghost use Rattle.record_trials.specs.Readings.{Twice};
 
 // What greedy or openings-first answers, and the run that was lent.

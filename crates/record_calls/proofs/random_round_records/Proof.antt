@@ -57,17 +57,17 @@ use Rattle.records.proofs.records_of as rec
 use Rattle.records.proofs.records_of.Symbol as rec-def
 use Rattle.records.proofs.records_of.Symbol.{name as #records·records-of}
 use Rattle.records.proofs.records_of.Met as rec-thm
-use Rattle.record_calls.specs.Promises.{within, writtenBy}
+use Rattle.record_checks.specs.Promises.{within, writtenBy}
 use Rattle.records.proofs.Again.{LentAgain, lends-again, comes-back}
-use Rattle.record_calls.proofs.Keeping.{keeps-records}
-use Rattle.record_calls.proofs.random_within as fl
-use Rattle.record_calls.proofs.random_within.Symbol as fl-def
-use Rattle.record_calls.proofs.random_within.Symbol.{name as #record-calls·random-within}
-use Rattle.record_calls.proofs.random_within.Met as fl-thm
-use Rattle.record_calls.proofs.written_by_roll as cnt
-use Rattle.record_calls.proofs.written_by_roll.Symbol as cnt-def
-use Rattle.record_calls.proofs.written_by_roll.Symbol.{name as #record-calls·written-by-roll}
-use Rattle.record_calls.proofs.written_by_roll.Met as cnt-thm
+use Rattle.record_checks.proofs.Keeping.{keeps-records}
+use Rattle.record_checks.proofs.random_within as fl
+use Rattle.record_checks.proofs.random_within.Symbol as fl-def
+use Rattle.record_checks.proofs.random_within.Symbol.{name as #record-checks·random-within}
+use Rattle.record_checks.proofs.random_within.Met as fl-thm
+use Rattle.record_checks.proofs.written_by_roll as cnt
+use Rattle.record_checks.proofs.written_by_roll.Symbol as cnt-def
+use Rattle.record_checks.proofs.written_by_roll.Symbol.{name as #record-checks·written-by-roll}
+use Rattle.record_checks.proofs.written_by_roll.Met as cnt-thm
 use Rattle.record_calls.proofs.random_round_records.Key.{name as #record-calls·random-round-records}
 use Rattle.record_calls.proofs.random_round_records as f
 use Rattle.record_calls.proofs.random_round_records.Statement as stated
@@ -210,7 +210,7 @@ module _ {M : Type 1} (𝓤 : URA M) (H : Heap 𝓤) (A : Atoms 𝓤) (W : Given
   abbrev CopyEnds : Type 0
   CopyEnds = List MoveRecord × (Unit {0} × (Unit {0} × (Unit {0} × Unit {0})))
 
-  module _ (C : Calls 𝓤 H) (Λ : Loops 𝓤 H) (fm : FmC 𝓤 H (W .laws) C) (known-flat : Triple 𝓤 (C #record-calls·random-within) (Flat 𝓤 H A at-mem run)) (known-count : Triple 𝓤 (C #record-calls·written-by-roll) (Count 𝓤 H A at-mem run)) (known-copy : Triple 𝓤 (C #records·records-of) (Copy 𝓤 H A at-mem run)) where
+  module _ (C : Calls 𝓤 H) (Λ : Loops 𝓤 H) (fm : FmC 𝓤 H (W .laws) C) (known-flat : Triple 𝓤 (C #record-checks·random-within) (Flat 𝓤 H A at-mem run)) (known-count : Triple 𝓤 (C #record-checks·written-by-roll) (Count 𝓤 H A at-mem run)) (known-copy : Triple 𝓤 (C #records·records-of) (Copy 𝓤 H A at-mem run)) where
     walk : ent 𝓤 (onEntry 𝓤 H A f.signature (κg, (κw, (κl, (κr, (κd, tt))))) (qg, (qw, (ql, (qr, (qd, tt))))) a at) (WpFn 𝓤 H C Λ code.function (vint w64 rows ∷ vint w64 columns ∷ vg ∷ vw ∷ v ∷ vr ∷ vd ∷ []) Post)
     walk =
         qed W ((‵ (flft κg qg) ⊛ (‵ (flft κw qw) ⊛ (‵ (flft κl ql) ⊛ (‵ (flft κr qr) ⊛ (‵ (flft κd qd) ⊛ ‵ ftrue))))) ∷ ‵ (owns (usize ∷ usize ∷ ShrSlice (named 0) κg i32 ∷ MutSlice (named 1) κw i32 ∷ MutSlice (named 2) κl u32 ∷ MutSlice (named 3) κr R ∷ ShrSlice (named 4) κd u8 ∷ []) a at) ∷ []) ∵ enter ! C Λ code.function (vint w64 rows ∷ vint w64 columns ∷ vg ∷ vw ∷ v ∷ vr ∷ vd ∷ []) _ $
@@ -280,7 +280,7 @@ module _ {M : Type 1} (𝓤 : URA M) (H : Heap 𝓤) (A : Atoms 𝓤) (W : Given
         keep ! (0 ∷ 1 ∷ 2 ∷ 11 ∷ 12 ∷ 4 ∷ 14 ∷ 13 ∷ 6 ∷ 10 ∷ []) $ by ! (exits r u w l rs n len len₂ len₃ e e₂ e₃))))))))))))))))))))))))))))))))))))))))))
 
 module _ {M : Type 1} (𝓤 : URA M) (H : Heap 𝓤) (A : Atoms 𝓤) (W : Given 𝓤 H A) (at-mem : Memory → SProp 𝓤) (run : Routine → Fun 𝓤) (𝓣 : Tables 𝓤 H)
-    (known-flat : Triple 𝓤 (𝓣 .C #record-calls·random-within) (Flat 𝓤 H A at-mem run)) (known-count : Triple 𝓤 (𝓣 .C #record-calls·written-by-roll) (Count 𝓤 H A at-mem run)) (known-copy : Triple 𝓤 (𝓣 .C #records·records-of) (Copy 𝓤 H A at-mem run)) where
+    (known-flat : Triple 𝓤 (𝓣 .C #record-checks·random-within) (Flat 𝓤 H A at-mem run)) (known-count : Triple 𝓤 (𝓣 .C #record-checks·written-by-roll) (Count 𝓤 H A at-mem run)) (known-copy : Triple 𝓤 (𝓣 .C #records·records-of) (Copy 𝓤 H A at-mem run)) where
   random-round-records-walks : Walks 𝓤 H A f.ended stayed (WpFn 𝓤 H (𝓣 .C) (𝓣 .Λ) code.function) (f.clauses 𝓤 H A at-mem run)
   random-round-records-walks = walked 𝓤 H A f.ended stayed (f.clauses 𝓤 H A at-mem run) (WpFn 𝓤 H (𝓣 .C) (𝓣 .Λ) code.function) (λ κs. (uint-vals w64, (uint-vals w64, (slice-vals, (slice-vals, (slice-vals, (slice-vals, (slice-vals, tt))))))))
       (λ κs. (uint-tells w64, (uint-tells w64, (shr-slice-tells (named 0) (κs .0) i32, (mut-slice-tells (named 1) (κs .1 .0) i32, (mut-slice-tells (named 2) (κs .1 .1 .0) u32, (mut-slice-tells (named 3) (κs .1 .1 .1 .0) R, (shr-slice-tells (named 4) (κs .1 .1 .1 .1 .0) u8, tt))))))))
@@ -298,6 +298,6 @@ random-round-records-spec 𝓤 H 𝓜 𝓖 𝓡 =
     entered 𝓤 H (tripleOf 𝓤 H (𝓖 .A) f.signature (f.spec 𝓤 H (𝓖 .A) (𝓜 .mem) (𝓡 .run)))
     (tables 𝓤 H 𝓜 𝓡 code.env .C) (tables 𝓤 H 𝓜 𝓡 code.env .Λ) #record-calls·random-round-records code.function (code.unfolded 𝓤 H 𝓜 𝓡)
     (random-round-records-meets 𝓤 H (𝓖 .A) (givenOf 𝓤 H 𝓜 𝓖) (𝓜 .mem) (𝓡 .run) (tablesOf 𝓤 H 𝓜 (tables 𝓤 H 𝓜 𝓡 code.env))
-    (cited 𝓤 H (Flat 𝓤 H (𝓖 .A) (𝓜 .mem) (𝓡 .run)) 𝓜 𝓡 code.env #record-calls·random-within fl-def.routine code.calls-record-calls·random-within (fl-thm.met 𝓤 H 𝓜 𝓖 𝓡))
-    (cited 𝓤 H (Count 𝓤 H (𝓖 .A) (𝓜 .mem) (𝓡 .run)) 𝓜 𝓡 code.env #record-calls·written-by-roll cnt-def.routine code.calls-record-calls·written-by-roll (cnt-thm.met 𝓤 H 𝓜 𝓖 𝓡))
+    (cited 𝓤 H (Flat 𝓤 H (𝓖 .A) (𝓜 .mem) (𝓡 .run)) 𝓜 𝓡 code.env #record-checks·random-within fl-def.routine code.calls-record-checks·random-within (fl-thm.met 𝓤 H 𝓜 𝓖 𝓡))
+    (cited 𝓤 H (Count 𝓤 H (𝓖 .A) (𝓜 .mem) (𝓡 .run)) 𝓜 𝓡 code.env #record-checks·written-by-roll cnt-def.routine code.calls-record-checks·written-by-roll (cnt-thm.met 𝓤 H 𝓜 𝓖 𝓡))
     (cited 𝓤 H (Copy 𝓤 H (𝓖 .A) (𝓜 .mem) (𝓡 .run)) 𝓜 𝓡 code.env #records·records-of rec-def.routine code.calls-records·records-of (rec-thm.met 𝓤 H 𝓜 𝓖 𝓡)))

@@ -57,17 +57,17 @@ use Rattle.records.proofs.words_of as wds
 use Rattle.records.proofs.words_of.Symbol as wds-def
 use Rattle.records.proofs.words_of.Symbol.{name as #records·words-of}
 use Rattle.records.proofs.words_of.Met as wds-thm
-use Rattle.record_calls.specs.Promises.{copiedIf, replayChecks, replayWithin}
+use Rattle.record_checks.specs.Promises.{copiedIf, replayChecks, replayWithin}
 use Rattle.records.proofs.Again.{LentAgain, lends-again, comes-back}
-use Rattle.record_calls.proofs.copied as cpd
-use Rattle.record_calls.proofs.copied.Symbol as cpd-def
-use Rattle.record_calls.proofs.copied.Symbol.{name as #record-calls·copied}
-use Rattle.record_calls.proofs.copied.Met as cpd-thm
-use Rattle.record_calls.proofs.Keeping.{keeps-replay}
-use Rattle.record_calls.proofs.replay_within as fl
-use Rattle.record_calls.proofs.replay_within.Symbol as fl-def
-use Rattle.record_calls.proofs.replay_within.Symbol.{name as #record-calls·replay-within}
-use Rattle.record_calls.proofs.replay_within.Met as fl-thm
+use Rattle.record_checks.proofs.copied as cpd
+use Rattle.record_checks.proofs.copied.Symbol as cpd-def
+use Rattle.record_checks.proofs.copied.Symbol.{name as #record-checks·copied}
+use Rattle.record_checks.proofs.copied.Met as cpd-thm
+use Rattle.record_checks.proofs.Keeping.{keeps-replay}
+use Rattle.record_checks.proofs.replay_within as fl
+use Rattle.record_checks.proofs.replay_within.Symbol as fl-def
+use Rattle.record_checks.proofs.replay_within.Symbol.{name as #record-checks·replay-within}
+use Rattle.record_checks.proofs.replay_within.Met as fl-thm
 use Rattle.record_calls.proofs.replay_records.Key.{name as #record-calls·replay-records}
 use Rattle.record_calls.proofs.replay_records as f
 use Rattle.record_calls.proofs.replay_records.Statement as stated
@@ -205,7 +205,7 @@ module _ {M : Type 1} (𝓤 : URA M) (H : Heap 𝓤) (A : Atoms 𝓤) (W : Given
   abbrev Ends : Type 0
   Ends = Unit {0} × (Unit {0} × (Unit {0} × (List ℤ × (Unit {0} × (Unit {0} × (Unit {0} × Unit {0}))))))
 
-  module _ (C : Calls 𝓤 H) (Λ : Loops 𝓤 H) (fm : FmC 𝓤 H (W .laws) C) (known-copied : Triple 𝓤 (C #record-calls·copied) (Copied 𝓤 H A at-mem run)) (known-words : Triple 𝓤 (C #records·words-of) (Words 𝓤 H A at-mem run)) (known-flat : Triple 𝓤 (C #record-calls·replay-within) (Flat 𝓤 H A at-mem run)) where
+  module _ (C : Calls 𝓤 H) (Λ : Loops 𝓤 H) (fm : FmC 𝓤 H (W .laws) C) (known-copied : Triple 𝓤 (C #record-checks·copied) (Copied 𝓤 H A at-mem run)) (known-words : Triple 𝓤 (C #records·words-of) (Words 𝓤 H A at-mem run)) (known-flat : Triple 𝓤 (C #record-checks·replay-within) (Flat 𝓤 H A at-mem run)) where
     walk : ent 𝓤 (onEntry 𝓤 H A f.signature (κg, (κw, (κl, (κr, tt)))) (qg, (qw, (ql, (qr, tt)))) a at) (WpFn 𝓤 H C Λ code.function (vint w64 rows ∷ vint w64 columns ∷ vg ∷ vw ∷ v ∷ vr ∷ vint w64 count ∷ []) Post)
     walk =
         qed W ((‵ (flft κg qg) ⊛ (‵ (flft κw qw) ⊛ (‵ (flft κl ql) ⊛ (‵ (flft κr qr) ⊛ ‵ ftrue)))) ∷ ‵ (owns (usize ∷ usize ∷ ShrSlice (named 0) κg i32 ∷ MutSlice (named 1) κw i32 ∷ MutSlice (named 2) κl u32 ∷ ShrSlice (named 3) κr R ∷ usize ∷ []) a at) ∷ []) ∵ enter ! C Λ code.function (vint w64 rows ∷ vint w64 columns ∷ vg ∷ vw ∷ v ∷ vr ∷ vint w64 count ∷ []) _ $
@@ -271,7 +271,7 @@ module _ {M : Type 1} (𝓤 : URA M) (H : Heap 𝓤) (A : Atoms 𝓤) (W : Given
         keep ! (0 ∷ 1 ∷ 2 ∷ 4 ∷ 5 ∷ 10 ∷ 8 ∷ 7 ∷ 12 ∷ 6 ∷ []) $ by ! (exits r u₃ w l n len len₂ e e₂ e₃)))))))))))))))))))))))))))))))))))))))))
 
 module _ {M : Type 1} (𝓤 : URA M) (H : Heap 𝓤) (A : Atoms 𝓤) (W : Given 𝓤 H A) (at-mem : Memory → SProp 𝓤) (run : Routine → Fun 𝓤) (𝓣 : Tables 𝓤 H)
-    (known-copied : Triple 𝓤 (𝓣 .C #record-calls·copied) (Copied 𝓤 H A at-mem run)) (known-words : Triple 𝓤 (𝓣 .C #records·words-of) (Words 𝓤 H A at-mem run)) (known-flat : Triple 𝓤 (𝓣 .C #record-calls·replay-within) (Flat 𝓤 H A at-mem run)) where
+    (known-copied : Triple 𝓤 (𝓣 .C #record-checks·copied) (Copied 𝓤 H A at-mem run)) (known-words : Triple 𝓤 (𝓣 .C #records·words-of) (Words 𝓤 H A at-mem run)) (known-flat : Triple 𝓤 (𝓣 .C #record-checks·replay-within) (Flat 𝓤 H A at-mem run)) where
   replay-records-walks : Walks 𝓤 H A f.ended stayed (WpFn 𝓤 H (𝓣 .C) (𝓣 .Λ) code.function) (f.clauses 𝓤 H A at-mem run)
   replay-records-walks = walked 𝓤 H A f.ended stayed (f.clauses 𝓤 H A at-mem run) (WpFn 𝓤 H (𝓣 .C) (𝓣 .Λ) code.function) (λ κs. (uint-vals w64, (uint-vals w64, (slice-vals, (slice-vals, (slice-vals, (slice-vals, (uint-vals w64, tt))))))))
       (λ κs. (uint-tells w64, (uint-tells w64, (shr-slice-tells (named 0) (κs .0) i32, (mut-slice-tells (named 1) (κs .1 .0) i32, (mut-slice-tells (named 2) (κs .1 .1 .0) u32, (shr-slice-tells (named 3) (κs .1 .1 .1 .0) R, (uint-tells w64, tt))))))))
@@ -289,6 +289,6 @@ replay-records-spec 𝓤 H 𝓜 𝓖 𝓡 =
     entered 𝓤 H (tripleOf 𝓤 H (𝓖 .A) f.signature (f.spec 𝓤 H (𝓖 .A) (𝓜 .mem) (𝓡 .run)))
     (tables 𝓤 H 𝓜 𝓡 code.env .C) (tables 𝓤 H 𝓜 𝓡 code.env .Λ) #record-calls·replay-records code.function (code.unfolded 𝓤 H 𝓜 𝓡)
     (replay-records-meets 𝓤 H (𝓖 .A) (givenOf 𝓤 H 𝓜 𝓖) (𝓜 .mem) (𝓡 .run) (tablesOf 𝓤 H 𝓜 (tables 𝓤 H 𝓜 𝓡 code.env))
-    (cited 𝓤 H (Copied 𝓤 H (𝓖 .A) (𝓜 .mem) (𝓡 .run)) 𝓜 𝓡 code.env #record-calls·copied cpd-def.routine code.calls-record-calls·copied (cpd-thm.met 𝓤 H 𝓜 𝓖 𝓡))
+    (cited 𝓤 H (Copied 𝓤 H (𝓖 .A) (𝓜 .mem) (𝓡 .run)) 𝓜 𝓡 code.env #record-checks·copied cpd-def.routine code.calls-record-checks·copied (cpd-thm.met 𝓤 H 𝓜 𝓖 𝓡))
     (cited 𝓤 H (Words 𝓤 H (𝓖 .A) (𝓜 .mem) (𝓡 .run)) 𝓜 𝓡 code.env #records·words-of wds-def.routine code.calls-records·words-of (wds-thm.met 𝓤 H 𝓜 𝓖 𝓡))
-    (cited 𝓤 H (Flat 𝓤 H (𝓖 .A) (𝓜 .mem) (𝓡 .run)) 𝓜 𝓡 code.env #record-calls·replay-within fl-def.routine code.calls-record-calls·replay-within (fl-thm.met 𝓤 H 𝓜 𝓖 𝓡)))
+    (cited 𝓤 H (Flat 𝓤 H (𝓖 .A) (𝓜 .mem) (𝓡 .run)) 𝓜 𝓡 code.env #record-checks·replay-within fl-def.routine code.calls-record-checks·replay-within (fl-thm.met 𝓤 H 𝓜 𝓖 𝓡)))

@@ -53,7 +53,7 @@ use Rattle.answers.specs.declared.Rolled.{Rolled}
 use Rattle.answers.proofs.Rolled as S
 use Rattle.answers.proofs.Rolled.Laws as S′
 use Rattle.records.specs.declared.MoveRecord.{MoveRecord}
-use Rattle.record_calls.specs.Promises.{KeepsRecords, inRecords, within}
+use Rattle.record_checks.specs.Promises.{KeepsRecords, inRecords, within}
 use Rattle.record_calls.proofs.random_round_records as by
 use Rattle.record_calls.proofs.random_round_records.Symbol as by-def
 use Rattle.record_calls.proofs.random_round_records.Symbol.{name as #record-calls·random-round-records}

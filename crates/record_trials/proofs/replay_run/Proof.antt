@@ -49,7 +49,7 @@ use Rattle.answers.specs.declared.Replayed.{Replayed}
 use Rattle.answers.proofs.Replayed as S
 use Rattle.answers.proofs.Replayed.Laws as S′
 use Rattle.records.specs.declared.MoveRecord.{MoveRecord}
-use Rattle.record_calls.specs.Promises.{replayRecordsCall}
+use Rattle.record_checks.specs.Promises.{replayRecordsCall}
 use Rattle.record_calls.proofs.replay_records as by
 use Rattle.record_calls.proofs.replay_records.Symbol as by-def
 use Rattle.record_calls.proofs.replay_records.Symbol.{name as #record-calls·replay-records}

@@ -1,0 +1,4 @@
+pub mod Kept
+pub mod Figures
+pub mod Boards
+pub mod OneAnswer

@@ -1,0 +1,3 @@
+-- What one board line is priced at.
+pub mod Taken
+pub mod Prices

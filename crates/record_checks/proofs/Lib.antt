@@ -1,0 +1,2 @@
+-- What a call over a run leaves, by the flat call and the copy.
+pub mod Keeping
