@@ -11,10 +11,10 @@ use Rattle.area.proofs.Cells.{cells-few}
 use Rattle.area.proofs.Sides.{near-cell, nine, nine-none}
 use Rattle.game.specs.Lists.{some-of}
 use Rattle.game.proofs.Truth.{T→true, or-right}
-use Rattle.marks.specs.Marks.{closedZeroAt}
-use Rattle.marks.proofs.Borders.{borders-there, some-more, some-on}
-use Rattle.marks.proofs.borders_closed.Statement.{statement}
-use Rattle.marks.proofs.borders_closed.Tie as tie
+use Rattle.mark_tests.specs.Tests.{closedZeroAt}
+use Rattle.mark_tests.proofs.Borders.{borders-there, some-more, some-on}
+use Rattle.mark_tests.proofs.borders_closed.Statement.{statement}
+use Rattle.mark_tests.proofs.borders_closed.Tie as tie
 
 abbrev Inv-loop : tie.InvT-loop
 Inv-loop work rows columns index cells place₀ place =

@@ -4,10 +4,10 @@ use native.Mathlib.Omega.{arith}
 use mathlib.Core.Path.{_∙_, _≡_, refl}
 use lib.ListN.{length, length-set, set}
 use borrow.Author.Needs.{needs}
-use Rattle.marks.specs.Marks.{MarkedOr}
-use Rattle.marks.proofs.Marks.{Outside, marked-near, marked-next, marked-none, one-marked}
-use Rattle.marks.proofs.mark_near.Statement.{statement}
-use Rattle.marks.proofs.mark_near.Tie as tie
+use Rattle.mark_columns.specs.Columns.{MarkedOr}
+use Rattle.mark_columns.proofs.Marks.{Outside, marked-near, marked-next, marked-none, one-marked}
+use Rattle.mark_columns.proofs.mark_near.Statement.{statement}
+use Rattle.mark_columns.proofs.mark_near.Tie as tie
 
 abbrev Inv-loop : tie.InvT-loop
 Inv-loop tops₀ column last near₀ tops near =

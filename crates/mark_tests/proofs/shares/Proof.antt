@@ -1,8 +1,8 @@
 -- `marks::shares`: the first label is one of the two, or the second decides. Assumes nothing.
 use borrow.Author.Needs.{needs}
-use Rattle.marks.proofs.Sharing.{first-shares, second-shares}
-use Rattle.marks.proofs.shares.Statement.{statement}
-use Rattle.marks.proofs.shares.Tie as tie
+use Rattle.mark_tests.proofs.Sharing.{first-shares, second-shares}
+use Rattle.mark_tests.proofs.shares.Statement.{statement}
+use Rattle.mark_tests.proofs.shares.Tie as tie
 
 first-label-requires : tie.Need-first-label-requires
 first-label-requires c κs = search needs

@@ -1,7 +1,7 @@
 -- `marks::one_of`: 0 is none; else it is the first, or the second decides. Assumes nothing.
-use Rattle.marks.proofs.Sharing.{by-second, is-first, is-none}
-use Rattle.marks.proofs.one_of.Statement.{statement}
-use Rattle.marks.proofs.one_of.Tie as tie
+use Rattle.mark_tests.proofs.Sharing.{by-second, is-first, is-none}
+use Rattle.mark_tests.proofs.one_of.Statement.{statement}
+use Rattle.mark_tests.proofs.one_of.Tie as tie
 
 returns : tie.Need-returns
 returns c = let a = c .before .args in is-none (a .first) (a .second) (a .label) (c .if1 .taken)

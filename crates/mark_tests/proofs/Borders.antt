@@ -19,8 +19,8 @@ use Rattle.game.specs.Position.{Position, closed}
 use Rattle.game.proofs.Members.{some-yes, yes-some}
 use Rattle.game.proofs.Squares.{square→}
 use Rattle.game.proofs.Truth.{iff, or-left}
-use Rattle.marks.specs.Marks.{bordersClosed, closedZeroAt}
-use Rattle.marks.proofs.Held.{closed-zero-there}
+use Rattle.mark_tests.specs.Tests.{bordersClosed, closedZeroAt}
+use Rattle.mark_tests.proofs.Held.{closed-zero-there}
 
 -- ---- one cell
 

@@ -3,10 +3,10 @@ use Prim.Native.Nat.{ℕ, _*_, _+_, _-_, _<_, _≤_}
 use native.Mathlib.Omega.{arith}
 use mathlib.Core.Path.{_∙_, _≡_, sym}
 use mathlib.Core.Bool.{false}
-use Rattle.marks.specs.Marks.{sharesAt}
-use Rattle.marks.proofs.Sharing.{column-has, column-none, none-more}
-use Rattle.marks.proofs.has_label.Statement.{statement}
-use Rattle.marks.proofs.has_label.Tie as tie
+use Rattle.mark_tests.specs.Tests.{sharesAt}
+use Rattle.mark_tests.proofs.Sharing.{column-has, column-none, none-more}
+use Rattle.mark_tests.proofs.has_label.Statement.{statement}
+use Rattle.mark_tests.proofs.has_label.Tie as tie
 
 abbrev Inv-loop : tie.InvT-loop
 Inv-loop work rows columns column first second row₀ row =

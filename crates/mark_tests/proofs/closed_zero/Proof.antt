@@ -1,8 +1,8 @@
 -- `marks::closed_zero`: past the grid there is none; else its content tells, then its state. Assumes nothing.
 use borrow.Author.Needs.{needs}
-use Rattle.marks.proofs.Borders.{zero-other, zero-past, zero-state}
-use Rattle.marks.proofs.closed_zero.Statement.{statement}
-use Rattle.marks.proofs.closed_zero.Tie as tie
+use Rattle.mark_tests.proofs.Borders.{zero-other, zero-past, zero-state}
+use Rattle.mark_tests.proofs.closed_zero.Statement.{statement}
+use Rattle.mark_tests.proofs.closed_zero.Tie as tie
 
 returns : tie.Need-returns
 returns c = let a = c .before .args in zero-past (a .work .now) (a .cells) (a .index) (c .if1 .taken)

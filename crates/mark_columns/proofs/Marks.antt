@@ -9,7 +9,8 @@ use mathlib.Core.List.{List}
 use lib.IntN.{ℤ}
 use lib.ListN.{List·getD-eq-default, length, set}
 use lib.Seq.{getD-set-other, getD-set-same}
-use Rattle.marks.specs.Marks.{Far, MarkedOr, Parted, columnShares}
+use Rattle.mark_columns.specs.Columns.{Far, MarkedOr, Parted}
+use Rattle.mark_tests.specs.Tests.{columnShares}
 
 -- outside the columns from a on that are below b
 abbrev pub Outside : ℕ → ℕ → ℕ → Type 0

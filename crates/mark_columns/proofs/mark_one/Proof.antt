@@ -3,9 +3,9 @@ use native.Mathlib.Omega.{arith}
 use mathlib.Core.Path.{refl}
 use lib.ListN.{length-set}
 use borrow.Author.Needs.{needs}
-use Rattle.marks.proofs.Marks.{one-marked, one-past}
-use Rattle.marks.proofs.mark_one.Statement.{statement}
-use Rattle.marks.proofs.mark_one.Tie as tie
+use Rattle.mark_columns.proofs.Marks.{one-marked, one-past}
+use Rattle.mark_columns.proofs.mark_one.Statement.{statement}
+use Rattle.mark_columns.proofs.mark_one.Tie as tie
 
 returns : tie.Need-returns
 returns c = let a = c .before .args in (refl, λ k. one-past (a .tops .now) (a .column) k (c .if1 .taken))

@@ -10,7 +10,7 @@ use Rattle.area.specs.Stages.{content}
 use Rattle.game.specs.Grid.{Grid, size, zeroCell}
 use Rattle.game.specs.Position.{Position, closed}
 use Rattle.area.proofs.Held.{Holds, content-zero}
-use Rattle.marks.specs.Marks.{closedZeroAt}
+use Rattle.mark_tests.specs.Tests.{closedZeroAt}
 
 module _ (g : Grid) (s : Position) (w : List ℤ) (r : Holds g s w) where
   -- a cell of another content is no 0-cell

@@ -12,7 +12,7 @@ use Rattle.area.specs.Numbers.{firstAt, secondAt}
 use Rattle.game.specs.Lists.{range, some-of}
 use Rattle.game.proofs.Members.{has-range, range-has, some-yes, yes-some}
 use Rattle.game.proofs.Truth.{T→true, no→false}
-use Rattle.marks.specs.Marks.{oneOf, sharesAt}
+use Rattle.mark_tests.specs.Tests.{oneOf, sharesAt}
 
 -- ---- a label
 
