@@ -1,5 +1,1 @@
-pub mod Held
-pub mod Marks
-pub mod Borders
-pub mod Sharing
 pub mod Spanned

@@ -25,9 +25,11 @@ use Rattle.area.specs.Stages.{Stands}
 use Rattle.area.proofs.Marks.{marked-held}
 use Rattle.area.proofs.Cells.{placed}
 use Rattle.area.proofs.Spans.{Within, held-spans}
-use Rattle.marks.specs.Marks.{Clicked, Far, Marked, MarkedOr, Parted, Quiet, bordersClosed, columnShares, oneOf, sharesAt}
-use Rattle.marks.proofs.Held.{other-content}
-use Rattle.marks.proofs.Marks.{marked-also, marked-both}
+use Rattle.mark_columns.specs.Columns.{Far, MarkedOr, Parted}
+use Rattle.mark_tests.specs.Tests.{bordersClosed, columnShares, oneOf, sharesAt}
+use Rattle.marks.specs.Marks.{Clicked, Marked, Quiet}
+use Rattle.mark_tests.proofs.Held.{other-content}
+use Rattle.mark_columns.proofs.Marks.{marked-also, marked-both}
 use borrow.Author.Tests.{eq-eqb}
 
 -- a label that is some k is one of two, of which one is k

@@ -14,8 +14,8 @@ use Rattle.area.proofs.Rows.{same-square}
 use Rattle.game.specs.Grid.{Grid, size, square}
 use Rattle.game.specs.Lists.{has}
 use Rattle.game.specs.Openings.{Joined, holds, itself, joinedTo, onward}
-use Rattle.openings.specs.Labels.{shaped}
-use Rattle.openings.specs.Spread.{Edge, Opened, Reach, Same, here, next}
+use Rattle.labels.specs.Labels.{shaped}
+use Rattle.labels.specs.Spread.{Edge, Opened, Reach, Same, here, next}
 use Rattle.game.proofs.Chains.{joined-last}
 use Rattle.game.proofs.Members.{some-yes, yes-some}
 use Rattle.game.proofs.Openings.{joinedTo→, →joinedTo}

@@ -1,9 +1,3 @@
-pub mod Edges
-pub mod Changes
-pub mod Frees
-pub mod Visits
 pub mod Places
 pub mod Exact
 pub mod Numbers
-pub mod Stacks
-pub mod Takes

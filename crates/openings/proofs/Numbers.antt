@@ -15,8 +15,9 @@ use Rattle.game.specs.Area.{laid}
 use Rattle.game.specs.Grid.{Grid, size, zeroCell}
 use Rattle.game.specs.Lists.{count, has, range, some-of}
 use Rattle.game.specs.Openings.{Joined, gather, holds, joinedTo, labels, openings, places}
-use Rattle.openings.specs.Labels.{edgeFirst, shaped}
-use Rattle.openings.specs.Spread.{Begun, Labelling, Numbered, Opened, partFive, upto}
+use Rattle.labels.specs.Labels.{edgeFirst, shaped}
+use Rattle.openings.specs.Numbering.{Begun, Labelling, Numbered, partFive, upto}
+use Rattle.labels.specs.Spread.{Opened}
 use Rattle.game.proofs.Areas.{laid-at, laid-length, laid-only, laid-past}
 use Rattle.game.proofs.Chains.{joined-last, joined-sym}
 use Rattle.game.proofs.Members.{fold-inv, fold-more, has-range}

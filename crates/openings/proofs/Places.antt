@@ -11,7 +11,7 @@ use lib.ListN.{getD, length}
 use Rattle.game.specs.Grid.{Grid}
 use Rattle.game.specs.Lists.{Each, has, some-of}
 use Rattle.game.specs.Openings.{holds, places}
-use Rattle.openings.specs.Labels.{edgeFirst, edgeSecond}
+use Rattle.labels.specs.Labels.{edgeFirst, edgeSecond}
 use Rattle.game.proofs.Labels.{holds-zero, places-from, places-snoc}
 use Rattle.game.proofs.Members.{first-of, rest-of}
 use Rattle.game.proofs.Openings.{Full}

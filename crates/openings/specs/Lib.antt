@@ -1,4 +1,2 @@
 -- What labelling the openings promises.
-pub mod Labels
-pub mod Spread
-pub mod Waits
+pub mod Numbering

@@ -6,15 +6,12 @@ ghost use mathlib.Core.Path.{_≡_};
 ghost use mathlib.Core.List.{List};
 ghost use Rattle.area.specs.Numbers.{HasCells, contentAt};
 ghost use Rattle.area.specs.Stages.{Shape};
-ghost use Rattle.openings.specs.Labels.{Ready, shaped};
-ghost use Rattle.openings.specs.Spread.{Begun, Labelling, Numbered, Opened};
+ghost use Rattle.labels.specs.Labels.{Ready, shaped};
+ghost use Rattle.openings.specs.Numbering.{Begun, Labelling, Numbered};
+ghost use Rattle.labels.specs.Spread.{Opened};
 use cycle::label_cell;
 use labels::fresh;
 use waiting::spread;
-
-mod cycle;
-mod labels;
-mod waiting;
 
 // Labels the opening of a 0-cell without label, by the form for so many cells.
 fn label_opening(work: &mut [i32], rows: usize, columns: usize, op: usize, index: usize)

@@ -10,7 +10,8 @@ use lib.IntN.{ℤ}
 use lib.ListN.{getD, getD-replicate, length, length-replicate, replicate}
 use Rattle.area.specs.Stages.{Stands}
 use Rattle.choices.specs.Tops.{TopsKnown, UnitsKnown, columnTop, columnUnits}
-use Rattle.marks.specs.Marks.{Beside, Clicked, Marked, MarkedOr, Quiet}
+use Rattle.mark_columns.specs.Columns.{MarkedOr}
+use Rattle.marks.specs.Marks.{Beside, Clicked, Marked, Quiet}
 use Rattle.game.specs.Grid.{Grid, safe, size, zeroCell}
 use Rattle.game.specs.Moves.{left}
 use Rattle.game.specs.Position.{Position, closed}

@@ -14,7 +14,8 @@ use Rattle.area.specs.Numbers.{premiumAt, stateAt}
 use Rattle.area.specs.Stages.{Stands, raised}
 use Rattle.choices.specs.Tests.{unitAt}
 use Rattle.choices.specs.Tops.{columnTop, columnUnits, topWith}
-use Rattle.marks.specs.Marks.{Far, Quiet}
+use Rattle.mark_columns.specs.Columns.{Far}
+use Rattle.marks.specs.Marks.{Quiet}
 use Rattle.game.specs.Grid.{Grid, columnOf, mine, safe, size, square, zeroCell}
 use Rattle.game.specs.Lists.{Each, bit, count, fold, has, keep, range}
 use Rattle.game.specs.Moves.{Move, after, chord, flag, left, play, reveal, sweep}

@@ -6,7 +6,7 @@ use mathlib.Core.Logic.{inl, inr}
 use mathlib.Core.List.{List}
 use lib.IntN.{ℤ}
 use lib.ListN.{getD, length, length-set, set}
-use Rattle.marks.specs.Marks.{MarkedOr}
+use Rattle.mark_columns.specs.Columns.{MarkedOr}
 use Rattle.choices.specs.Tops.{UnitsKnown, columnUnits, keptOf}
 use Rattle.choices.proofs.Bytes.{byte-again}
 

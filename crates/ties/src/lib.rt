@@ -16,7 +16,7 @@ ghost use Rattle.game.specs.Rounds.{choice};
 ghost use Rattle.area.specs.Stages.{Shape, Stands};
 ghost use Rattle.choices.specs.Tops.{TopsKnown, UnitsKnown, columnUnits};
 ghost use Rattle.ties.specs.Candidates.{candidateAt, candidatesOf, forClick, skippedAt};
-ghost use Rattle.marks.specs.Marks.{MarkedOr};
+ghost use Rattle.mark_columns.specs.Columns.{MarkedOr};
 
 // What is kept of a column's closed units, or a mark where its premium is marked.
 fn unless_marked(top: u8, kept: u8) -> u8

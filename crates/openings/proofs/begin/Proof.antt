@@ -5,7 +5,7 @@ use Rattle.openings.proofs.begin.Tie as tie
 use native.Mathlib.Omega.{arith}
 use mathlib.Core.Path.{refl}
 use Prim.Native.Nat.{_*_}
-use Rattle.openings.proofs.Edges.{fresh-no, fresh-yes}
+use Rattle.labels.proofs.Edges.{fresh-no, fresh-yes}
 
 mul-fresh : tie.Need-mul-fresh
 mul-fresh c = search needs

@@ -6,7 +6,7 @@ use native.Mathlib.Nat.{mul-comm, zero-mul}
 use Prim.Native.Nat.{ℕ, _*_, _-_, _≤_}
 use mathlib.Core.Path.{_∙_, _≡_, ap, refl, subst, sym}
 use lib.ListN.{length}
-use Rattle.openings.specs.Spread.{Numbered}
+use Rattle.openings.specs.Numbering.{Numbered}
 use Rattle.openings.proofs.Numbers.{numbered-all, numbered-none}
 use Rattle.game.proofs.Squares.{next-column}
 

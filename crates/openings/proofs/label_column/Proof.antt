@@ -8,8 +8,8 @@ use lib.IntN.{ℤ}
 use lib.ListN.{length}
 use Rattle.area.specs.Numbers.{contentAt}
 use Rattle.area.proofs.Cells.{cell-below, cells-few}
-use Rattle.openings.specs.Labels.{shaped}
-use Rattle.openings.specs.Spread.{Begun, Numbered}
+use Rattle.labels.specs.Labels.{shaped}
+use Rattle.openings.specs.Numbering.{Begun, Numbered}
 use Rattle.openings.proofs.Numbers.{numbered-more}
 use Rattle.openings.proofs.label_column.Statement.{statement}
 use Rattle.openings.proofs.label_column.Tie as tie

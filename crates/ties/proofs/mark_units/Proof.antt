@@ -11,8 +11,8 @@ use borrow.Author.Tests.{eq-eqb, ne-eqb}
 use lib.Dec.{eqb}
 use lib.ListN.{getD, length, length-set, set}
 use lib.Seq.{getD-set-other, getD-set-same}
-use Rattle.marks.specs.Marks.{MarkedOr}
-use Rattle.marks.proofs.Marks.{marked-also, marked-both}
+use Rattle.mark_columns.specs.Columns.{MarkedOr}
+use Rattle.mark_columns.proofs.Marks.{marked-also, marked-both}
 use Rattle.ties.proofs.mark_units.Statement.{statement}
 use Rattle.ties.proofs.mark_units.Tie as tie
 

@@ -4,7 +4,7 @@ use native.Mathlib.Omega.{arith}
 use mathlib.Core.Path.{_∙_, _≡_, sym}
 use mathlib.Core.Bool.{false}
 use Rattle.choices.specs.Tests.{topAt}
-use Rattle.marks.proofs.Sharing.{none-more}
+use Rattle.mark_tests.proofs.Sharing.{none-more}
 use Rattle.choices.proofs.Firsts.{column-first, column-first-none}
 use Rattle.choices.proofs.known.first_row.Statement.{statement}
 use Rattle.choices.proofs.known.first_row.Tie as tie

@@ -1,0 +1,2 @@
+-- What visiting the neighbours in turn does.
+pub mod Visits

@@ -1,0 +1,4 @@
+pub mod Edges
+pub mod Changes
+pub mod Frees
+pub mod Borders

@@ -1,0 +1,2 @@
+-- Columns marked.
+pub mod Columns

@@ -1,0 +1,2 @@
+-- What a mark turns on.
+pub mod Tests

@@ -1,0 +1,2 @@
+-- What the waiting form does, cell after cell.
+pub mod Waits
