@@ -11,9 +11,9 @@
 // The pattern of a board or a work area is values parted by commas (-1 is a mine), or a picture (* is a mine); of a list words parted by commas, or moves (L3, F4, C3); of draws bytes of two digits, 0 to 9 and A to F.
 // For a case its name is printed with the answer's number and two values; then its list, if it has one, kind and index of each word; then its work area.
 // Of a list or a work area of more than 255 numbers two sums are printed: of the numbers above 0, and of the sums up to each. A line that begins with # is printed as it is.
-use trials::answers;
-use trials::answers::Plain;
 use trials::fields;
+use trials::plain;
+use trials::plain::Plain;
 use zini::count;
 use zini::prices;
 use zini::random_calls;
@@ -26,27 +26,20 @@ fn call(text: &[u8], grid: &[i32], work: &mut [i32], list: &mut [u32], draws: &[
     let rows = fields::number(text, b"rows=");
     let columns = fields::number(text, b"columns=");
     if fields::is(text, 2, b"3bv ") {
-        return answers::of_counted(count::three_bv(rows, columns, grid, work));
+        return plain::of_counted(count::three_bv(rows, columns, grid, work));
     }
     if fields::is(text, 2, b"greedy ") {
-        return answers::of_priced(prices::greedy(rows, columns, grid, work, list));
+        return plain::of_priced(prices::greedy(rows, columns, grid, work, list));
     }
     if fields::is(text, 2, b"openings-first ") {
-        return answers::of_priced(prices::openings_first(rows, columns, grid, work, list));
+        return plain::of_priced(prices::openings_first(rows, columns, grid, work, list));
     }
     if fields::is(text, 2, b"random-round ") {
-        return answers::of_rolled(random_calls::random_round(
-            rows,
-            columns,
-            grid,
-            work,
-            list,
-            draws,
-        ));
+        return plain::of_rolled(random_calls::random_round(rows, columns, grid, work, list, draws));
     }
     if fields::is(text, 2, b"random-search ") {
         let rounds = fields::number(text, b"rounds=");
-        return answers::of_rolled(random_calls::random_search(
+        return plain::of_rolled(random_calls::random_search(
             rows,
             columns,
             grid,
@@ -57,10 +50,10 @@ fn call(text: &[u8], grid: &[i32], work: &mut [i32], list: &mut [u32], draws: &[
     }
     if fields::is(text, 2, b"replay ") {
         let moves = fields::number(text, b"count=");
-        return answers::of_replayed(replays::replay(rows, columns, grid, work, list, moves));
+        return plain::of_replayed(replays::replay(rows, columns, grid, work, list, moves));
     }
     io::write_all(1, b" no such call");
-    answers::numbers(0, 0, 0)
+    plain::numbers(0, 0, 0)
 }
 
 // Prints a case's list, if it has one.

@@ -1,8 +1,8 @@
 // Runs the calls over move records and by a draw reader on P7 and P11, and their refusals: each prints its answer and what was lent.
 use draws::Drawn;
 use records::MoveRecord;
-use trials::answers;
-use trials::answers::Plain;
+use trials::plain;
+use trials::plain::Plain;
 use zini::Priced;
 use zini::Replayed;
 use zini::Rolled;
@@ -177,7 +177,7 @@ fn greedy(
     let priced = greedy_run(rows, columns, grid, work, list, unwritten());
     let answer = priced.answer;
     let run = priced.run;
-    report(name, answers::of_priced(answer));
+    report(name, plain::of_priced(answer));
     print_lent(run, list, work);
 }
 
@@ -193,7 +193,7 @@ fn openings_first(
     let priced = openings_first_run(rows, columns, grid, work, list, unwritten());
     let answer = priced.answer;
     let run = priced.run;
-    report(name, answers::of_priced(answer));
+    report(name, plain::of_priced(answer));
     print_lent(run, list, work);
 }
 
@@ -210,7 +210,7 @@ fn rolls(
     let rolled = random_run(rows, columns, grid, work, list, unwritten(), draws);
     let answer = rolled.answer;
     let run = rolled.run;
-    report(name, answers::of_rolled(answer));
+    report(name, plain::of_rolled(answer));
     print_lent(run, list, work);
 }
 
@@ -219,7 +219,7 @@ fn replays(name: &[u8], run: [MoveRecord; 9], count: usize, list: &mut [u32]) {
     let mut work = [7i32; 46];
     let grid = [0i32, 0, 0, 0, -1, 0, 0, 0, 0];
     let answer = replay_run(3, 3, &grid, &mut work, list, run, count);
-    report(name, answers::of_replayed(answer));
+    report(name, plain::of_replayed(answer));
     print_lent(run, list, &work);
 }
 
@@ -248,12 +248,12 @@ fn replayed_7() {
     let mut w = [7i32; 21];
     let mut l = [4294967295u32; 5];
     let whole = replay_run(2, 2, &grid, &mut w, &mut l, run, 3);
-    report(b"P7 replayed", answers::of_replayed(whole));
+    report(b"P7 replayed", plain::of_replayed(whole));
     print_lent(run, &l, &w);
     let mut w2 = [7i32; 21];
     let mut l2 = [4294967295u32; 5];
     let onward = replay_run(2, 2, &grid, &mut w2, &mut l2, run, 4);
-    report(b"P7, a record more", answers::of_replayed(onward));
+    report(b"P7, a record more", plain::of_replayed(onward));
     print_lent(run, &l2, &w2);
 }
 
@@ -343,8 +343,8 @@ fn reads_11(name: &[u8], bytes: &[u8], place: usize, rounds: usize) {
     let both = read_twice(3, 3, &grid, &mut work, &mut list, bytes, place, rounds);
     let first = both.round;
     let second = both.search;
-    report(name, answers::of_rolled(first));
-    report(b" then a search", answers::of_rolled(second));
+    report(name, plain::of_rolled(first));
+    report(b" then a search", plain::of_rolled(second));
     io::write_all(1, b" stands at");
     trials::print_number(both.place as u64);
     io::write_all(1, b"\n");
@@ -368,11 +368,11 @@ fn from_11(name: &[u8], bytes: &[u8], place: usize) {
     let mut work = [7i32; 46];
     let mut list = [4294967295u32; 10];
     let rolled = reader_calls::round_from(3, 3, &grid, &mut work, &mut list, bytes, place);
-    report(name, answers::of_rolled(rolled));
+    report(name, plain::of_rolled(rolled));
     trials::print_list(&list);
     trials::print_area(&work);
     let searched = reader_calls::search_from(3, 3, &grid, &mut work, bytes, place, 1);
-    report(b" a search", answers::of_rolled(searched));
+    report(b" a search", plain::of_rolled(searched));
     trials::print_area(&work);
 }
 

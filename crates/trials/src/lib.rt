@@ -1,7 +1,7 @@
 // What the programs share that run the calls: case lines, answers as numbers, and what is printed.
-use answers::Plain;
+use plain::Plain;
 
-pub mod answers; // answers as numbers
+pub mod plain; // answers as numbers
 pub mod fields; // what a case line says
 
 // Whether the program was started with an argument, which none of them takes: then the text is on standard error.

@@ -1,7 +1,7 @@
 // Replays the Rust's stored answers (docs/DIFFERENCES.md) from standard input, and says how many boards there were and how many differ.
-use trials::answers;
-use trials::answers::Plain;
 use trials::fields::byte_at;
+use trials::plain;
+use trials::plain::Plain;
 use zini::Priced;
 ghost use Prim.Native.Nat.{_≤_};
 
@@ -175,7 +175,7 @@ fn random_search(number: u64, line: &[u8], grid: &[i32], draws: &mut [u8]) -> u6
         draws,
         byte_at(line, 2),
     );
-    search_differs(number, line, answers::of_rolled(answer))
+    search_differs(number, line, plain::of_rolled(answer))
 }
 
 // Random search with the draws of a line.
