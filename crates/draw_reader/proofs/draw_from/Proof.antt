@@ -1,4 +1,4 @@
--- `draw_reader::draw_from` meets its contract: a walk of its MIR, by hand. The reader that one call returns is held in a local, which is lent to `next_draw` for a lifetime that is made here, within that of the bytes, and taken back. All that the proof knows of `line_prices` and of `next_draw` is that each meets its contract.
+-- `draw_reader::draw_from` meets its contract: a walk of its MIR, by hand. The reader that one call returns is held in a local, which is lent to `next_draw` for a lifetime that is made here, within that of the bytes, and taken back. All that the proof knows of `reader` and of `next_draw` is that each meets its contract.
 -- In a local of a body MIR erases the lifetime of the struct's type, so the value is shown to have the type at `erased`: what the struct owns does not say the lifetime's name.
 -- Assumes nothing.
 use mathlib.Core.Path.{_≡_, refl, ap, _∙_}
@@ -106,7 +106,7 @@ module _ {M : Type 1} (𝓤 : URA M) (H : Heap 𝓤) (A : Atoms 𝓤) (W : Given
   abbrev Own : Fml
   Own = ShrSlice (named 0) κ u8 .own s (v ∷ [])
 
-  -- the call of `line_prices`: what it is passed, what it asks, and what is known of its result
+  -- the call of `reader`: what it is passed, what it asks, and what is known of its result
   abbrev at-reader : List Val × (List Val × Unit {0})
   at-reader = (v ∷ [], (vint w64 i ∷ [], tt))
 

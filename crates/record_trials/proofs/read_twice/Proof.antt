@@ -156,7 +156,7 @@ module _ {M : Type 1} (𝓤 : URA M) (H : Heap 𝓤) (A : Atoms 𝓤) (W : Given
         stands = ap (λ (y : DrawReader). y .place) (e₂ .1) ∙ ap (standsAt r₂) from;
       }
 
-  -- ---- the call of `line_prices`
+  -- ---- the call of `reader`
 
   abbrev at-new : List Val × (List Val × Unit {0})
   at-new = (vb ∷ [], (vint w64 place ∷ [], tt))
