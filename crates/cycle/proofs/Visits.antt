@@ -11,7 +11,7 @@ use Rattle.area.specs.Squares.{Neighbour}
 use Rattle.game.specs.Grid.{Grid, size, square}
 use Rattle.game.specs.Lists.{has}
 use Rattle.labels.specs.Labels.{Fresh, bordered, freeOf, putLabel}
-use Rattle.labels.specs.Spread.{Change, ClearFrom, Closed, Opened, Side, here, next}
+use Rattle.labels.specs.Spread.{Change, ClearFrom, Closed, OpeningLabelled, Side, here, next}
 use Rattle.cycle.specs.Visits.{Visited, turn}
 use Rattle.game.proofs.Squares.{in-own-square, square→, →square}
 use Rattle.labels.proofs.Borders.{bordering}
@@ -54,11 +54,11 @@ module _ (g : Grid) (op : ℕ) (o : 1 ≤ op) where
     pub clear : ClearFrom g 0 w → ClearFrom g 0 w2
 
   pub stepped : (w w1 w2 : List ℤ) (i n at : ℕ) → i < size g → contentAt w i ≡ 1 → n < 9 → HasCells w (size g) → Neighbour g i (n / 3) (n % 3) at
-      → w1 ≡ bordered (size g) w at op → Opened g (contentAt w1) op at w1 w2 → Stepped i n w w2
+      → w1 ≡ bordered (size g) w at op → OpeningLabelled g (contentAt w1) op at w1 w2 → Stepped i n w w2
   stepped w w1 w2 i n at h e l room nb q p1 =
       let k = contentAt w in
       let b = bordering g op o i i at w w1 room (here h e) (beside-of g i n at h l nb) q in
-      let p : Opened g k op at w1 w2 = subst (λ (m : ℕ → ℕ). Opened g m op at w1 w2) (contents-stay g k op o i w w1 (b .change)) p1 in
+      let p : OpeningLabelled g k op at w1 w2 = subst (λ (m : ℕ → ℕ). OpeningLabelled g m op at w1 w2) (contents-stay g k op o i w w1 (b .change)) p1 in
       let c : Change g k op i w1 w2 = change-from g k op o w1 w2 (λ ha ea. next (here h e) (beside-of g i n at h l nb ha) ea) (p .change) in
       record {
         change = trans-change g k op o i w w1 w2 (b .change) c;
@@ -93,7 +93,7 @@ module _ (g : Grid) (op : ℕ) (o : 1 ≤ op) where
 
   -- the cell itself, and then all its neighbours
   pub opened-all : (w w1 w2 : List ℤ) (i : ℕ) → HasCells w (size g) → Fresh (size g) w i → w1 ≡ putLabel w i op
-      → Visited g (contentAt w1) op i 9 w1 w2 → Opened g (contentAt w) op i w w2
+      → Visited g (contentAt w1) op i 9 w1 w2 → OpeningLabelled g (contentAt w) op i w w2
   opened-all w w1 w2 i room f q v1 =
       let k = contentAt w in
       let h = f .inside in

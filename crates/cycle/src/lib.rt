@@ -3,7 +3,7 @@ ghost use Prim.Native.Nat.{_*_, _<_, _≤_};
 ghost use mathlib.Core.Path.{_≡_};
 ghost use Rattle.area.specs.Numbers.{contentAt};
 ghost use Rattle.labels.specs.Labels.{Ready, shaped};
-ghost use Rattle.labels.specs.Spread.{Opened};
+ghost use Rattle.labels.specs.Spread.{OpeningLabelled};
 ghost use Rattle.cycle.specs.Visits.{Visited};
 use labels::border;
 use labels::fresh;
@@ -13,7 +13,7 @@ use labels::put_label;
 pub fn label_cell(work: &mut [i32], rows: usize, columns: usize, op: usize, index: usize)
     requires { ⌜ Ready rows columns op (now work) ⌝ }
     requires { ⌜ rows * columns ≤ 512 ⌝ }
-    ensures { λ _. ⌜ Opened (shaped rows columns) (contentAt (now (work .entry))) op index
+    ensures { λ _. ⌜ OpeningLabelled (shaped rows columns) (contentAt (now (work .entry))) op index
         (now (work .entry)) (now (work .exit)) ⌝ }
 {
     if !fresh(work, rows * columns, index) {

@@ -14,7 +14,7 @@ use Rattle.game.specs.Calls.{shape}
 use Rattle.game.specs.Grid.{Grid, size, square}
 use Rattle.game.specs.Lists.{has}
 use Rattle.labels.specs.Labels.{Fresh, Ready, bordered, putLabel}
-use Rattle.labels.specs.Spread.{Change, Edge, Opened, Reach}
+use Rattle.labels.specs.Spread.{Change, Edge, OpeningLabelled, Reach}
 use Rattle.labels.proofs.Changes.{label-change, refl-change}
 use Rattle.labels.proofs.Edges.{labelled-first, labelled-other, labelled-second}
 
@@ -49,7 +49,7 @@ bordering g op o from source at w w1 room r t q = rw q (go (ltb at (size g)) ref
 
 module _ (g : Grid) (op : ℕ) (o : 1 ≤ op) where
   -- nothing to do
-  pub opened-not : (w : List ℤ) (i : ℕ) → (Fresh (size g) w i → ⊥) → Opened g (contentAt w) op i w w
+  pub opened-not : (w : List ℤ) (i : ℕ) → (Fresh (size g) w i → ⊥) → OpeningLabelled g (contentAt w) op i w w
   opened-not w i f =
       record {
         change = refl-change g (contentAt w) op o i w;

@@ -61,7 +61,7 @@ abbrev pub ClearFrom : Grid → ℕ → List ℤ → Type 0
 ClearFrom g t w = (i : ℕ) → t ≤ i → i < size g → getD w (waitingPlace i) (pos 0) ≡ pos 0
 
 -- after labelling from the cell i on: a whole opening, if i is a 0-cell without label
-pub record Opened (g : Grid) (k : ℕ → ℕ) (op i : ℕ) (w w′ : List ℤ) : Type 0 where
+pub record OpeningLabelled (g : Grid) (k : ℕ → ℕ) (op i : ℕ) (w w′ : List ℤ) : Type 0 where
   pub change : Change g k op i w w′
   pub closed : Closed g k op w w′
   pub self : i < size g → k i ≡ 1 → 1 ≤ firstAt w′ i

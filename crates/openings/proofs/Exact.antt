@@ -15,7 +15,7 @@ use Rattle.game.specs.Grid.{Grid, size, square}
 use Rattle.game.specs.Lists.{has}
 use Rattle.game.specs.Openings.{Joined, holds, itself, joinedTo, onward}
 use Rattle.labels.specs.Labels.{shaped}
-use Rattle.labels.specs.Spread.{Edge, Opened, Reach, Same, here, next}
+use Rattle.labels.specs.Spread.{Edge, OpeningLabelled, Reach, Same, here, next}
 use Rattle.game.proofs.Chains.{joined-last}
 use Rattle.game.proofs.Members.{some-yes, yes-some}
 use Rattle.game.proofs.Openings.{joinedTo→, →joinedTo}
@@ -33,7 +33,7 @@ zero→one g i z = eqb→eq (content g i) 1 (subst T (sym (content-zero g i (z .
 -- ---- one opening
 
 module _ (g : Grid) (k : ℕ → ℕ) (contents : (j : ℕ) → j < size g → k j ≡ content g j) (op i : ℕ) (w w′ : List ℤ)
-    (r : Opened (shaped (g .rows) (g .columns)) k op i w w′) (z : Zero g i) (free : (x : ℕ) → Joined g i x → firstAt w x ≡ 0) where
+    (r : OpeningLabelled (shaped (g .rows) (g .columns)) k op i w w′) (z : Zero g i) (free : (x : ℕ) → Joined g i x → firstAt w x ≡ 0) where
   zero-at : (x : ℕ) → x < size g → k x ≡ 1 → Zero g x
   zero-at x h e = one→zero g x h (sym (contents x h) ∙ e)
 

@@ -17,7 +17,7 @@ use Rattle.game.specs.Lists.{count, has, range, some-of}
 use Rattle.game.specs.Openings.{Joined, gather, holds, joinedTo, labels, openings, places}
 use Rattle.labels.specs.Labels.{edgeFirst, shaped}
 use Rattle.openings.specs.Numbering.{Begun, Labelling, Numbered, partFive, upto}
-use Rattle.labels.specs.Spread.{Opened}
+use Rattle.labels.specs.Spread.{OpeningLabelled}
 use Rattle.game.proofs.Areas.{laid-at, laid-length, laid-only, laid-past}
 use Rattle.game.proofs.Chains.{joined-last, joined-sym}
 use Rattle.game.proofs.Members.{fold-inv, fold-more, has-range}
@@ -79,7 +79,7 @@ module _ (g : Grid) (os : List (List ℕ)) (good-os : Good g os) (i : ℕ) (hi :
   not-in : (x : ℕ) → Zero g x → firstAt w x ≡ 0 → T (not (some-of (has x) os))
   not-in x z e = rw (← zero-labelled g x 0 os z (good-os .full), eq-eqb (getD (places g x 1 os) 0 0) 0 (sym (firsts x (z .inside)) ∙ e)) tt
 
-  module _ (z : Zero g i) (n : In i os → ⊥) (q : Opened (shaped (g .rows) (g .columns)) (contentAt w) (length os + 1) i w w′) where
+  module _ (z : Zero g i) (n : In i os → ⊥) (q : OpeningLabelled (shaped (g .rows) (g .columns)) (contentAt w) (length os + 1) i w w′) where
     free : (x : ℕ) → Joined g i x → firstAt w x ≡ 0
     free x j = out x (joined-last g i x j) (λ t. n (good-os .whole x i t (joined-sym g i x j)))
 

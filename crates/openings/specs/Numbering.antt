@@ -10,11 +10,11 @@ use Rattle.game.specs.Area.{laid}
 use Rattle.game.specs.Grid.{Grid, size}
 use Rattle.game.specs.Lists.{fold, range}
 use Rattle.game.specs.Openings.{gather, openings, places}
-use Rattle.labels.specs.Spread.{Opened}
+use Rattle.labels.specs.Spread.{OpeningLabelled}
 
 -- after a cell was looked at as the lowest of the next opening: r openings in place of n
 pub record Begun (g : Grid) (k : ℕ → ℕ) (n i : ℕ) (w : List ℤ) (r : ℕ) (w′ : List ℤ) : Type 0 where
-  pub fresh : k i ≡ 1 → firstAt w i ≡ 0 → (r ≡ n + 1) × Opened g k (n + 1) i w w′
+  pub fresh : k i ≡ 1 → firstAt w i ≡ 0 → (r ≡ n + 1) × OpeningLabelled g k (n + 1) i w w′
   pub none : (k i ≡ 1 → firstAt w i ≡ 0 → ⊥) → (r ≡ n) × (w′ ≡ w)
   pub few : r ≤ n + 1
   pub long : length w′ ≡ length w

@@ -8,7 +8,7 @@ ghost use Rattle.area.specs.Numbers.{HasCells, contentAt};
 ghost use Rattle.area.specs.Stages.{Shape};
 ghost use Rattle.labels.specs.Labels.{Ready, shaped};
 ghost use Rattle.openings.specs.Numbering.{Begun, Labelling, Numbered};
-ghost use Rattle.labels.specs.Spread.{Opened};
+ghost use Rattle.labels.specs.Spread.{OpeningLabelled};
 use cycle::label_cell;
 use labels::fresh;
 use waiting::spread;
@@ -16,7 +16,7 @@ use waiting::spread;
 // Labels the opening of a 0-cell without label, by the form for so many cells.
 fn label_opening(work: &mut [i32], rows: usize, columns: usize, op: usize, index: usize)
     requires { ⌜ Ready rows columns op (now work) ⌝ }
-    ensures { λ _. ⌜ Opened (shaped rows columns) (contentAt (now (work .entry))) op index
+    ensures { λ _. ⌜ OpeningLabelled (shaped rows columns) (contentAt (now (work .entry))) op index
         (now (work .entry)) (now (work .exit)) ⌝ }
 {
     if rows * columns > 512 {

@@ -24,7 +24,7 @@ use Rattle.game.proofs.Members.{first-of, has-head, has-keep, keep-has, rest-of
 use Rattle.game.proofs.Orders.{ordered-keep, ordered-range, ordered-same}
 use Rattle.game.proofs.Squares.{cells→, length-cells}
 use Rattle.game.proofs.Truth.{T→true, and-both, and-false, and-left, and-right, and-true}
-use Rattle.original.proofs.Positions.{Stands, not-opened}
+use Rattle.original.proofs.Positions.{Models, not-opened}
 use Rattle.original.proofs.Scans.{Scanned, fold-prefix, head-of, head-stays, leZ-same, not-lt, reaches, scanned-higher, scanned-none, scanned-same}
 use Rattle.original.proofs.Turns.{click-stands, turn-stands}
 
@@ -69,7 +69,7 @@ scanned-tops human g s m ls w =
         has-keep r x (cells g) (v .0) (and-both (looks human g s x) (leZ (pos 0) m && same (f x) m) (v .1)
         (and-both (leZ (pos 0) m) (same (f x) m) z (and-both (leZ (f x) m) (leZ m (f x)) up down)))
 
-module _ (human : Bool) (g : Grid) (s : Position) (n : ℕ) (st : State) (w : Stands g s n st) where
+module _ (human : Bool) (g : Grid) (s : Position) (n : ℕ) (st : State) (w : Models g s n st) where
   -- the loop's test
   better-test : (m : ℤ) (x : ℕ) → x < size g
       → (ltZ m (at (st .cells) x .premium) && not (at (st .cells) x .mine) && (at (st .cells) x .opened || not human)) ≡ (looks human g s x && ltZ m (premium g s x))
@@ -154,7 +154,7 @@ module _ (human : Bool) (g : Grid) (s : Position) (n : ℕ) (st : State) (w : St
   pub record Applies (t : Step) : Type 0 where
     pub done : State
     pub is-some : apply-zini (g .rows) human st ≡ some done
-    pub stands : Stands g (afterStep g s t) (n + length (t .moves)) done
+    pub stands : Models g (afterStep g s t) (n + length (t .moves)) done
 
   -- while a safe cell is closed it takes the step at the lowest index
   pub applies : Tidy g s → 1 ≤ closedSafe g s → Applies (stepOf g s (choice human g s) 0)

@@ -27,7 +27,7 @@ use Rattle.game.proofs.Draws.{lent-places}
 use Rattle.game.proofs.Squares.{cells→, length-cells}
 use Rattle.game.proofs.Truth.{T→true, and-both, and-left, and-right}
 use Rattle.original.proofs.Choosing.{falls-unit, looks, scanned-tops}
-use Rattle.original.proofs.Positions.{Stands}
+use Rattle.original.proofs.Positions.{Models}
 use Rattle.original.proofs.Rolls.{rand-draw}
 use Rattle.original.proofs.Scans.{Scanned, fold-prefix, keep-snoc, leZ-same, not-lt, reaches, scanned-higher, scanned-none, scanned-same}
 use Rattle.original.proofs.Turns.{click-stands, turn-stands}
@@ -56,7 +56,7 @@ front-none n run e = record { counted = refl; room = e; front = refl }
 front-at : (n : ℕ) (ls : List ℕ) (len : ℕ) (run : List ℕ) (k : ℕ) → k < length ls → Front n ls len run → getD run k 0 ≡ getD ls k 0
 front-at n ls len run k h f = sym (getD-take len run k 0 (omega (arith, f .counted))) ∙ ap (λ (l : List ℕ). getD l k 0) (f .front)
 
-module _ (human : Bool) (g : Grid) (s : Position) (n : ℕ) (st : State) (w : Stands g s n st) where
+module _ (human : Bool) (g : Grid) (s : Position) (n : ℕ) (st : State) (w : Models g s n st) where
   -- ---- the loop for the highest premium and its ties
 
   record Tied (ps : List ℕ) (b : Ties) : Type 0 where
@@ -193,7 +193,7 @@ module _ (human : Bool) (g : Grid) (s : Position) (n : ℕ) (st : State) (w : St
   pub record RngRound-to (c : Choice) (d : Drawn) (a : Applied) : Type 0 where
     pub done : Stepped
     pub is-stepped : a ≡ stepped done
-    pub stands : Stands g (afterStep g s (stepOf g s c (d .place))) (n + length (stepOf g s c (d .place) .moves)) (done .state)
+    pub stands : Models g (afterStep g s (stepOf g s c (d .place))) (n + length (stepOf g s c (d .place) .moves)) (done .state)
     pub reads-on : done .next ≡ d .next
     pub room : length (done .maxpr) ≡ size g
 
@@ -210,7 +210,7 @@ module _ (human : Bool) (g : Grid) (s : Position) (n : ℕ) (st : State) (w : St
       ]
 
   taken-rolls : (c : Choice) (act : ℕ → State) (ls : List ℕ) (len : ℕ) (run bytes : List ℕ) (next : ℕ) → Each (λ b. b < 256) bytes → length ls ≡ width c → width c ≤ 65025 → 1 ≤ width c
-      → Front (size g) ls len run → ((k : ℕ) → k < length ls → Stands g (afterStep g s (stepOf g s c k)) (n + length (stepOf g s c k .moves)) (act (getD ls k 0)))
+      → Front (size g) ls len run → ((k : ℕ) → k < length ls → Models g (afterStep g s (stepOf g s c k)) (n + length (stepOf g s c k .moves)) (act (getD ls k 0)))
       → Rolls c (draw bytes next (width c)) (taken act run (rand-range bytes next len))
   unfolding taken
   taken-rolls c act ls len run bytes next q e few l f h =
@@ -223,7 +223,7 @@ module _ (human : Bool) (g : Grid) (s : Position) (n : ℕ) (st : State) (w : St
           record {
             done = record { state = act (getD run (d .place) 0); next = d .next; maxpr = run };
             is-stepped = refl;
-            stands = subst (λ (i : ℕ). Stands g (afterStep g s (stepOf g s c (d .place))) (n + length (stepOf g s c (d .place) .moves)) (act i))
+            stands = subst (λ (i : ℕ). Models g (afterStep g s (stepOf g s c (d .place))) (n + length (stepOf g s c (d .place) .moves)) (act i))
                 (sym (front-at (size g) ls len run (d .place) (omega (arith, r d refl)) f)) (h (d .place) (omega (arith, r d refl)));
             reads-on = refl;
             room = f .room;

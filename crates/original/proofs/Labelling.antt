@@ -10,7 +10,7 @@ use lib.ListN.{getD, length, length-append}
 use Rattle.game.specs.Grid.{Grid, cells, safe, size, zeroCell}
 use Rattle.game.specs.Lists.{Each, fold, has, range, some-of}
 use Rattle.game.specs.Openings.{firstLabel, gather, holds, joinedTo, labels, openings, places, secondLabel}
-use Rattle.original.specs.Cells.{Cells, Opened, Zcell, at, process-opening, set-opening}
+use Rattle.original.specs.Cells.{Cells, CellOpened, Zcell, at, process-opening, set-opening}
 use Rattle.game.proofs.Chains.{joined-last, joined-sym}
 use Rattle.game.proofs.Labels.{holds-zero, places-from, places-none, places-snoc}
 use Rattle.game.proofs.Members.{at-most, first-of, rest-of}
@@ -51,7 +51,7 @@ one-label g os j = getD (places g j 1 os) 0 0
 abbrev two-label : Grid → List (List ℕ) → ℕ → ℕ
 two-label g os j = getD (places g j 1 os) 1 0
 
-record Labelled (g : Grid) (os : List (List ℕ)) (o : Opened) : Type 0 where
+record Labelled (g : Grid) (os : List (List ℕ)) (o : CellOpened) : Type 0 where
   good-so-far : Good g os
   table : Table (size g) (λ j. lined g j (one-label g os j) (two-label g os j)) (o .cells)
   counted : o .openings ≡ length os
@@ -62,7 +62,7 @@ held-in g i [] z e = refl
 held-in g i (o ∷ os) z e =
     ap (λ (b : Bool). b || some-of (holds g i) os) (holds-zero g i o z (e .0)) ∙ ap (λ (b : Bool). has i o || b) (held-in g i os z (e .1))
 
-module _ (g : Grid) (os : List (List ℕ)) (o : Opened) (i : ℕ) (h : i < size g) (l : Labelled g os o) where
+module _ (g : Grid) (os : List (List ℕ)) (o : CellOpened) (i : ℕ) (h : i < size g) (l : Labelled g os o) where
   -- a new opening begins where the loop finds an unlabelled 0-cell
   new-here : (not (at (o .cells) i .mine) && eqb (at (o .cells) i .number) 0 && eqb (at (o .cells) i .opening) 0) ≡ (zeroCell g i && not (some-of (has i) os))
   new-here =
@@ -122,7 +122,7 @@ module _ (g : Grid) (os : List (List ℕ)) (o : Opened) (i : ℕ) (h : i < size 
           }
       go false e q = l
 
-labelled-all : (g : Grid) (n : ℕ) → size g ≤ n → (xs : List ℕ) → ((x : ℕ) → T (has x xs) → x < size g) → (os : List (List ℕ)) (o : Opened) → Labelled g os o
+labelled-all : (g : Grid) (n : ℕ) → size g ≤ n → (xs : List ℕ) → ((x : ℕ) → T (has x xs) → x < size g) → (os : List (List ℕ)) (o : CellOpened) → Labelled g os o
     → Labelled g (fold (gather g) os xs) (fold (set-opening n (g .rows)) o xs)
 labelled-all g n k [] h os o l = l
 labelled-all g n k (x ∷ xs) h os o l =

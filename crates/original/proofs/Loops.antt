@@ -19,7 +19,7 @@ use Rattle.game.proofs.Rounds.{steps-end, steps-none}
 use Rattle.game.proofs.Runs.{choice-fits, fit-takes, step-tidy}
 use Rattle.game.proofs.Truth.{T→true, no→false}
 use Rattle.original.proofs.Choosing.{applies}
-use Rattle.original.proofs.Positions.{Stands}
+use Rattle.original.proofs.Positions.{Models}
 
 -- ---- the end
 
@@ -28,7 +28,7 @@ pub all-done : (human : Bool) (g : Grid) (s : Position) → Tidy g s → closedU
 all-done human g s f h = steps-end 0 human g s f h
 
 -- cells are left exactly while a safe cell is closed
-pub cells-left : (g : Grid) (s : Position) (n : ℕ) (st : State) → Stands g s n st → (k : ℕ) → closedSafe g s ≡ k
+pub cells-left : (g : Grid) (s : Position) (n : ℕ) (st : State) → Models g s n st → (k : ℕ) → closedSafe g s ≡ k
     → ltb (count (mine g) (cells g)) (st .closed-cells) ≡ elim k [ zero ↦ false | suc k ↦ true ]
 cells-left g s n st w zero e = no→false (ltb (count (mine g) (cells g)) (st .closed-cells)) (λ t. omega (arith, ltb→lt (count (mine g) (cells g)) (st .closed-cells) t, w .left))
 cells-left g s n st w (suc k) e =
@@ -36,7 +36,7 @@ cells-left g s n st w (suc k) e =
 
 -- ---- the loop
 
-loop-stops : (fuel : ℕ) (human : Bool) (g : Grid) (s : Position) (n : ℕ) (st : State) → Stands g s n st → closedSafe g s ≡ 0
+loop-stops : (fuel : ℕ) (human : Bool) (g : Grid) (s : Position) (n : ℕ) (st : State) → Models g s n st → closedSafe g s ≡ 0
     → zini-loop fuel (g .rows) human (count (mine g) (cells g)) st .zini ≡ n
 loop-stops zero human g s n st w e = w .clicks
 loop-stops (suc fuel) human g s n st w e = ap (λ (b : Bool). by b .zini) (cells-left g s n st w 0 e) ∙ w .clicks
@@ -44,13 +44,13 @@ loop-stops (suc fuel) human g s n st w e = ap (λ (b : Bool). by b .zini) (cells
     by : Bool → State
     by b = elim b [ true ↦ elim (apply-zini (g .rows) human st) [ none ↦ st | some d ↦ zini-loop fuel (g .rows) human (count (mine g) (cells g)) d ] | false ↦ st ]
 
-loop-ends : (fuel m : ℕ) (human : Bool) (g : Grid) (s : Position) (n : ℕ) (st : State) → Stands g s n st → closedSafe g s ≡ 0
+loop-ends : (fuel m : ℕ) (human : Bool) (g : Grid) (s : Position) (n : ℕ) (st : State) → Models g s n st → closedSafe g s ≡ 0
     → zini-loop fuel (g .rows) human (count (mine g) (cells g)) st .zini ≡ n + length (movesOf (stepsFrom m human g s))
 loop-ends fuel m human g s n st w e =
     loop-stops fuel human g s n st w e ∙ sym (ap (λ (ts : List Step). n + length (movesOf ts)) (steps-none m human g s e) ∙ add-zero n)
 
 -- from any position that the state stands for, with as many turns and steps as there are closed units
-pub loop-clicks : (fuel m : ℕ) (human : Bool) (g : Grid) (s : Position) (n : ℕ) (st : State) → Stands g s n st → Tidy g s → closedUnits g s ≤ fuel → closedUnits g s ≤ m
+pub loop-clicks : (fuel m : ℕ) (human : Bool) (g : Grid) (s : Position) (n : ℕ) (st : State) → Models g s n st → Tidy g s → closedUnits g s ≤ fuel → closedUnits g s ≤ m
     → zini-loop fuel (g .rows) human (count (mine g) (cells g)) st .zini ≡ n + length (movesOf (stepsFrom m human g s))
 loop-clicks zero m human g s n st w f h l = loop-ends zero m human g s n st w (all-done human g s f h)
 loop-clicks (suc fuel) zero human g s n st w f h l = loop-ends (suc fuel) zero human g s n st w (all-done human g s f l)
@@ -63,7 +63,7 @@ loop-clicks (suc fuel) (suc m) human g s n st w f h l = go (closedSafe g s) refl
     by b o = elim b [ true ↦ elim o [ none ↦ st | some d ↦ zini-loop fuel (g .rows) human (count (mine g) (cells g)) d ] | false ↦ st ]
 
     go : (k : ℕ) → closedSafe g s ≡ k
-        → ((d : State) → Stands g (afterStep g s t) (n + length (t .moves)) d → Tidy g (afterStep g s t) → closedUnits g (afterStep g s t) ≤ fuel → closedUnits g (afterStep g s t) ≤ m
+        → ((d : State) → Models g (afterStep g s t) (n + length (t .moves)) d → Tidy g (afterStep g s t) → closedUnits g (afterStep g s t) ≤ fuel → closedUnits g (afterStep g s t) ≤ m
         → zini-loop fuel (g .rows) human (count (mine g) (cells g)) d .zini ≡ n + length (t .moves) + length (movesOf (stepsFrom m human g (afterStep g s t))))
         → by (ltb (count (mine g) (cells g)) (st .closed-cells)) (apply-zini (g .rows) human st) .zini
         ≡ n + length (movesOf (elim k [ zero ↦ [] | suc k ↦ t ∷ stepsFrom m human g (afterStep g s t) ]))

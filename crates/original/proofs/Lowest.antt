@@ -28,7 +28,7 @@ use Rattle.game.proofs.Squares.{cells→, length-cells}
 use Rattle.game.proofs.Truth.{T→true, and-false, and-left, and-true}
 use Rattle.game.proofs.Units.{units-at-most-cells, units-untouched, untouched-at}
 use Rattle.original.proofs.Loops.{loop-clicks}
-use Rattle.original.proofs.Positions.{Stands, board-ext, not-opened}
+use Rattle.original.proofs.Positions.{Models, board-ext, not-opened}
 use Rattle.original.proofs.Ready.{prepared-table}
 use Rattle.original.proofs.Turns.{click-stands}
 
@@ -42,7 +42,7 @@ count-not p (x ∷ xs) = omega (arith, count-not p xs, one (p x))
     one true = refl
     one false = refl
 
-pub begin-stands : (g : Grid) → Stands g (untouched g) 0 (begin (prepared g) (g .columns) (g .rows))
+pub begin-stands : (g : Grid) → Models g (untouched g) 0 (begin (prepared g) (g .columns) (g .rows))
 unfolding closedSafe
 begin-stands g =
     record {
@@ -85,12 +85,12 @@ abbrev hit-turn : Grid → State → ℕ → State
 hit-turn g t j =
     elim (not (at (t .cells) j .mine) && eqb (at (t .cells) j .number) 0 && not (at (t .cells) j .opened)) [ true ↦ click (g .rows) t j | false ↦ t ]
 
-hit-stands : (g : Grid) (xs : List ℕ) (s : Position) (n : ℕ) (st : State) → ((x : ℕ) → T (has x xs) → x < size g) → Tidy g s → Stands g s n st
-    → Stands g (after g s (movesOf (openingClicks g s xs))) (n + length (movesOf (openingClicks g s xs))) (fold (hit-turn g) st xs)
+hit-stands : (g : Grid) (xs : List ℕ) (s : Position) (n : ℕ) (st : State) → ((x : ℕ) → T (has x xs) → x < size g) → Tidy g s → Models g s n st
+    → Models g (after g s (movesOf (openingClicks g s xs))) (n + length (movesOf (openingClicks g s xs))) (fold (hit-turn g) st xs)
 unfolding play
-hit-stands g [] s n st h f w = subst (λ (m : ℕ). Stands g s m st) (sym (add-zero n)) w
+hit-stands g [] s n st h f w = subst (λ (m : ℕ). Models g s m st) (sym (add-zero n)) w
 hit-stands g (x ∷ xs) s n st h f w =
-    subst (λ (b : Bool). Stands g (after g s (movesOf (openingClicks g s (x ∷ xs)))) (n + length (movesOf (openingClicks g s (x ∷ xs)))) (fold (hit-turn g) (by b) xs)) (sym test)
+    subst (λ (b : Bool). Models g (after g s (movesOf (openingClicks g s (x ∷ xs)))) (n + length (movesOf (openingClicks g s (x ∷ xs)))) (fold (hit-turn g) (by b) xs)) (sym test)
     (go (zeroCell g x && closed s x) refl (λ a b. hit-stands g xs (reveal g s x) (n + 1) (click (g .rows) st x) (rest-of x xs h) a b) (hit-stands g xs s n st (rest-of x xs h) f w))
   where
     hx : x < size g
@@ -112,14 +112,14 @@ hit-stands g (x ∷ xs) s n st h f w =
     more m = omega arith
 
     go : (b : Bool) → (zeroCell g x && closed s x) ≡ b
-        → (Tidy g (reveal g s x) → Stands g (reveal g s x) (n + 1) (click (g .rows) st x)
-        → Stands g (after g (reveal g s x) (movesOf (openingClicks g (reveal g s x) xs))) (n + 1 + length (movesOf (openingClicks g (reveal g s x) xs))) (fold (hit-turn g) (click (g .rows) st x) xs))
-        → Stands g (after g s (movesOf (openingClicks g s xs))) (n + length (movesOf (openingClicks g s xs))) (fold (hit-turn g) st xs)
-        → Stands g (after g s (movesOf (elim b [ true ↦ clickStep x ∷ openingClicks g (reveal g s x) xs | false ↦ openingClicks g s xs ])))
+        → (Tidy g (reveal g s x) → Models g (reveal g s x) (n + 1) (click (g .rows) st x)
+        → Models g (after g (reveal g s x) (movesOf (openingClicks g (reveal g s x) xs))) (n + 1 + length (movesOf (openingClicks g (reveal g s x) xs))) (fold (hit-turn g) (click (g .rows) st x) xs))
+        → Models g (after g s (movesOf (openingClicks g s xs))) (n + length (movesOf (openingClicks g s xs))) (fold (hit-turn g) st xs)
+        → Models g (after g s (movesOf (elim b [ true ↦ clickStep x ∷ openingClicks g (reveal g s x) xs | false ↦ openingClicks g s xs ])))
         (n + length (movesOf (elim b [ true ↦ clickStep x ∷ openingClicks g (reveal g s x) xs | false ↦ openingClicks g s xs ]))) (fold (hit-turn g) (by b) xs)
     go true e hit miss =
         let t = zero-safe g x (record { inside = hx; none = and-left (zeroCell g x) (closed s x) (rw e tt) }) in
-        subst (λ (m : ℕ). Stands g (after g (reveal g s x) (movesOf (openingClicks g (reveal g s x) xs))) m (fold (hit-turn g) (click (g .rows) st x) xs)) (more (length (movesOf (openingClicks g (reveal g s x) xs))))
+        subst (λ (m : ℕ). Models g (after g (reveal g s x) (movesOf (openingClicks g (reveal g s x) xs))) m (fold (hit-turn g) (click (g .rows) st x) xs)) (more (length (movesOf (openingClicks g (reveal g s x) xs))))
         (hit (reveal-tidy g s x hx f) (click-stands g s n st x hx t f w))
     go false e hit miss = miss
 
@@ -148,7 +148,7 @@ openings-first-equal g =
     fewer : closedUnits g hit ≤ closedUnits g (untouched g)
     fewer = run-falls g (untouched g) first (untouched-tidy g) runs
 
-    stands : Stands g hit (length (movesOf first)) (fold (hit-turn g) st (cells g))
+    stands : Models g hit (length (movesOf first)) (fold (hit-turn g) st (cells g))
     stands =
-        subst (λ (m : ℕ). Stands g hit m (fold (hit-turn g) st (cells g))) (zero-add (length (movesOf first)))
+        subst (λ (m : ℕ). Models g hit m (fold (hit-turn g) st (cells g))) (zero-add (length (movesOf first)))
         (hit-stands g (cells g) (untouched g) 0 st (cells→ g) (untouched-tidy g) (begin-stands g))

@@ -117,7 +117,7 @@ open-board g op fl P st c h t =
 -- ---- a position
 
 -- the cells, the clicks and the closed cells of a state stand for a position after n clicks; the premiums of mines are free
-pub record Stands (g : Grid) (s : Position) (n : ℕ) (st : State) : Type 0 where
+pub record Models (g : Grid) (s : Position) (n : ℕ) (st : State) : Type 0 where
   pub kept : ℕ → ℤ
   pub board : Board g (opened s) (flagged s) kept (st .cells)
   pub exact : (i : ℕ) → i < size g → T (safe g i) → kept i ≡ premium g s i
@@ -145,8 +145,8 @@ not-opened g s i h t f = ap not (f .safes i h t) ∙ not-not (closed s i)
 
 -- ---- one cell is opened
 
-pub open-stands : (g : Grid) (s : Position) (n : ℕ) (st : State) (c : ℕ) → c < size g → Tidy g s → T (safe g c) → T (closed s c) → (T (zeroCell g c) → ⊥) → Stands g s n st
-    → Stands g (set s c 1) n (open-cell (g .rows) st c)
+pub open-stands : (g : Grid) (s : Position) (n : ℕ) (st : State) (c : ℕ) → c < size g → Tidy g s → T (safe g c) → T (closed s c) → (T (zeroCell g c) → ⊥) → Models g s n st
+    → Models g (set s c 1) n (open-cell (g .rows) st c)
 unfolding open-cell closedSafe
 open-stands g s n st c h f t u z k =
     record {
@@ -197,10 +197,10 @@ open-stands g s n st c h f t u z k =
 
 -- ---- a mine is flagged
 
-pub flag-stands : (g : Grid) (s : Position) (n : ℕ) (st : State) (m : ℕ) → m < size g → Tidy g s → T (mine g m) → T (closed s m) → Stands g s n st
-    → Stands g (set s m 2) (n + 1) (flag-cell (g .rows) st m)
+pub flag-stands : (g : Grid) (s : Position) (n : ℕ) (st : State) (m : ℕ) → m < size g → Tidy g s → T (mine g m) → T (closed s m) → Models g s n st
+    → Models g (set s m 2) (n + 1) (flag-cell (g .rows) st m)
 unfolding flag-cell closedSafe
-flag-stands g s n st m h f t u k = subst (λ (b : Bool). Stands g (set s m 2) (n + 1) (by b)) (sym unflagged-yet) done
+flag-stands g s n st m h f t u k = subst (λ (b : Bool). Models g (set s m 2) (n + 1) (by b)) (sym unflagged-yet) done
   where
     by : Bool → State
     by b =
@@ -243,7 +243,7 @@ flag-stands g s n st m h f t u k = subst (λ (b : Bool). Stands g (set s m 2) (n
         (λ i v. and-under (safe g i) (closed s i) (closed (set s m 2) i)
         (λ w. ap (λ (x : ℕ). eqb x 0) (sym (getD-set-other s m i 2 0 (λ e. T-not (mine g i) w (rw e t))))))
 
-    done : Stands g (set s m 2) (n + 1) (by false)
+    done : Models g (set s m 2) (n + 1) (by false)
     done =
         record {
           kept = P;

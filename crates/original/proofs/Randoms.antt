@@ -26,7 +26,7 @@ use Rattle.game.proofs.Units.{units-at-most-cells, units-untouched}
 use Rattle.original.proofs.Drawing.{Rolls, rolls}
 use Rattle.original.proofs.Loops.{all-done, cells-left}
 use Rattle.original.proofs.Lowest.{begin-stands, enough-turns, mines-counted}
-use Rattle.original.proofs.Positions.{Stands}
+use Rattle.original.proofs.Positions.{Models}
 
 -- what zinialg_rng answers for a round that goes on after n clicks
 abbrev told : ℕ → Option Round → Option RngRound
@@ -48,7 +48,7 @@ module _ (g : Grid) (bytes : List ℕ) (few : size g ≤ 65025) (small : Each (�
 
   -- ---- a round
 
-  loop-stops : (fuel : ℕ) (s : Position) (n : ℕ) (st : State) (next : ℕ) (maxpr : List ℕ) → Stands g s n st → closedSafe g s ≡ 0
+  loop-stops : (fuel : ℕ) (s : Position) (n : ℕ) (st : State) (next : ℕ) (maxpr : List ℕ) → Models g s n st → closedSafe g s ≡ 0
       → loop fuel st next maxpr ≡ some (record { clicks = n; next = next })
   loop-stops zero s n st next maxpr w e = ap (λ (k : ℕ). some (record { clicks = k; next = next })) (w .clicks)
   loop-stops (suc fuel) s n st next maxpr w e = ap by (cells-left g s n st w 0 e) ∙ ap (λ (k : ℕ). some (record { clicks = k; next = next })) (w .clicks)
@@ -64,12 +64,12 @@ module _ (g : Grid) (bytes : List ℕ) (few : size g ≤ 65025) (small : Each (�
             | false ↦ some (record { clicks = st .zini; next = next })
           ]
 
-  loop-ends : (fuel m : ℕ) (s : Position) (n : ℕ) (st : State) (next : ℕ) (maxpr : List ℕ) → Stands g s n st → closedSafe g s ≡ 0
+  loop-ends : (fuel m : ℕ) (s : Position) (n : ℕ) (st : State) (next : ℕ) (maxpr : List ℕ) → Models g s n st → closedSafe g s ≡ 0
       → loop fuel st next maxpr ≡ told n (randomFrom m g (lent bytes) s next)
   loop-ends fuel m s n st next maxpr w e =
       loop-stops fuel s n st next maxpr w e ∙ sym (ap (told n) (draws-none m g (lent bytes) s next e) ∙ ap (λ (k : ℕ). some (record { clicks = k; next = next })) (add-zero n))
 
-  loop-rolls : (fuel m : ℕ) (s : Position) (n : ℕ) (st : State) (next : ℕ) (maxpr : List ℕ) → Stands g s n st → Tidy g s → length maxpr ≡ size g → closedUnits g s ≤ fuel → closedUnits g s ≤ m
+  loop-rolls : (fuel m : ℕ) (s : Position) (n : ℕ) (st : State) (next : ℕ) (maxpr : List ℕ) → Models g s n st → Tidy g s → length maxpr ≡ size g → closedUnits g s ≤ fuel → closedUnits g s ≤ m
       → loop fuel st next maxpr ≡ told n (randomFrom m g (lent bytes) s next)
   loop-rolls zero m s n st next maxpr w f r h l = loop-ends zero m s n st next maxpr w (all-done false g s f h)
   loop-rolls (suc fuel) zero s n st next maxpr w f r h l = loop-ends (suc fuel) zero s n st next maxpr w (all-done false g s f l)
@@ -92,7 +92,7 @@ module _ (g : Grid) (bytes : List ℕ) (few : size g ≤ 65025) (small : Each (�
           ]
 
       Later : Type 0
-      Later = (d : Drawn) (z : Stepped) → Stands g (afterStep g s (stepOf g s c (d .place))) (n + length (stepOf g s c (d .place) .moves)) (z .state) → Tidy g (afterStep g s (stepOf g s c (d .place)))
+      Later = (d : Drawn) (z : Stepped) → Models g (afterStep g s (stepOf g s c (d .place))) (n + length (stepOf g s c (d .place) .moves)) (z .state) → Tidy g (afterStep g s (stepOf g s c (d .place)))
           → length (z .maxpr) ≡ size g → closedUnits g (afterStep g s (stepOf g s c (d .place))) ≤ fuel → closedUnits g (afterStep g s (stepOf g s c (d .place))) ≤ m
           → loop fuel (z .state) (z .next) (z .maxpr) ≡ told (n + length (stepOf g s c (d .place) .moves)) (randomFrom m g (lent bytes) (afterStep g s (stepOf g s c (d .place))) (z .next))
 

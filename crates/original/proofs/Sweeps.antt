@@ -28,7 +28,7 @@ use Rattle.game.proofs.Reveal.{Revealed, getD-sweep, mine-off, opens, revealed,
 use Rattle.game.proofs.Squares.{cells→, once-cells, →cells}
 use Rattle.game.proofs.Truth.{T→true, and-false, and-inside, and-true, and-under, iff, no→false, or-cases, or-left, or-right}
 use Rattle.game.proofs.Zeros.{Zero}
-use Rattle.original.proofs.Positions.{Board, Stands, after-open, board-ext, board-premium, not-opened, not-two, one-at, open-board, open-stands, shift}
+use Rattle.original.proofs.Positions.{Board, Models, after-open, board-ext, board-premium, not-opened, not-two, one-at, open-board, open-stands, shift}
 use borrow.Author.Tests.{eq-eqb, ne-eqb}
 
 -- ---- the label of a 0-cell stands at what its opening holds
@@ -227,8 +227,8 @@ module _ (g : Grid) (o : ℕ) (some-label : 1 ≤ o) (fl : ℕ → Bool) where
 
 -- ---- a whole opening is swept
 
-sweep-stands : (g : Grid) (s : Position) (n : ℕ) (st : State) (c : ℕ) → Tidy g s → Zero g c → T (closed s c) → Stands g s n st
-    → Stands g (sweep g s c) n (fold (reveal-one (g .rows) (firstLabel g c)) st (cells g))
+sweep-stands : (g : Grid) (s : Position) (n : ℕ) (st : State) (c : ℕ) → Tidy g s → Zero g c → T (closed s c) → Models g s n st
+    → Models g (sweep g s c) n (fold (reveal-one (g .rows) (firstLabel g c)) st (cells g))
 unfolding closedSafe
 sweep-stands g s n st c f z u k =
     record {
@@ -311,11 +311,11 @@ sweep-stands g s n st c f z u k =
 -- ---- reveal
 
 -- reveal at a cell that is no unflagged mine does what L does
-pub reveal-stands : (g : Grid) (s : Position) (n : ℕ) (st : State) (c : ℕ) → c < size g → Tidy g s → (T (mine g c) → T (flagged s c)) → Stands g s n st
-    → Stands g (reveal g s c) n (reveal-cell (g .rows) st c)
+pub reveal-stands : (g : Grid) (s : Position) (n : ℕ) (st : State) (c : ℕ) → c < size g → Tidy g s → (T (mine g c) → T (flagged s c)) → Models g s n st
+    → Models g (reveal g s c) n (reveal-cell (g .rows) st c)
 unfolding reveal-cell
 reveal-stands g s n st c h f m k =
-    subst (Stands g (reveal g s c) n) (sym (ap by (k .board .reads c h) ∙ ap (λ (l : ℕ). whole l (opened s c || flagged s c) (zeroCell g c) (firstLabel g c)) (k .board .long)))
+    subst (Models g (reveal g s c) n) (sym (ap by (k .board .reads c h) ∙ ap (λ (l : ℕ). whole l (opened s c || flagged s c) (zeroCell g c) (firstLabel g c)) (k .board .long)))
     (go (reveal g s c) (revealed g s c))
   where
     whole : ℕ → Bool → Bool → ℕ → State
@@ -348,10 +348,10 @@ reveal-stands g s n st c h f m k =
             let t : T (safe g c) = rw e tt in
             ap (λ (b : Bool). b || flagged s c) (f .safes c h t ∙ ap not (no→false (closed s c) (d t)))
 
-    go : (t : Position) → Revealed g s c t → Stands g t n (whole (size g) (opened s c || flagged s c) (zeroCell g c) (firstLabel g c))
-    go t (stays d) = subst (λ (b : Bool). Stands g s n (whole (size g) b (zeroCell g c) (firstLabel g c))) (sym (shown d)) k
+    go : (t : Position) → Revealed g s c t → Models g t n (whole (size g) (opened s c || flagged s c) (zeroCell g c) (firstLabel g c))
+    go t (stays d) = subst (λ (b : Bool). Models g s n (whole (size g) b (zeroCell g c) (firstLabel g c))) (sym (shown d)) k
     go t (opens a b d) =
-        subst₂ (λ p q. Stands g (set s c 1) n (whole (size g) p q (firstLabel g c))) (sym (closed-safe a b)) (sym (no→false (zeroCell g c) d)) (open-stands g s n st c h f a b d k)
+        subst₂ (λ p q. Models g (set s c 1) n (whole (size g) p q (firstLabel g c))) (sym (closed-safe a b)) (sym (no→false (zeroCell g c) d)) (open-stands g s n st c h f a b d k)
     go t (sweeps a b z) =
-        subst₂ (λ p q. Stands g (sweep g s c) n (whole (size g) p q (firstLabel g c))) (sym (closed-safe a b)) (sym (T→true (zeroCell g c) z))
+        subst₂ (λ p q. Models g (sweep g s c) n (whole (size g) p q (firstLabel g c))) (sym (closed-safe a b)) (sym (T→true (zeroCell g c) z))
         (sweep-stands g s n st c f (record { inside = h; none = z }) b k)

@@ -28,18 +28,18 @@ use Rattle.game.proofs.Runs.{moves-cost}
 use Rattle.game.proofs.Squares.{once-square, square→}
 use Rattle.game.proofs.Truth.{T-other, T→true, and-left, and-not, and-right, and-under, no→false}
 use Rattle.game.proofs.Units.{after-moves}
-use Rattle.original.proofs.Positions.{Stands, board-around, flag-stands, not-opened}
+use Rattle.original.proofs.Positions.{Models, board-around, flag-stands, not-opened}
 use Rattle.original.proofs.Sweeps.{reveal-stands}
 
 -- ---- click
 
 -- one click more
-clicked : (g : Grid) (s : Position) (n : ℕ) (st : State) → Stands g s n st → Stands g s (n + 1) (one-click st)
+clicked : (g : Grid) (s : Position) (n : ℕ) (st : State) → Models g s n st → Models g s (n + 1) (one-click st)
 clicked g s n st k =
     record { kept = k .kept; board = k .board; exact = k .exact; clicks = ap (λ (x : ℕ). x + 1) (k .clicks); left = k .left }
 
-pub click-stands : (g : Grid) (s : Position) (n : ℕ) (st : State) (c : ℕ) → c < size g → T (safe g c) → Tidy g s → Stands g s n st
-    → Stands g (reveal g s c) (n + 1) (click (g .rows) st c)
+pub click-stands : (g : Grid) (s : Position) (n : ℕ) (st : State) (c : ℕ) → c < size g → T (safe g c) → Tidy g s → Models g s n st
+    → Models g (reveal g s c) (n + 1) (click (g .rows) st c)
 click-stands g s n st c h t f k =
     clicked g (reveal g s c) n (reveal-cell (g .rows) st c) (reveal-stands g s n st c h f (λ m. absurd (T-not (mine g c) t m)) k)
 
@@ -62,13 +62,13 @@ flag-turn g t i = elim (at (t .cells) i .mine) [ true ↦ flag-cell (g .rows) t 
 
 -- flags on ys stand for what the loop over xs has come to
 record Flags (g : Grid) (s : Position) (n : ℕ) (xs ys : List ℕ) (done : State) : Type 0 where
-  stands : Stands g (after g s (map flag ys)) (n + length ys) done
+  stands : Models g (after g s (map flag ys)) (n + length ys) done
   played : Tidy g (after g s (map flag ys))
   stay : (j : ℕ) → j < size g → T (flagged s j) → T (flagged (after g s (map flag ys)) j)
   all : (j : ℕ) → T (has j xs) → T (mine g j) → T (flagged (after g s (map flag ys)) j)
 
 -- a cell that is no mine, or flagged, is passed over
-turn-stays : (g : Grid) (s : Position) (n : ℕ) (st : State) (x : ℕ) → x < size g → Stands g s n st → unflagged g s x ≡ false → flag-turn g st x ≡ st
+turn-stays : (g : Grid) (s : Position) (n : ℕ) (st : State) (x : ℕ) → x < size g → Models g s n st → unflagged g s x ≡ false → flag-turn g st x ≡ st
 unfolding flag-cell
 turn-stays g s n st x h k e = ap by (k .board .reads x h) ∙ go (mine g x) (flagged s x) e
   where
@@ -88,9 +88,9 @@ turn-stays g s n st x h k e = ap by (k .board .reads x h) ∙ go (mine g x) (fla
     go false l d = refl
 
 -- an unflagged mine is flagged
-turn-flags : (g : Grid) (s : Position) (n : ℕ) (st : State) (x : ℕ) → x < size g → Tidy g s → Stands g s n st → T (unflagged g s x) → Stands g (set s x 2) (n + 1) (flag-turn g st x)
+turn-flags : (g : Grid) (s : Position) (n : ℕ) (st : State) (x : ℕ) → x < size g → Tidy g s → Models g s n st → T (unflagged g s x) → Models g (set s x 2) (n + 1) (flag-turn g st x)
 turn-flags g s n st x h f k t =
-    subst (λ (b : Bool). Stands g (set s x 2) (n + 1) (by b)) (sym (ap (λ (z : Zcell). z .mine) (k .board .reads x h) ∙ T→true (mine g x) m))
+    subst (λ (b : Bool). Models g (set s x 2) (n + 1) (by b)) (sym (ap (λ (z : Zcell). z .mine) (k .board .reads x h) ∙ T→true (mine g x) m))
     (flag-stands g s n st x h f m (T-other (flagged s x) (closed s x) (f .mines x h m) (and-right (mine g x) (not (flagged s x)) t)) k)
   where
     m : T (mine g x)
@@ -99,13 +99,13 @@ turn-flags g s n st x h f k t =
     by : Bool → State
     by b = elim b [ true ↦ flag-cell (g .rows) st x | false ↦ st ]
 
-flags-all : (g : Grid) (xs : List ℕ) (s : Position) (n : ℕ) (st : State) → Once xs → ((x : ℕ) → T (has x xs) → x < size g) → Tidy g s → Stands g s n st
+flags-all : (g : Grid) (xs : List ℕ) (s : Position) (n : ℕ) (st : State) → Once xs → ((x : ℕ) → T (has x xs) → x < size g) → Tidy g s → Models g s n st
     → Flags g s n xs (keep (unflagged g s) xs) (fold (flag-turn g) st xs)
 unfolding play
 flags-all g [] s n st o h f k =
-    record { stands = subst (λ (x : ℕ). Stands g s x st) (sym (add-zero n)) k; played = f; stay = λ j hj t. t; all = λ j t. absurd t }
+    record { stands = subst (λ (x : ℕ). Models g s x st) (sym (add-zero n)) k; played = f; stay = λ j hj t. t; all = λ j t. absurd t }
 flags-all g (x ∷ xs) s n st o h f k =
-    go (unflagged g s x) refl (λ e. flags-all g xs s n (flag-turn g st x) (o .1) (rest-of x xs h) f (subst (Stands g s n) (sym (turn-stays g s n st x hx k e)) k))
+    go (unflagged g s x) refl (λ e. flags-all g xs s n (flag-turn g st x) (o .1) (rest-of x xs h) f (subst (Models g s n) (sym (turn-stays g s n st x hx k e)) k))
     (λ t. flags-all g xs (set s x 2) (n + 1) (flag-turn g st x) (o .1) (rest-of x xs h) (flag-tidy g s x hx (and-left (mine g x) (not (flagged s x)) t) f) (turn-flags g s n st x hx f k t))
   where
     hx : x < size g
@@ -143,7 +143,7 @@ flags-all g (x ∷ xs) s n st o h f k =
     go true e pass hit =
         let r = subst (λ (ys : List ℕ). Flags g (set s x 2) (n + 1) xs ys done) others (hit (rw e tt)) in
         record {
-          stands = subst (λ (i : ℕ). Stands g (after g (set s x 2) (map flag (keep (unflagged g s) xs))) i done) (more (length (keep (unflagged g s) xs))) (r .stands);
+          stands = subst (λ (i : ℕ). Models g (after g (set s x 2) (map flag (keep (unflagged g s) xs))) i done) (more (length (keep (unflagged g s) xs))) (r .stands);
           played = r .played;
           stay = λ j hj t. r .stay j hj (flag-stays j (ℕ-discrete j x) t);
           all = λ j u m. has-cases j x xs (λ d. rw d (r .stay x hx (rw here tt))) (λ v. r .all j v m) u;
@@ -152,7 +152,7 @@ flags-all g (x ∷ xs) s n st o h f k =
 -- ---- chord
 
 reveal-all : (g : Grid) (xs : List ℕ) (s : Position) (n : ℕ) (st : State) → ((x : ℕ) → T (has x xs) → x < size g) → ((x : ℕ) → T (has x xs) → T (mine g x) → T (flagged s x)) → Tidy g s
-    → Stands g s n st → Stands g (fold (reveal g) s xs) n (fold (reveal-cell (g .rows)) st xs)
+    → Models g s n st → Models g (fold (reveal g) s xs) n (fold (reveal-cell (g .rows)) st xs)
 reveal-all g [] s n st h m f k = k
 reveal-all g (x ∷ xs) s n st h m f k =
     reveal-all g xs (reveal g s x) n (reveal-cell (g .rows) st x) (rest-of x xs h)
@@ -161,12 +161,12 @@ reveal-all g (x ∷ xs) s n st h m f k =
 
 -- ---- the moves at a cell
 
-pub turn-stands : (g : Grid) (s : Position) (n : ℕ) (st : State) (i : ℕ) → i < size g → T (safe g i) → Tidy g s → Stands g s n st
-    → Stands g (after g s (movesAt g s i)) (n + length (movesAt g s i)) (play-at (g .rows) st i)
+pub turn-stands : (g : Grid) (s : Position) (n : ℕ) (st : State) (i : ℕ) → i < size g → T (safe g i) → Tidy g s → Models g s n st
+    → Models g (after g s (movesAt g s i)) (n + length (movesAt g s i)) (play-at (g .rows) st i)
 unfolding play cost
 turn-stands g s n st i h t f k =
-    subst₂ (λ p m. Stands g p m (play-at (g .rows) st i)) (sym (after-moves g s i)) all-clicks
-    (subst (λ (xs : List ℕ). Stands g (fold (reveal g) s₂ (square g i)) (n + bit (closed s i) + length ms + 1) (fold (reveal-cell (g .rows)) (one-click st₂) xs)) (sym (same-square s₂ (n + bit (closed s i) + length ms) st₂ (r .stands)))
+    subst₂ (λ p m. Models g p m (play-at (g .rows) st i)) (sym (after-moves g s i)) all-clicks
+    (subst (λ (xs : List ℕ). Models g (fold (reveal g) s₂ (square g i)) (n + bit (closed s i) + length ms + 1) (fold (reveal-cell (g .rows)) (one-click st₂) xs)) (sym (same-square s₂ (n + bit (closed s i) + length ms) st₂ (r .stands)))
     (reveal-all g (square g i) s₂ (n + bit (closed s i) + length ms + 1) (one-click st₂) inside (λ x u m. r .all x u m) (r .played)
     (clicked g s₂ (n + bit (closed s i) + length ms) st₂ (r .stands))))
   where
@@ -191,15 +191,15 @@ turn-stands g s n st i h t f k =
     inside : (x : ℕ) → T (has x (square g i)) → x < size g
     inside x u = square→ g i x h u .0
 
-    same-square : (p : Position) (m : ℕ) (d : State) → Stands g p m d → around (d .cells) (g .rows) i ≡ square g i
+    same-square : (p : Position) (m : ℕ) (d : State) → Models g p m d → around (d .cells) (g .rows) i ≡ square g i
     same-square p m d q = board-around g (opened p) (flagged p) (q .kept) (d .cells) i h (q .board)
 
     closed-yet : not (at (st .cells) i .opened) ≡ closed s i
     closed-yet = ap (λ (z : Zcell). not (z .opened)) (k .board .reads i h) ∙ not-opened g s i h t f
 
-    first : (b : Bool) → Stands g (after g s (cond b (left i ∷ []) [])) (n + bit b) (by b) × Tidy g (after g s (cond b (left i ∷ []) []))
+    first : (b : Bool) → Models g (after g s (cond b (left i ∷ []) [])) (n + bit b) (by b) × Tidy g (after g s (cond b (left i ∷ []) []))
     first true = (click-stands g s n st i h t f k, reveal-tidy g s i h f)
-    first false = (subst (λ (x : ℕ). Stands g s x st) (sym (add-zero n)) k, f)
+    first false = (subst (λ (x : ℕ). Models g s x st) (sym (add-zero n)) k, f)
 
     same-flags : (b : Bool) (j : ℕ) → j < size g → T (mine g j) → flagged (after g s (cond b (left i ∷ []) [])) j ≡ flagged s j
     same-flags true j hj m = mine-stays g s i j h hj m
@@ -210,8 +210,8 @@ turn-stands g s n st i h t f k =
         keep-ext (unflagged g s₁) (unflagged g s) (square g i)
         (λ j u. and-under (mine g j) (not (flagged s₁ j)) (not (flagged s j)) (λ m. ap not (same-flags (closed s i) j (inside j u) m)))
 
-    one : Stands g s₁ (n + bit (closed s i)) st₁
-    one = subst (λ (b : Bool). Stands g s₁ (n + bit (closed s i)) (by b)) (sym closed-yet) (first (closed s i) .0)
+    one : Models g s₁ (n + bit (closed s i)) st₁
+    one = subst (λ (b : Bool). Models g s₁ (n + bit (closed s i)) (by b)) (sym closed-yet) (first (closed s i) .0)
 
     r : Flags g s₁ (n + bit (closed s i)) (square g i) ms st₂
     r =

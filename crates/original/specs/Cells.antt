@@ -219,12 +219,12 @@ set-number height cells i =
     change (λ z. with-premium (negℤ (pos n) -ℤ pos 2) (with-number n z)) cells i
 
 -- the cells and the openings counted so far
-pub record Opened : Type 0 where
+pub record CellOpened : Type 0 where
   pub cells : Cells
   pub openings : ℕ
 
 -- initboard's second loop
-abbrev pub set-opening : ℕ → ℕ → Opened → ℕ → Opened
+abbrev pub set-opening : ℕ → ℕ → CellOpened → ℕ → CellOpened
 set-opening size height o i =
     cond (not (at (o .cells) i .mine) && eqb (at (o .cells) i .number) 0 && eqb (at (o .cells) i .opening) 0)
     (record { cells = process-opening size height (o .openings + 1) (o .cells) i; openings = o .openings + 1 }) o

@@ -13,10 +13,7 @@ ghost use Rattle.reader_calls.specs.Stands.{Starts, standsAt, readOn};
 fn start_at(place: usize, length: usize) -> usize
     ensures { λ r. ⌜ Starts place length r ⌝ }
 {
-    if length < place {
-        return length;
-    }
-    place
+    area::fewer(place, length)
 }
 
 // A single random round by the bytes from a place on.

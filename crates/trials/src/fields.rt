@@ -121,16 +121,9 @@ fn run_length(text: &[u8], end: usize, own: usize, most: usize) -> usize
 {
     let times = past(text, end, b"x");
     if 0 < times {
-        return least(number_from(text, times), most);
+        return area::fewer(number_from(text, times), most);
     }
-    least(own, most)
-}
-
-// The lesser of two numbers.
-fn least(a: usize, b: usize) -> usize
-    ensures { λ r. ⌜ r ≤ b ⌝ }
-{
-    if a < b { a } else { b }
+    area::fewer(own, most)
 }
 
 // How many parts a text has between commas.

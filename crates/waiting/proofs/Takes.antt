@@ -14,7 +14,7 @@ use Rattle.game.specs.Grid.{Grid, size}
 use Rattle.game.specs.Moves.{after}
 use Rattle.game.specs.Rounds.{before}
 use Rattle.labels.specs.Labels.{freeOf, freshCell}
-use Rattle.labels.specs.Spread.{Change, ClearFrom, Opened, Reach, Shut, here}
+use Rattle.labels.specs.Spread.{Change, ClearFrom, OpeningLabelled, Reach, Shut, here}
 use Rattle.waiting.specs.Waits.{InSquare, Newly, Pushed, Visitable, Waited, Waiting}
 use Rattle.game.proofs.Squares.{in-own-square, square→}
 use Rattle.labels.proofs.Changes.{change-from, content-stays, contents-stay, reach-last, reach-trans, side-then, stays, then-side, trans-change}
@@ -117,7 +117,7 @@ module _ (g : Grid) (op : ℕ) (o : 1 ≤ op) (i : ℕ) where
       }
 
   -- none waits
-  pub spread-last : (w₀ w : List ℤ) (top : ℕ) → top ≤ 0 → Spreading g (contentAt w₀) op i w₀ w top → Opened g (contentAt w₀) op i w₀ w
+  pub spread-last : (w₀ w : List ℤ) (top : ℕ) → top ≤ 0 → Spreading g (contentAt w₀) op i w₀ w top → OpeningLabelled g (contentAt w₀) op i w₀ w
   spread-last w₀ w top h p =
       record {
         change = p .change;

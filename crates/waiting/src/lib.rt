@@ -2,7 +2,7 @@
 ghost use Prim.Native.Nat.{_+_, _*_, _<_, _≤_, _%_};
 ghost use Rattle.area.specs.Numbers.{HasCells, contentAt};
 ghost use Rattle.labels.specs.Labels.{Ready, freeOf, shaped};
-ghost use Rattle.labels.specs.Spread.{Opened};
+ghost use Rattle.labels.specs.Spread.{OpeningLabelled};
 ghost use Rattle.waiting.specs.Waits.{InRow, InSquare, Pushed, Visitable, Waited};
 use labels::border;
 use labels::fresh;
@@ -80,7 +80,7 @@ fn visit_square(
 pub fn spread(work: &mut [i32], rows: usize, columns: usize, op: usize, index: usize)
     requires { ⌜ Ready rows columns op (now work) ⌝ }
     requires { ⌜ 512 < rows * columns ⌝ }
-    ensures { λ _. ⌜ Opened (shaped rows columns) (contentAt (now (work .entry))) op index
+    ensures { λ _. ⌜ OpeningLabelled (shaped rows columns) (contentAt (now (work .entry))) op index
         (now (work .entry)) (now (work .exit)) ⌝ }
 {
     let mut top = wait(work, rows * columns, op, index, 0);
