@@ -1,16 +1,19 @@
-//! Measures ours and the Rust on the same boards in one run, and prints a table of ratios. docs/SPEED.md says what is counted.
+//! Measures ours and the Rust on the same boards in one run, and our replays, and prints the tables. docs/SPEED.md says what is counted.
 //!
-//! With no word it runs all rows. `count ROW SIDE` is what it runs of itself under callgrind: one call a board.
+//! With no word it runs all rows, with `replays` the replays alone. `count ROW SIDE` and `replay ROW` are what it runs of itself under callgrind: one call a board.
 #[allow(dead_code)]
 #[path = "../oracle/boards.rs"]
 mod boards;
 mod clock;
+mod lists;
+mod lots;
 #[allow(dead_code)]
 #[path = "../oracle/original.rs"]
 mod original;
 #[allow(dead_code)]
 #[path = "../oracle/ours.rs"]
 mod ours;
+mod replays;
 mod rows;
 mod sides;
 mod table;
@@ -19,13 +22,21 @@ use original::safe_board; // where the Rust looks for it
 use rows::Row;
 use sides::{MEASURED, SIDES, Side};
 use std::process::Command;
-use table::Measures;
+use table::{Measures, Replayed};
 
 /// Prints each answer: both sides must print the same.
 fn count(row: &Row, side: Side) {
-    let boards = row.make_boards();
+    let boards = row.lot.make();
     for case in &mut sides::cases(row, &boards) {
         println!("{:?}", sides::play(side, row.call, case).0);
+    }
+}
+
+/// Replays each list; ends if an answer is wrong.
+fn replay(row: &replays::Row) {
+    let boards = row.lot.make();
+    for case in &mut replays::cases(row, &boards) {
+        replays::play(case);
     }
 }
 
@@ -36,34 +47,47 @@ fn number_after(text: &str, word: &str) -> u64 {
     number.expect("callgrind tells what it collected")
 }
 
-/// Instructions of one call, the mean over the boards, and the answers. callgrind's file stays in target/bench.
-fn instructions(place: usize, row: &Row, side: Side) -> (f64, String) {
-    let file = format!("target/bench/{}.{}", row.file_name(), side.word());
+/// What callgrind collects of this program with such words, and what it prints. callgrind's file stays in target/bench.
+fn collected(file: &str, words: &[&str]) -> (f64, String) {
+    let file = format!("target/bench/{file}");
     let this = std::env::current_exe().expect("a path to this program");
     let run = Command::new("valgrind")
         .args(["--tool=callgrind", "--quiet", "--collect-atstart=no"])
         .arg(format!("--toggle-collect={MEASURED}"))
         .arg(format!("--callgrind-out-file={file}"))
         .arg(this)
-        .args(["count", &place.to_string(), side.word()])
+        .args(words)
         .output()
         .expect("valgrind is installed");
     let told = String::from_utf8_lossy(&run.stderr);
     assert!(run.status.success(), "{told}");
     let collected = std::fs::read_to_string(&file).expect("callgrind's file");
     let total = number_after(&collected, "totals:");
-    let answers = String::from_utf8(run.stdout).expect("text");
-    (total as f64 / row.boards as f64, answers)
+    let printed = String::from_utf8(run.stdout).expect("text");
+    (total as f64, printed)
 }
 
-/// Microseconds of one call on each side: the mean over the boards, the median of the samples. The sides take turns.
+/// Instructions of one call, the mean over the boards, and the answers.
+fn instructions(place: usize, row: &Row, side: Side) -> (f64, String) {
+    let file = format!("{}.{}", row.file_name(), side.word());
+    let words = ["count", &place.to_string(), side.word()];
+    let (total, answers) = collected(&file, &words);
+    (total / row.lot.boards as f64, answers)
+}
+
+/// Microseconds of one call, the mean over so many boards: the median of such samples of nanoseconds.
+fn median(mut samples: Vec<u64>, boards: usize) -> f64 {
+    samples.sort();
+    samples[samples.len() / 2] as f64 / boards as f64 / 1000.0
+}
+
+/// Microseconds of one call on each side. The sides take turns.
 fn times(row: &Row) -> [f64; 2] {
-    let boards = row.make_boards();
+    let boards = row.lot.make();
     let mut cases = sides::cases(row, &boards);
     let mut sample = |side| {
         let time = |case| sides::play(side, row.call, case).1;
-        let total: u64 = cases.iter_mut().map(time).sum();
-        total as f64 / row.boards as f64 / 1000.0
+        cases.iter_mut().map(time).sum()
     };
     let mut samples = [vec![], vec![]];
     for _ in 0..row.samples {
@@ -71,10 +95,7 @@ fn times(row: &Row) -> [f64; 2] {
             kept.push(sample(side));
         }
     }
-    samples.map(|mut sorted| {
-        sorted.sort_by(f64::total_cmp);
-        sorted[sorted.len() / 2]
-    })
+    samples.map(|kept| median(kept, row.lot.boards))
 }
 
 /// A row measured on both sides; ends if their answers differ.
@@ -89,23 +110,58 @@ fn measure(place: usize, row: &Row) -> Measures {
     }
 }
 
-fn run() {
+/// A replay measured.
+fn measure_replay(place: usize, row: &replays::Row) -> Replayed {
+    eprintln!("measuring {}", row.file_name());
+    let (total, _) = collected(&row.file_name(), &["replay", &place.to_string()]);
+    let boards = row.lot.make();
+    let mut cases = replays::cases(row, &boards);
+    let moves: u64 = cases.iter().map(|case| case.moves).sum();
+    let mut sample = |_| cases.iter_mut().map(replays::play).sum();
+    let samples = (0..row.samples).map(&mut sample).collect();
+    let count = row.lot.boards;
+    Replayed {
+        row: *row,
+        moves: moves as f64 / count as f64,
+        instructions: total / count as f64,
+        time: median(samples, count),
+    }
+}
+
+/// All rows beside the Rust.
+fn print_rows() {
     let rows = rows::all();
+    let rows = rows.iter().enumerate();
+    let measured: Vec<Measures> = rows.map(|(place, row)| measure(place, row)).collect();
+    table::print(&measured);
+}
+
+/// All replays.
+fn print_replays() {
+    let rows = replays::all();
+    let rows = rows.iter().enumerate();
+    let replayed = rows.map(|(place, row)| measure_replay(place, row));
+    table::print_replays(&replayed.collect::<Vec<Replayed>>());
+}
+
+fn run() {
     let words: Vec<String> = std::env::args().skip(1).collect();
     let words: Vec<&str> = words.iter().map(String::as_str).collect();
+    let place_of = |word: &str| -> usize { word.parse().expect("the place of a row") };
     match words[..] {
         [] => {
-            let measured = rows.iter().enumerate();
-            let measured: Vec<Measures> =
-                measured.map(|(place, row)| measure(place, row)).collect();
-            table::print(&measured);
+            print_rows();
+            print_replays();
+            table::print_notes();
         }
+        ["replays"] => print_replays(),
         ["count", place, side] => {
-            let place: usize = place.parse().expect("the place of a row");
             let side = SIDES.into_iter().find(|one| one.word() == side);
-            count(&rows[place], side.expect("ours or rust"));
+            let side = side.expect("ours or rust");
+            count(&rows::all()[place_of(place)], side);
         }
-        _ => panic!("no words, or: count ROW SIDE"),
+        ["replay", place] => replay(&replays::all()[place_of(place)]),
+        _ => panic!("no words, or: replays, or: count ROW SIDE, or: replay ROW"),
     }
 }
 

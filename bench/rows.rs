@@ -1,5 +1,5 @@
-//! What is measured: a call, on so many boards of one shape with so many mines.
-use crate::boards::{Board, Dice};
+//! What is measured beside the Rust: a call, on a lot of boards.
+use crate::lots::{Lot, largest, league};
 
 #[derive(Clone, Copy, PartialEq)]
 pub enum Call {
@@ -31,37 +31,16 @@ const NEAREST: usize = 20;
 #[derive(Clone, Copy)]
 pub struct Row {
     pub call: Call,
-    pub rows: usize,
-    pub columns: usize,
-    pub mines: usize,
-    pub boards: usize,
+    pub lot: Lot,
     pub samples: usize,
     pub goal: Option<f64>,
 }
 
-/// 16 by 30 with 99 mines.
-fn league(call: Call, boards: usize, samples: usize, goal: Option<f64>) -> Row {
-    let (rows, columns, mines) = (16, 30, 99);
+/// A row, by its columns.
+fn row(call: Call, lot: Lot, samples: usize, goal: Option<f64>) -> Row {
     Row {
         call,
-        rows,
-        columns,
-        mines,
-        boards,
-        samples,
-        goal,
-    }
-}
-
-/// One board of 255 by 255, so many cells of a hundred mines.
-fn largest(call: Call, percent: usize, samples: usize, goal: Option<f64>) -> Row {
-    let (rows, columns) = (255, 255);
-    Row {
-        call,
-        rows,
-        columns,
-        mines: rows * columns * percent / 100,
-        boards: 1,
+        lot,
         samples,
         goal,
     }
@@ -69,62 +48,30 @@ fn largest(call: Call, percent: usize, samples: usize, goal: Option<f64>) -> Row
 
 /// Whether it is a largest board with about as many mines of a hundred cells as a league board.
 pub fn is_league_grown(row: &Row) -> bool {
-    row.mines == largest(row.call, NEAREST, 1, None).mines
+    row.lot == largest(NEAREST)
 }
 
 /// The rows: league boards first, then the largest.
 pub fn all() -> Vec<Row> {
     let mut rows = vec![
-        league(Call::ThreeBv, 100, 51, None),
-        league(Call::Greedy, 100, 21, Some(0.6)),
-        league(Call::OpeningsFirst, 100, 21, Some(0.6)),
-        league(Call::RandomSearch, 20, 7, Some(0.4)),
+        row(Call::ThreeBv, league(100), 51, None),
+        row(Call::Greedy, league(100), 21, Some(0.6)),
+        row(Call::OpeningsFirst, league(100), 21, Some(0.6)),
+        row(Call::RandomSearch, league(20), 7, Some(0.4)),
     ];
     for percent in PERCENTS {
-        rows.push(largest(Call::ThreeBv, percent, 11, None));
-        rows.push(largest(Call::Greedy, percent, 3, Some(0.1)));
-        rows.push(largest(Call::OpeningsFirst, percent, 3, Some(0.1)));
+        let lot = largest(percent);
+        rows.push(row(Call::ThreeBv, lot, 11, None));
+        rows.push(row(Call::Greedy, lot, 3, Some(0.1)));
+        rows.push(row(Call::OpeningsFirst, lot, 3, Some(0.1)));
     }
     rows
 }
 
 impl Row {
-    pub fn cells(&self) -> usize {
-        self.rows * self.columns
-    }
-
-    /// The sides and the mines.
-    pub fn board_name(&self) -> String {
-        let percent = 100.0 * self.mines as f64 / self.cells() as f64;
-        format!(
-            "{} by {}, {} mines ({percent:.1} %)",
-            self.rows, self.columns, self.mines
-        )
-    }
-
     /// The name of callgrind's file: call, rows, columns, mines.
     pub fn file_name(&self) -> String {
         let call = self.call.name().replace(' ', "-");
-        format!("{call}-{}-{}-{}", self.rows, self.columns, self.mines)
-    }
-
-    /// The boards, the same in every run and for every call: just so many mines, each set of cells as likely as another.
-    pub fn make_boards(&self) -> Vec<Board> {
-        let mut dice = Dice(9);
-        (0..self.boards).map(|_| self.board(&mut dice)).collect()
-    }
-
-    fn board(&self, dice: &mut Dice) -> Board {
-        let mut values = vec![0; self.cells()];
-        for last in self.cells() - self.mines..self.cells() {
-            let at = dice.below(last + 1);
-            let free = if values[at] == -1 { last } else { at };
-            values[free] = -1;
-        }
-        Board {
-            rows: self.rows,
-            columns: self.columns,
-            values,
-        }
+        format!("{call}-{}", self.lot.file_name())
     }
 }

@@ -34,7 +34,7 @@ pub struct Case<'a> {
 pub fn cases<'a>(row: &Row, boards: &'a [Board]) -> Vec<Case<'a>> {
     let mut dice = Dice(99);
     let enough = match row.call {
-        Call::RandomSearch => 4 * row.cells() * ROUNDS,
+        Call::RandomSearch => 4 * row.lot.cells() * ROUNDS,
         _ => 0,
     };
     let mut case = |board: &'a Board| Case {
@@ -59,7 +59,7 @@ pub const MEASURED: &str = "measured";
 type Timed = (Answer, u64);
 
 /// One call, with its time.
-fn timed(mut call: impl FnMut() -> Answer) -> Timed {
+pub fn timed(mut call: impl FnMut() -> Answer) -> Timed {
     let begun = clock::nanoseconds();
     let answer = measured(&mut call);
     (answer, clock::nanoseconds() - begun)

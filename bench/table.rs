@@ -1,4 +1,5 @@
-//! What is printed: the ratios, how the cost of a cell grows with the board, and what was counted.
+//! What is printed: the ratios, how the cost of a cell grows with the board, the replays, and what was counted.
+use crate::replays;
 use crate::rows::{ROUNDS, Row, is_league_grown};
 
 /// Instructions and microseconds of one call: ours, the Rust's.
@@ -8,11 +9,16 @@ pub struct Measures {
     pub times: [f64; 2],
 }
 
-/// A number with one place below 100, and with its thousands parted above.
-fn shown(number: f64) -> String {
-    if number < 100.0 {
-        return format!("{number:.1}");
-    }
+/// One replay of ours: moves, instructions and microseconds.
+pub struct Replayed {
+    pub row: replays::Row,
+    pub moves: f64,
+    pub instructions: f64,
+    pub time: f64,
+}
+
+/// A whole number with its thousands parted.
+fn parted(number: f64) -> String {
     let digits = format!("{number:.0}");
     let mut parted = String::new();
     for (place, digit) in digits.chars().enumerate() {
@@ -22,6 +28,14 @@ fn shown(number: f64) -> String {
         parted.push(digit);
     }
     parted
+}
+
+/// A number with one place below 100, and whole above.
+fn shown(number: f64) -> String {
+    if number < 100.0 {
+        return format!("{number:.1}");
+    }
+    parted(number)
 }
 
 /// Ours, the Rust's, and ours divided by the Rust's.
@@ -38,8 +52,8 @@ fn print_ratios(measures: &Measures) {
     println!(
         "| {} | {} | {} | {} | {} | {} | {} |",
         row.call.name(),
-        row.board_name(),
-        row.boards,
+        row.lot.name(),
+        row.lot.boards,
         beside(measures.instructions),
         row.goal.map_or(String::new(), |goal| goal.to_string()),
         beside(measures.times),
@@ -54,14 +68,50 @@ const GROWTH: &str = "\
 /// Instructions a cell, on the league boards and on the largest one.
 fn print_growth(league: &Measures, largest: &Measures) {
     let columns = [0, 1].map(|side| {
-        let cell = |at: &Measures| at.instructions[side] / at.row.cells() as f64;
+        let cell = |at: &Measures| at.instructions[side] / at.row.lot.cells() as f64;
         let (from, to) = (cell(league), cell(largest));
         format!("{} | {} | {:.1}", shown(from), shown(to), to / from)
     });
     println!("| {} | {} |", league.row.call.name(), columns.join(" | "));
 }
 
-/// Both tables, and what was counted.
+const REPLAYS: &str = "\
+| replay of | board | boards | moves | instructions | a move, beyond an empty list's | µs | samples |
+|---|---|--:|--:|--:|--:|--:|--:|";
+
+/// A replay, and what each of its moves adds to what the empty list takes on the same boards.
+fn print_replay(replayed: &Replayed, empty: &Replayed) {
+    let row = replayed.row;
+    let moves = replayed.moves;
+    let beyond = (replayed.instructions - empty.instructions) / moves;
+    println!(
+        "| {} | {} | {} | {} | {} | {} | {} | {} |",
+        row.list.name(),
+        row.lot.name(),
+        row.lot.boards,
+        parted(moves),
+        shown(replayed.instructions),
+        if moves > 0.0 {
+            shown(beyond)
+        } else {
+            String::new()
+        },
+        shown(replayed.time),
+        row.samples
+    );
+}
+
+/// The table of the replays.
+pub fn print_replays(all: &[Replayed]) {
+    println!("\n{REPLAYS}");
+    for replayed in all {
+        let same = |other: &&Replayed| other.row.lot == replayed.row.lot;
+        let empty = all.iter().find(same).expect("the empty list comes first");
+        print_replay(replayed, empty);
+    }
+}
+
+/// The ratios, and how they grow.
 pub fn print(all: &[Measures]) {
     println!("{RATIOS}");
     all.iter().for_each(print_ratios);
@@ -71,12 +121,17 @@ pub fn print(all: &[Measures]) {
         let league = all.iter().find(same).expect("league boards come first");
         print_growth(league, largest);
     }
+}
+
+/// What was counted.
+pub fn print_notes() {
     println!(
         "
 Instructions: callgrind's, one call a board, the mean over the boards. Time: of the thread, one call a board and sample, the mean over the boards, the median of the samples.
 A random search has {ROUNDS} rounds. There is one board and few samples where a call takes the Rust seconds.
 Ours: the archive's names; work area and list are lent once a board, with 7 and 9 in every place, and not cleared before a call or between calls.
 The Rust: cal_zini, cal_hzini and cal_rzini with their copy of the board and their own cells, made anew in each call; its random bytes are lent before the call.
-3BV setup: lavgerin_three_bv, which also counts and hands the work area back, beside build_cells_ref and initboard, without the copy."
+3BV setup: lavgerin_three_bv, which also counts and hands the work area back, beside build_cells_ref and initboard, without the copy.
+Replays: lavgerin_replay, the moves of a list the mean over the boards; moves made, safe cells still closed and the ending are checked."
     );
 }

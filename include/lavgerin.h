@@ -5,8 +5,9 @@
  * A grid is rows x columns numbers, row after row; -1 is a mine, any other value a safe cell.
  * A cell's index is column x rows + row.
  * The work area has at least 5 numbers a cell: after success a cell has at 5 x index its first label, second label,
- * premium, state (0 closed, 1 opened, 2 flagged) and 0.
- * A move is kind x 65536 + index. A list has room for as many moves as cells.
+ * premium, state (0 closed, 1 opened, 2 flagged, 3 an opened mine) and 0.
+ * A move is kind x 65536 + index. A list of a round has room for as many moves as cells; a list to replay may have any
+ * length.
  *
  * Each function returns the number of the refusal, 0 for success. Answers go through the pointers; on a refusal what
  * stands there is left alone, except that replay writes the bad move's place to *made on LAVGERIN_MOVE.
@@ -42,11 +43,24 @@ enum {
     LAVGERIN_TRACE = 4,  /* the list is below cells long; in replay: count above the list's length */
     LAVGERIN_ROUNDS = 5, /* random search with 0 rounds */
     LAVGERIN_DRAWS = 6,  /* four bytes were needed and fewer were left: the first 5 x cells numbers and cells moves are 0 */
-    LAVGERIN_MOVE = 7    /* replay met a move that isn't legal: the position before it is left */
+    LAVGERIN_MOVE = 7    /* replay met a move that isn't legal, as none is after a won or lost game, another kind, or an
+                            index past the grid: the position before it is left */
 };
 
 /* The kinds of moves. */
-enum { LAVGERIN_LEFT = 1, LAVGERIN_FLAG = 2, LAVGERIN_CHORD = 3 };
+enum {
+    LAVGERIN_LEFT = 1,
+    LAVGERIN_FLAG = 2,
+    LAVGERIN_CHORD = 3,
+    LAVGERIN_UNFLAG = 4 /* takes a flag away; no round lists it */
+};
+
+/* How a replayed game ends. */
+enum {
+    LAVGERIN_UNFINISHED = 0,
+    LAVGERIN_WON = 1, /* all safe cells are open and no mine */
+    LAVGERIN_LOST = 2 /* a mine is open */
+};
 
 /* 3BV; the work area is left at the position before any move. */
 uint8_t lavgerin_three_bv(size_t rows, size_t columns, const int32_t *grid, size_t grid_length,
@@ -74,10 +88,25 @@ uint8_t lavgerin_random_search(size_t rows, size_t columns, const int32_t *grid,
                                const uint8_t *draws, size_t draws_length, size_t rounds,
                                uint64_t *clicks, uint64_t *used);
 
-/* The first count moves of a list are played: moves made, and safe cells still closed. */
+/* The first count moves of a list are played from the position before any move: moves made, safe cells still closed,
+ * and how the game ends. The work area is left at the last position, with its premiums. In all this a flagged safe
+ * cell counts as closed, and an opened mine as unflagged.
+ *
+ * LEFT and FLAG are legal on a closed unflagged cell, a mine or not; UNFLAG on a flagged one; CHORD on an opened cell
+ * of number 1 or more if there are as many flags in its square, also where it opens nothing. After a won or lost game
+ * no move is legal.
+ * FLAG flags the cell, UNFLAG leaves it closed. LEFT on a safe cell opens it and, if its number is 0, the closed
+ * unflagged cells in the squares of the 0-cells that chains of closed unflagged 0-cells join to it: so no flagged
+ * cell is opened or passed through. CHORD acts as LEFT on every closed unflagged cell of its square.
+ * LEFT on a closed unflagged mine, and CHORD with one or more in its square, lose: every such mine is opened (state
+ * 3), for CHORD after the other cells. The game is won when all safe cells are open and no mine; a grid without safe
+ * cells is won before any move.
+ *
+ * On LAVGERIN_MOVE *made is the bad move's place, counted from 0, *closed and *ending stay as they were, and the work
+ * area is left at the position before that move. */
 uint8_t lavgerin_replay(size_t rows, size_t columns, const int32_t *grid, size_t grid_length,
                         int32_t *work, size_t work_length, const uint32_t *list, size_t list_length,
-                        size_t count, uint64_t *made, uint64_t *closed);
+                        size_t count, uint64_t *made, uint64_t *closed, uint64_t *ending);
 
 #ifdef __cplusplus
 }

@@ -1,5 +1,5 @@
 //! The calls by their C names, in a program of its own (oracle/calls.c) that an emulator runs.
-use super::{Answer, Call, Lent};
+use super::{Call, Lent, Told};
 use std::io::{Read, Write};
 use std::process::{Child, ChildStdin, ChildStdout, Command, Stdio};
 use std::sync::{LazyLock, Mutex};
@@ -52,12 +52,13 @@ fn run<T>(from: &mut impl Read, run: &mut [T], number: fn([u8; 4]) -> T) {
 }
 
 /// One call. Count is the rounds of a search or the moves of a replay.
-pub fn call(lent: &mut Lent, call: Call, draws: &[u8], count: usize) -> Answer {
+pub fn call(lent: &mut Lent, call: Call, draws: &[u8], count: usize) -> Told {
     let Ends { ask, told } = &mut *PROGRAM.lock().expect("one thread");
     let request = request(lent, call, draws, count);
     ask.write_all(&request).expect("the program goes on");
     let answer = (number(told) as u8, number(told), number(told));
+    let ending = number(told);
     run(told, &mut lent.work, i32::from_le_bytes);
     run(told, &mut lent.list, u32::from_le_bytes);
-    answer
+    (answer, ending)
 }

@@ -1,7 +1,7 @@
 /* The calls by their C names, over standard input and output: oracle/afar.rs asks, where the processor is none that the archive is for.
  *
  * A request is eight numbers of 64 bits, then the grid, the work area, the list and the draws; their order is that of `Place`.
- * An answer is three numbers (what the call returned and what it told, 0 for what it didn't), then the work area and the list. */
+ * An answer is four numbers (what the call returned and what it told, 0 for what it didn't), then the work area and the list. */
 #include "lavgerin.h"
 #include <stdio.h>
 #include <stdlib.h>
@@ -33,7 +33,7 @@ static void make(const uint64_t *n, const struct Lent *lent, uint64_t *told) {
     case 2: told[0] = lavgerin_openings_first(BOARD, lent->list, n[LIST], told + 1); return;
     case 3: told[0] = lavgerin_random_round(BOARD, lent->list, n[LIST], lent->draws, n[DRAWS], told + 1, told + 2); return;
     case 4: told[0] = lavgerin_random_search(BOARD, lent->draws, n[DRAWS], n[COUNT], told + 1, told + 2); return;
-    case 5: told[0] = lavgerin_replay(BOARD, lent->list, n[LIST], n[COUNT], told + 1, told + 2); return;
+    case 5: told[0] = lavgerin_replay(BOARD, lent->list, n[LIST], n[COUNT], told + 1, told + 2, told + 3); return;
     default: exit(1);
     }
 }
@@ -46,7 +46,7 @@ int main(void) {
         lent.work = read_run(request[WORK], sizeof *lent.work);
         lent.list = read_run(request[LIST], sizeof *lent.list);
         lent.draws = read_run(request[DRAWS], sizeof *lent.draws);
-        uint64_t told[3] = {0, 0, 0};
+        uint64_t told[4] = {0, 0, 0, 0};
         make(request, &lent, told);
         fwrite(told, sizeof told, 1, stdout);
         fwrite(lent.work, sizeof *lent.work, request[WORK], stdout);

@@ -11,6 +11,9 @@ use ours::{Answer, Lent};
 /// The refusal where the draws run dry.
 const DRAWS: u8 = 6;
 
+/// The ending of a replay that opened all safe cells and no mine.
+const WON: u64 = 1;
+
 /// How many boards and random searches were compared, and in how many of these both ran dry.
 #[derive(Default)]
 struct Compared {
@@ -30,7 +33,7 @@ fn differs(board: &Board, told: String) -> ! {
 }
 
 /// Ends where the answers differ.
-fn same(board: &Board, what: &str, ours: Answer, expected: Answer) {
+fn same<A: PartialEq + std::fmt::Debug>(board: &Board, what: &str, ours: A, expected: A) {
     if ours != expected {
         differs(
             board,
@@ -54,13 +57,13 @@ fn same_cells(board: &Board, what: &str, ours: &[i32], expected: &[i32]) {
     );
 }
 
-/// A round's clicks and cells beside the Rust's, and its list replayed.
+/// A round's clicks and cells beside the Rust's, and its list replayed, to won.
 fn same_round(board: &Board, what: &str, lent: &mut Lent, ours: Answer, rust: &Played, used: u64) {
     let clicks = rust.clicks;
     same(board, what, ours, (0, clicks, used));
     same_cells(board, what, lent.work(), &rust.cells);
     let what = format!("replay of {what}");
-    same(board, &what, lent.replay(clicks), (0, clicks, 0));
+    same(board, &what, lent.replay(clicks), ((0, clicks, 0), WON));
     same_cells(board, &what, lent.work(), &rust.cells);
 }
 

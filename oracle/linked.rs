@@ -1,5 +1,5 @@
 //! The calls by their C names, linked with the archive.
-use super::{Answer, Call, Lent};
+use super::{Call, Lent, Told};
 
 #[link(name = "lavgerin", kind = "static")]
 unsafe extern "C" {
@@ -73,6 +73,7 @@ unsafe extern "C" {
         count: usize,
         made: &mut u64,
         closed: &mut u64,
+        ending: &mut u64,
     ) -> u8;
 }
 
@@ -91,8 +92,8 @@ macro_rules! by_name {
 
 /// One call. Count is the rounds of a search or the moves of a replay.
 #[inline(always)]
-pub fn call(lent: &mut Lent, call: Call, draws: &[u8], count: usize) -> Answer {
-    let (mut first, mut second) = (0, 0);
+pub fn call(lent: &mut Lent, call: Call, draws: &[u8], count: usize) -> Told {
+    let (mut first, mut second, mut ending) = (0, 0, 0);
     let (list, length) = (lent.list.as_mut_ptr(), lent.list.len());
     let (bytes, bytes_length) = (draws.as_ptr(), draws.len());
     let number = match call {
@@ -117,8 +118,8 @@ pub fn call(lent: &mut Lent, call: Call, draws: &[u8], count: usize) -> Answer {
             lavgerin_replay,
             lent,
             [list, length, count],
-            [&mut first, &mut second]
+            [&mut first, &mut second, &mut ending]
         ),
     };
-    (number, first, second)
+    ((number, first, second), ending)
 }

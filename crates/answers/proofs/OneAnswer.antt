@@ -50,17 +50,17 @@ rolled-same = LeftInverse·injective (readBack clicks Rolls.Refused) rolledAnswe
     back (Rolls.Clicks n k) = refl
     back (Rolls.Refused f) = refused-back clicks Rolls.Refused f
 
--- a replay: success by two values, a bad move by its place alone
+-- a replay: success by three values, a bad move by its place alone
 replayed-same : (r r′ : Replayed) → replayedAnswer r ≡ replayedAnswer r′ → r ≡ r′
 replayed-same = LeftInverse·injective (readBack told Replays.Refused) replayedAnswer back
   where
     told : List ℕ → Replayed
-    told (n ∷ k ∷ vs) = Replays.Played n k
+    told (n ∷ k ∷ vs) = Replays.Played n k (getD vs 0 0)
     told (k ∷ []) = Replays.Move k
     told [] = Replays.Move 0
 
     back : (r : Replayed) → readBack told Replays.Refused (replayedAnswer r) ≡ r
-    back (Replays.Played n k) = refl
+    back (Replays.Played n k e) = refl
     back (Replays.Move k) = refl
     back (Replays.Refused f) = refused-back told Replays.Refused f
 

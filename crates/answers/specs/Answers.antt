@@ -19,9 +19,9 @@ abbrev pub countedAnswer : Counted → Answer
 countedAnswer (Counts.Units n) = gives (n ∷ [])
 countedAnswer (Counts.Refused f) = refuses (named f)
 
--- replay: 0, moves made and safe cells still closed; MOVE with the bad move's place; or the refusal's number alone
+-- replay: 0, moves made, safe cells still closed and the ending; MOVE with the bad move's place; or the refusal's number alone
 abbrev pub replayedAnswer : Replayed → Answer
-replayedAnswer (Replays.Played n k) = gives (n ∷ k ∷ [])
+replayedAnswer (Replays.Played n k e) = gives (n ∷ k ∷ e ∷ [])
 replayedAnswer (Replays.Move k) = record { number = numberOf move; values = k ∷ [] }
 replayedAnswer (Replays.Refused f) = refuses (named f)
 

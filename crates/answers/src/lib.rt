@@ -7,9 +7,9 @@ pub enum Counted {
     Refused(Refusal),
 }
 
-// What a replay answers: moves made and safe cells still closed, or the place of the bad move.
+// What a replay answers: moves made, safe cells still closed and the ending (0 unfinished, 1 won, 2 lost), or the place of the bad move.
 pub enum Replayed {
-    Played(usize, usize),
+    Played(usize, usize, usize),
     Move(usize),
     Refused(Refusal),
 }

@@ -31,6 +31,10 @@ labelledFive g i = five (firstLabel g i) (secondLabel g i) (content g i) 0 0
 unfoldable pub heldFive : Grid → Position → ℕ → List ℤ
 heldFive g s i = five (firstLabel g i) (secondLabel g i) (content g i) (getD s i 0) (raised g s i)
 
+-- during a replay: labels, content, state; no premium is kept
+unfoldable pub movingFive : Grid → Position → ℕ → List ℤ
+movingFive g s i = five (firstLabel g i) (secondLabel g i) (content g i) (getD s i 0) 0
+
 -- the work area during play
 abbrev pub held : Grid → Position → List ℤ → List ℤ
 held g s old = laid (heldFive g s) (size g) old
@@ -50,6 +54,15 @@ pub record Stands (rows columns : ℕ) (g : Grid) (s : Position) (old w : List �
   pub room : HasCells old (size g)
   pub long : length s ≡ size g
   pub holds-it : w ≡ held g s old
+
+-- the same during a replay: the work area w has the states of the position s, and no premiums
+pub record Moving (rows columns : ℕ) (g : Grid) (s : Position) (old w : List ℤ) : Type 0 where
+  pub rows-are : g .rows ≡ rows
+  pub columns-are : g .columns ≡ columns
+  pub shape : Shape rows columns
+  pub room : HasCells old (size g)
+  pub long : length s ≡ size g
+  pub holds-it : w ≡ laid (movingFive g s) (size g) old
 
 -- the work area stands for some position
 pub record Standing (rows columns : ℕ) (w : List ℤ) : Type 0 where

@@ -8,8 +8,8 @@
 //   random-search   rows=N columns=N board=RUN work=RUN draws=RUN rounds=N
 //   replay          rows=N columns=N board=RUN work=RUN list=RUN count=N
 // A run is a pattern, or a pattern, x and a length: the pattern over and over up to that length. A field that is not there is 0, or a run of none.
-// The pattern of a board or a work area is values parted by commas (-1 is a mine), or a picture (* is a mine); of a list words parted by commas, or moves (L3, F4, C3); of draws bytes of two digits, 0 to 9 and A to F.
-// For a case its name is printed with the answer's number and two values; then its list, if it has one, kind and index of each word; then its work area.
+// The pattern of a board or a work area is values parted by commas (-1 is a mine), or a picture (* is a mine); of a list words parted by commas, or moves (L3, F4, C3, U4); of draws bytes of two digits, 0 to 9 and A to F.
+// For a case its name is printed with the answer's number and two values, and behind a replay's the ending (0 unfinished, 1 won, 2 lost); then its list, if it has one, kind and index of each word; then its work area.
 // Of a list or a work area of more than 255 numbers two sums are printed: of the numbers above 0, and of the sums up to each. A line that begins with # is printed as it is.
 use trials::fields;
 use trials::plain;

@@ -1,36 +1,65 @@
--- Chains of 0-cells: joined both ways, and of three 0-cells in one square two are joined. Assumes nothing.
+-- Chains of cells that pass a test run both ways; so do chains of 0-cells, and of three 0-cells in one square two are joined. Assumes nothing.
 use Prim.Native.Nat.{ℕ, _+_, _<_, _≤_}
 use native.Mathlib.Omega.{arith}
 use native.Mathlib.Decide.{ℕ-discrete, decLe}
 use mathlib.Core.Path.{_∙_, _≡_, sym}
 use mathlib.Core.Logic.{_⊎_, inl, inr, ⊎-elim}
-use mathlib.Core.Option.{none}
-use Rattle.game.specs.Grid.{Grid, columnOf, index, rowOf}
-use Rattle.game.specs.Openings.{Joined, itself, onward}
+use mathlib.Core.Bool.{Bool}
+use lib.Dec.{T}
+use Rattle.game.specs.Grid.{Grid, columnOf, index, rowOf, size, zeroCell}
+use Rattle.game.specs.Openings.{Chain, Joined, itself, onward}
 use Rattle.game.proofs.Squares.{Close, close-sym, index-column, index-row, row-lt, square→, →square}
 use Rattle.game.proofs.Zeros.{Zero, between-column, between-row}
 
+-- a cell of the grid that passes the test p
+pub record Passes (g : Grid) (p : ℕ → Bool) (k : ℕ) : Type 0 where
+  pub inside : k < size g
+  pub test : T (p k)
+
+pub chain-first : (g : Grid) (p : ℕ → Bool) (a b : ℕ) → Chain g p a b → Passes g p a
+chain-first g p a b (itself h t) = record { inside = h; test = t }
+chain-first g p a b (onward {b = m} j u t) = chain-first g p a m j
+
+pub chain-last : (g : Grid) (p : ℕ → Bool) (a b : ℕ) → Chain g p a b → Passes g p b
+chain-last g p a b (itself h t) = record { inside = h; test = t }
+chain-last g p a b (onward {b = m} j u t) = record { inside = square→ g m b (chain-last g p a m j .inside) u .0; test = t }
+
+pub chain-trans : (g : Grid) (p : ℕ → Bool) (a b c : ℕ) → Chain g p a b → Chain g p b c → Chain g p a c
+chain-trans g p a b c j (itself h t) = j
+chain-trans g p a b c j (onward {b = m} k u t) = onward (chain-trans g p a b m j k) u t
+
+pub chain-close : (g : Grid) (p : ℕ → Bool) (a b : ℕ) → Passes g p a → Passes g p b → Close g a b → Chain g p a b
+chain-close g p a b pa pb c = onward (itself (pa .inside) (pa .test)) (→square g a b (pa .inside) (pb .inside) c) (pb .test)
+
+pub chain-sym : (g : Grid) (p : ℕ → Bool) (a b : ℕ) → Chain g p a b → Chain g p b a
+chain-sym g p a b (itself h t) = itself h t
+chain-sym g p a b (onward {b = m} j u t) =
+    let pm = chain-last g p a m j in
+    let s = square→ g m b (pm .inside) u in
+    chain-trans g p b m a (chain-close g p b m (record { inside = s .0; test = t }) pm (close-sym g m b (s .1))) (chain-sym g p a m j)
+
+-- ---- chains of 0-cells
+
+pub zero-passes : (g : Grid) (z : ℕ) → Zero g z → Passes g (zeroCell g) z
+zero-passes g z h = record { inside = h .inside; test = h .none }
+
+passes-zero : (g : Grid) (z : ℕ) → Passes g (zeroCell g) z → Zero g z
+passes-zero g z h = record { inside = h .inside; none = h .test }
+
 pub joined-first : (g : Grid) (a b : ℕ) → Joined g a b → Zero g a
-joined-first g a b (itself h z) = record { inside = h; none = z }
-joined-first g a b (onward {b = m} j t z) = joined-first g a m j
+joined-first g a b j = passes-zero g a (chain-first g (zeroCell g) a b j)
 
 pub joined-last : (g : Grid) (a b : ℕ) → Joined g a b → Zero g b
-joined-last g a b (itself h z) = record { inside = h; none = z }
-joined-last g a b (onward {b = m} j t z) = record { inside = square→ g m b (joined-last g a m j .inside) t .0; none = z }
+joined-last g a b j = passes-zero g b (chain-last g (zeroCell g) a b j)
 
 pub joined-trans : (g : Grid) (a b c : ℕ) → Joined g a b → Joined g b c → Joined g a c
-joined-trans g a b c j (itself h z) = j
-joined-trans g a b c j (onward {b = m} k t z) = onward (joined-trans g a b m j k) t z
+joined-trans g a b c j k = chain-trans g (zeroCell g) a b c j k
 
 pub joined-close : (g : Grid) (a b : ℕ) → Zero g a → Zero g b → Close g a b → Joined g a b
-joined-close g a b za zb c = onward (itself (za .inside) (za .none)) (→square g a b (za .inside) (zb .inside) c) (zb .none)
+joined-close g a b za zb c = chain-close g (zeroCell g) a b (zero-passes g a za) (zero-passes g b zb) c
 
 pub joined-sym : (g : Grid) (a b : ℕ) → Joined g a b → Joined g b a
-joined-sym g a b (itself h z) = itself h z
-joined-sym g a b (onward {b = m} j t z) =
-    let zm = joined-last g a m j in
-    let s = square→ g m b (zm .inside) t in
-    joined-trans g b m a (joined-close g b m (record { inside = s .0; none = z }) zm (close-sym g m b (s .1))) (joined-sym g a m j)
+joined-sym g a b j = chain-sym g (zeroCell g) a b j
 
 -- ---- two 0-cells of one square
 

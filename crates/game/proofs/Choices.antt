@@ -1,7 +1,7 @@
 -- What a step chooses among: the cells of highest premium, exactly; and while a safe cell is closed, there is something to choose. Assumes nothing.
 use Prim.Native.Nat.{ℕ, _-_, _<_, _≤_, suc, zero}
 use native.Mathlib.Omega.{arith}
-use mathlib.Core.Path.{_≡_, ap, refl}
+use mathlib.Core.Path.{_≡_, ap, refl, subst}
 use mathlib.Core.Logic.{_⊎_, inl, inr, ⊎-elim}
 use mathlib.Core.Bool.{Bool, _&&_, _||_, cond, false, not, true}
 use mathlib.Core.List.{List, [], _∷_, map}
@@ -11,13 +11,14 @@ use lib.Signed.{leZ, ≤ℤ-refl}
 use Rattle.game.specs.Grid.{Grid, cells, safe, size, zeroCell}
 use Rattle.game.specs.Lists.{has, some-of}
 use Rattle.game.specs.Openings.{holds, openings, unlabelled}
-use Rattle.game.specs.Position.{Position, Tidy, closed, closedSafe, cost, gain, opened, premium}
+use Rattle.game.specs.Position.{Position, Tidy, closed, closedSafe, cost, gain, opened, premium, unopened}
 use Rattle.game.specs.Rounds.{Choice, choice, chords, clicks, closedUnitCell, highest, leastChosen, looked, same, topCells, unitCells, width}
 use Rattle.game.proofs.Counts.{count-find}
 use Rattle.game.proofs.Labels.{labelled→zero}
 use Rattle.game.proofs.Members.{first-of, has-cases, has-keep, has-length, keep-has, rest-of}
 use Rattle.game.proofs.Reveal.{zero-safe}
 use Rattle.game.proofs.Squares.{cells→, →cells}
+use Rattle.game.proofs.Tidy.{tidy-unopened}
 use Rattle.game.proofs.Truth.{and-both, and-left, and-not, and-right, or-cases, or-left, or-right}
 
 -- ---- the order of whole numbers
@@ -144,8 +145,8 @@ unit-some : (g : Grid) (s : Position) → Tidy g s → 1 ≤ closedSafe g s → 
 unfolding closedSafe
 unit-some g s f h = go (unlabelled g j) refl
   where
-    w : (x : ℕ) × T (has x (cells g)) × T (safe g x && closed s x)
-    w = count-find (λ i. safe g i && closed s i) (cells g) h
+    w : (x : ℕ) × T (has x (cells g)) × T (safe g x && unopened s x)
+    w = count-find (λ i. safe g i && unopened s i) (cells g) h
 
     j : ℕ
     j = w .0
@@ -154,10 +155,10 @@ unit-some g s f h = go (unlabelled g j) refl
     hj = cells→ g j (w .1)
 
     sj : T (safe g j)
-    sj = and-left (safe g j) (closed s j) (w .2)
+    sj = and-left (safe g j) (unopened s j) (w .2)
 
     cj : T (closed s j)
-    cj = and-right (safe g j) (closed s j) (w .2)
+    cj = subst T (tidy-unopened g s j f hj sj) (and-right (safe g j) (unopened s j) (w .2))
 
     go : (b : Bool) → unlabelled g j ≡ b → (i : ℕ) × T (has i (unitCells g s))
     go true e = (j, →unit g s j (record { inside = hj; is-safe = sj; is-closed = cj; which = inr (rw e tt) }))

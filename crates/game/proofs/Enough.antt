@@ -14,7 +14,7 @@ use borrow.Author.Tests.{eq-eqb}
 use Rattle.game.specs.Calls.{Answer, Check, Refusal, draws, drawnRound, drawnSearch, firstGiven, gridChecks, listCheck, numberOf, randomRoundCall, randomSearchCall, refuses, rounds, roundsCheck, unless, unlessListed}
 use Rattle.game.specs.Draws.{Drawn, draw, lent}
 use Rattle.game.specs.Grid.{Grid, mine, number, square}
-use Rattle.game.specs.Openings.{grow, joinedTo, openings, threeBV}
+use Rattle.game.specs.Openings.{chainedTo, grow, openings, threeBV}
 use Rattle.game.specs.Position.{Position, closedSafe, cost, gain, premium, untouched}
 use Rattle.game.specs.Rounds.{Round, Searched, Step, before, choice, randomFrom, randomRound, randomSearch, searchFrom, stepOf, topCells, unitCells, width}
 use Rattle.game.proofs.Checks.{given-append, given-each, orElse}
@@ -94,7 +94,7 @@ pair = record { rows = 1; columns = 2; values = pos 0 ∷ pos 0 ∷ [] }
 
 -- fewer are not enough for every grid: two safe cells are one unit, and with three bytes their round is dry
 pub three-dry : (threeBV pair ≡ 1) × ((a b c : ℕ) → randomRound pair (lent (a ∷ b ∷ c ∷ [])) 0 ≡ none)
-unfolding mine square number grow joinedTo openings threeBV gain cost premium closedSafe topCells unitCells choice draw randomRound
+unfolding mine square number grow chainedTo openings threeBV gain cost premium closedSafe topCells unitCells choice draw randomRound
 three-dry = (refl, λ a b c. refl)
 
 -- ---- a search

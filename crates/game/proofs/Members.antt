@@ -5,7 +5,7 @@ use native.Mathlib.Decide.{ℕ-discrete}
 use native.Mathlib.Nat.{add-sub-of-le, add-suc, add-zero, sub-self, sub-zero, suc-add, suc-mul, zero-add, zero-mul}
 use mathlib.Core.Path.{_∙_, _≡_, ap, refl, sym}
 use mathlib.Core.Logic.{_⊎_, inl, inr, ⊎-elim}
-use mathlib.Core.Bool.{Bool, _&&_, _||_, false, not, true}
+use mathlib.Core.Bool.{Bool, false, not, true}
 use mathlib.Core.List.{List, [], _++_, _∷_, append-assoc, append-nil, map}
 use lib.Dec.{T, T-not, eqb, eqb-refl, eqb→eq}
 use lib.ListN.{getD, length}
@@ -22,6 +22,10 @@ has-tail x y xs t = or-right (eqb x y) (has x xs) t
 
 pub has-cases {ℓ} : {P : Type ℓ} (x y : ℕ) (xs : List ℕ) → (x ≡ y → P) → (T (has x xs) → P) → T (has x (y ∷ xs)) → P
 has-cases x y xs f h t = ⊎-elim (λ e. f (eqb→eq x y e)) h (or-cases (eqb x y) (has x xs) t)
+
+-- what stands in the list of one cell
+pub only-one : (x i : ℕ) → T (has x (i ∷ [])) → x ≡ i
+only-one x i t = has-cases x i [] (λ e. e) (λ r. absurd r) t
 
 -- what holds of each of a list holds of the first
 pub first-of : {P : ℕ → Type 0} (x : ℕ) (xs : List ℕ) → ((y : ℕ) → T (has y (x ∷ xs)) → P y) → P x
@@ -149,9 +153,17 @@ yes-some f (y ∷ xs) t =
     (λ r. let h = yes-some f xs r in (h .0, has-tail (h .0) y xs (h .1), h .2))
     (or-cases (f y) (some-of f xs) t)
 
-pub some-ext : (f h : ℕ → Bool) (xs : List ℕ) → ((x : ℕ) → f x ≡ h x) → some-of f xs ≡ some-of h xs
-some-ext f h [] e = refl
-some-ext f h (x ∷ xs) e = ap (λ (b : Bool). b || some-of f xs) (e x) ∙ ap (λ (b : Bool). h x || b) (some-ext f h xs e)
+-- one passes the one test in the one list, so one passes the other in the other
+pub some-into : (f h : ℕ → Bool) (xs ys : List ℕ) → ((x : ℕ) → T (has x xs) → T (f x) → T (has x ys) × T (h x)) → T (some-of f xs) → T (some-of h ys)
+some-into f h xs ys m t =
+    let w = yes-some f xs t in
+    let r = m (w .0) (w .1) (w .2) in
+    some-yes h (w .0) ys (r .0) (r .1)
+
+-- tests that agree on a list
+pub some-same : (f h : ℕ → Bool) (xs : List ℕ) → ((x : ℕ) → T (has x xs) → f x ≡ h x) → some-of f xs ≡ some-of h xs
+some-same f h [] e = refl
+some-same f h (x ∷ xs) e = rw (first-of x xs e, some-same f h xs (rest-of x xs e))
 
 pub all-has : (f : ℕ → Bool) (x : ℕ) (xs : List ℕ) → T (has x xs) → T (all-of f xs) → T (f x)
 all-has f x [] t u = absurd t
@@ -161,11 +173,6 @@ all-has f x (y ∷ xs) t u =
 pub all-give : (f : ℕ → Bool) (xs : List ℕ) → ((x : ℕ) → T (has x xs) → T (f x)) → T (all-of f xs)
 all-give f [] h = tt
 all-give f (x ∷ xs) h = and-both (f x) (all-of f xs) (first-of x xs h) (all-give f xs (rest-of x xs h))
-
-pub all-ext : (f h : ℕ → Bool) (xs : List ℕ) → ((x : ℕ) → T (has x xs) → f x ≡ h x) → all-of f xs ≡ all-of h xs
-all-ext f h [] e = refl
-all-ext f h (x ∷ xs) e =
-    ap (λ (b : Bool). b && all-of f xs) (first-of x xs e) ∙ ap (λ (b : Bool). h x && b) (all-ext f h xs (rest-of x xs e))
 
 -- ---- places
 
@@ -231,14 +238,6 @@ length-fold f w (x ∷ xs) h = length-fold f (f w x) xs h ∙ h w x
 pub fold-map {ℓ} : {S : Type ℓ} (f : S → ℕ → S) (h : ℕ → ℕ) (s : S) (xs : List ℕ) → fold f s (map h xs) ≡ fold (λ t x. f t (h x)) s xs
 fold-map f h s [] = refl
 fold-map f h s (x ∷ xs) = fold-map f h (f s (h x)) xs
-
-pub fold-concat-map {ℓ} : {S : Type ℓ} (f : S → ℕ → S) (h : ℕ → List ℕ) (s : S) (xs : List ℕ) → fold f s (concat-map h xs) ≡ fold (λ t x. fold f t (h x)) s xs
-fold-concat-map f h s [] = refl
-fold-concat-map f h s (x ∷ xs) = fold-append f s (h x) (concat-map h xs) ∙ fold-concat-map f h (fold f s (h x)) xs
-
-pub fold-ext {ℓ} : {S : Type ℓ} (f h : S → ℕ → S) (s : S) (xs : List ℕ) → ((t : S) (x : ℕ) → f t x ≡ h t x) → fold f s xs ≡ fold h s xs
-fold-ext f h s [] e = refl
-fold-ext f h s (x ∷ xs) e = ap (λ t. fold f t xs) (e s x) ∙ fold-ext f h (h s x) xs e
 
 pub concat-map-append {ℓ κ} : {A : Type ℓ} {B : Type κ} (f : A → List B) (xs ys : List A) → concat-map f (xs ++ ys) ≡ concat-map f xs ++ concat-map f ys
 concat-map-append f [] ys = refl

@@ -6,7 +6,6 @@ use native.Mathlib.Nat.{add-zero}
 use mathlib.Core.Path.{_∙_, _≡_, ap, refl, subst, sym}
 use mathlib.Core.Bool.{Bool, _&&_, false, not, true}
 use mathlib.Core.List.{List, [], _++_, _∷_, map}
-use mathlib.Core.Option.{none}
 use lib.Dec.{T, T-not}
 use lib.ListN.{List·getD-map, getD, length, length-map}
 use Rattle.game.specs.Grid.{Grid, size, zeroCell}

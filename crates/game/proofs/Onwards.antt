@@ -10,7 +10,8 @@ use Rattle.game.specs.Rounds.{firstClicks, firstSteps, greedySteps, move
 use Rattle.game.proofs.Rounds.{clicks-run, steps-end, steps-run}
 use Rattle.game.proofs.Runs.{Run, moves-append, run-append, run-falls, run-tidy}
 use Rattle.game.proofs.Squares.{cells→}
-use Rattle.game.proofs.Units.{after-append, units-untouched}
+use Rattle.game.proofs.Narrow.{after-append}
+use Rattle.game.proofs.Units.{units-untouched}
 
 -- a greedy or openings-first round goes on from the untouched position
 pub round-on : (first : Bool) (g : Grid) → roundSteps first g ≡ stepsOn first g (untouched g)

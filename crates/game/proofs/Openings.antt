@@ -6,12 +6,11 @@ use mathlib.Core.Path.{refl, subst}
 use mathlib.Core.Logic.{_⊎_, inl, inr, ⊎-elim}
 use mathlib.Core.Bool.{Bool, _&&_, false, not, true}
 use mathlib.Core.List.{List, [], _++_, _∷_}
-use mathlib.Core.Option.{none}
 use lib.Dec.{T, T-not, eqb, eqb→eq}
 use Rattle.game.specs.Grid.{Grid, cells, size, square, zeroCell}
 use Rattle.game.specs.Lists.{Each, again, count, fold, has, some-of}
-use Rattle.game.specs.Openings.{Joined, gather, grow, itself, joinedTo, onward, openings}
-use Rattle.game.proofs.Chains.{joined-close, joined-first, joined-last, joined-sym, joined-trans}
+use Rattle.game.specs.Openings.{Chain, Joined, chainedTo, gather, grow, itself, joinedTo, onward, openings}
+use Rattle.game.proofs.Chains.{Passes, chain-close, chain-first, chain-last, chain-trans, joined-last, joined-sym, joined-trans, zero-passes}
 use Rattle.game.proofs.Counts.{count-le, count-one, count-same}
 use Rattle.game.proofs.Members.{fold-inv, has-head, has-keep, keep-has, some-yes, yes-some}
 use Rattle.game.proofs.Orders.{Ordered, ordered-keep, ordered-range}
@@ -21,106 +20,115 @@ use Rattle.game.proofs.Zeros.{Zero}
 
 -- ---- one turn of `grow`
 
-grow→ : (g : Grid) (js : List ℕ) (k : ℕ) → T (has k (grow g js)) → (j : ℕ) × T (has j js) × Zero g k × Close g k j
-unfolding grow
-grow→ g js k t =
-    let a = keep-has (λ k. zeroCell g k && some-of (λ j. has j (square g k)) js) k (cells g) t in
-    let h = cells→ g k (a .0) in
-    let b = yes-some (λ j. has j (square g k)) js (and-right (zeroCell g k) (some-of (λ j. has j (square g k)) js) (a .1)) in
-    (b .0, b .1, record { inside = h; none = and-left (zeroCell g k) (some-of (λ j. has j (square g k)) js) (a .1) }, square→ g k (b .0) h (b .2) .1)
-
-→grow : (g : Grid) (js : List ℕ) (j k : ℕ) → T (has j js) → j < size g → Zero g k → Close g k j → T (has k (grow g js))
-unfolding grow
-→grow g js j k t hj z c =
-    has-keep (λ k. zeroCell g k && some-of (λ j. has j (square g k)) js) k (cells g) (→cells g k (z .inside))
-    (and-both (zeroCell g k) (some-of (λ j. has j (square g k)) js) (z .none)
-    (some-yes (λ j. has j (square g k)) j js t (→square g k j (z .inside) hj c)))
-
--- a set of 0-cells joined to z
-Chained : Grid → ℕ → List ℕ → Type 0
-Chained g z js = (k : ℕ) → T (has k js) → Joined g z k
-
-chained-grow : (g : Grid) (z : ℕ) (js : List ℕ) → Chained g z js → Chained g z (grow g js)
-unfolding Chained
-chained-grow g z js h k t =
-    let a = grow→ g js k t in
-    let j = h (a .0) (a .1) in
-    joined-trans g z (a .0) k j (joined-close g (a .0) k (joined-last g z (a .0) j) (a .2) (close-sym g k (a .0) (a .3)))
-
-chained : (g : Grid) (z : ℕ) → Zero g z → (n : ℕ) → Chained g z (again (grow g) n (z ∷ []))
-unfolding Chained
-chained g z h zero k t =
-    ⊎-elim (λ e. rw (eqb→eq k z e) (itself (h .inside) (h .none))) (λ r. absurd r) (or-cases (eqb k z) (has k []) t)
-chained g z h (suc n) k t = chained-grow g z (again (grow g) n (z ∷ [])) (chained g z h n) k t
-
--- a set of 0-cells grows, and stays as it is once it does not
-grow-more : (g : Grid) (z : ℕ) (js : List ℕ) → Chained g z js → (k : ℕ) → T (has k js) → T (has k (grow g js))
-unfolding Chained
-grow-more g z js h k t =
-    let zk = joined-last g z k (h k t) in
-    →grow g js k k t (zk .inside) zk (self-close g k)
-
-grow-mono : (g : Grid) (js ks : List ℕ) → ((k : ℕ) → T (has k js) → T (has k ks)) → ((k : ℕ) → T (has k ks) → k < size g) → (k : ℕ) → T (has k (grow g js)) → T (has k (grow g ks))
-grow-mono g js ks m s k t =
-    let a = grow→ g js k t in
-    →grow g ks (a .0) k (m (a .0) (a .1)) (s (a .0) (m (a .0) (a .1))) (a .2) (a .3)
-
-Fixed : Grid → List ℕ → Type 0
-Fixed g js = (k : ℕ) → T (has k (grow g js)) → T (has k js)
-
-fixed-grow : (g : Grid) (z : ℕ) (js : List ℕ) → Chained g z js → Fixed g js → Fixed g (grow g js)
-unfolding Fixed Chained
-fixed-grow g z js c f k t =
-    grow-mono g (grow g js) js f (λ i u. joined-last g z i (c i u) .inside) k t
-
 pub members : Grid → List ℕ → ℕ
 members g js = count (λ k. has k js) (cells g)
 
--- after n turns the set is fixed or has more than n cells
-turns : (g : Grid) (z : ℕ) → Zero g z → (n : ℕ) → Fixed g (again (grow g) n (z ∷ [])) ⊎ (n < members g (again (grow g) n (z ∷ [])))
-unfolding Fixed members
-turns g z h zero = inr (count-one (λ k. has k (z ∷ [])) z (cells g) (→cells g z (h .inside)) (has-head z z [] refl))
-turns g z h (suc n) = go (turns g z h n)
-  where
-    js : List ℕ
-    js = again (grow g) n (z ∷ [])
+module _ (g : Grid) (p : ℕ → Bool) where
+  grow→ : (js : List ℕ) (k : ℕ) → T (has k (grow g p js)) → (j : ℕ) × T (has j js) × Passes g p k × Close g k j
+  unfolding grow
+  grow→ js k t =
+      let a = keep-has (λ k. p k && some-of (λ j. has j (square g k)) js) k (cells g) t in
+      let h = cells→ g k (a .0) in
+      let b = yes-some (λ j. has j (square g k)) js (and-right (p k) (some-of (λ j. has j (square g k)) js) (a .1)) in
+      (b .0, b .1, record { inside = h; test = and-left (p k) (some-of (λ j. has j (square g k)) js) (a .1) }, square→ g k (b .0) h (b .2) .1)
 
-    c : Chained g z js
-    c = chained g z h n
+  →grow : (js : List ℕ) (j k : ℕ) → T (has j js) → j < size g → Passes g p k → Close g k j → T (has k (grow g p js))
+  unfolding grow
+  →grow js j k t hj z c =
+      has-keep (λ k. p k && some-of (λ j. has j (square g k)) js) k (cells g) (→cells g k (z .inside))
+      (and-both (p k) (some-of (λ j. has j (square g k)) js) (z .test)
+      (some-yes (λ j. has j (square g k)) j js t (→square g k j (z .inside) hj c)))
 
-    go : Fixed g js ⊎ (n < members g js) → Fixed g (grow g js) ⊎ (suc n < members g (grow g js))
-    go (inl f) = inl (fixed-grow g z js c f)
-    go (inr l) =
-        elim (decLe (members g (grow g js)) (members g js)) [
-          | yes e ↦ inl (fixed-grow g z js c (λ k t.
-              count-same (λ k. has k js) (λ k. has k (grow g js)) (cells g) (grow-more g z js c) e k
-              (→cells g k (grow→ g js k t .2 .inside)) t))
-          | no f ↦ inr (omega arith)
-        ]
+  -- a set of cells that chains join to z
+  Chained : ℕ → List ℕ → Type 0
+  Chained z js = (k : ℕ) → T (has k js) → Chain g p z k
 
-fixed : (g : Grid) (z : ℕ) → Zero g z → Fixed g (joinedTo g z)
-unfolding joinedTo members
-fixed g z h =
-    ⊎-elim (λ f. f) (λ l. absurd (omega (arith, l, count-le (λ k. has k (joinedTo g z)) (cells g), length-cells g))) (turns g z h (size g))
+  chained-grow : (z : ℕ) (js : List ℕ) → Chained z js → Chained z (grow g p js)
+  unfolding Chained
+  chained-grow z js h k t =
+      let a = grow→ js k t in
+      let j = h (a .0) (a .1) in
+      chain-trans g p z (a .0) k j (chain-close g p (a .0) k (chain-last g p z (a .0) j) (a .2) (close-sym g k (a .0) (a .3)))
 
--- ---- the computed set is the set of the cells joined to z
+  chained : (z : ℕ) → Passes g p z → (n : ℕ) → Chained z (again (grow g p) n (z ∷ []))
+  unfolding Chained
+  chained z h zero k t =
+      ⊎-elim (λ e. rw (eqb→eq k z e) (itself (h .inside) (h .test))) (λ r. absurd r) (or-cases (eqb k z) (has k []) t)
+  chained z h (suc n) k t = chained-grow z (again (grow g p) n (z ∷ [])) (chained z h n) k t
+
+  -- such a set grows, and stays as it is once it does not
+  grow-more : (z : ℕ) (js : List ℕ) → Chained z js → (k : ℕ) → T (has k js) → T (has k (grow g p js))
+  unfolding Chained
+  grow-more z js h k t =
+      let zk = chain-last g p z k (h k t) in
+      →grow js k k t (zk .inside) zk (self-close g k)
+
+  grow-mono : (js ks : List ℕ) → ((k : ℕ) → T (has k js) → T (has k ks)) → ((k : ℕ) → T (has k ks) → k < size g) → (k : ℕ) → T (has k (grow g p js)) → T (has k (grow g p ks))
+  grow-mono js ks m s k t =
+      let a = grow→ js k t in
+      →grow ks (a .0) k (m (a .0) (a .1)) (s (a .0) (m (a .0) (a .1))) (a .2) (a .3)
+
+  Fixed : List ℕ → Type 0
+  Fixed js = (k : ℕ) → T (has k (grow g p js)) → T (has k js)
+
+  fixed-grow : (z : ℕ) (js : List ℕ) → Chained z js → Fixed js → Fixed (grow g p js)
+  unfolding Fixed Chained
+  fixed-grow z js c f k t =
+      grow-mono (grow g p js) js f (λ i u. chain-last g p z i (c i u) .inside) k t
+
+  -- after n turns the set is fixed or has more than n cells
+  turns : (z : ℕ) → Passes g p z → (n : ℕ) → Fixed (again (grow g p) n (z ∷ [])) ⊎ (n < members g (again (grow g p) n (z ∷ [])))
+  unfolding Fixed members
+  turns z h zero = inr (count-one (λ k. has k (z ∷ [])) z (cells g) (→cells g z (h .inside)) (has-head z z [] refl))
+  turns z h (suc n) = go (turns z h n)
+    where
+      js : List ℕ
+      js = again (grow g p) n (z ∷ [])
+
+      c : Chained z js
+      c = chained z h n
+
+      go : Fixed js ⊎ (n < members g js) → Fixed (grow g p js) ⊎ (suc n < members g (grow g p js))
+      go (inl f) = inl (fixed-grow z js c f)
+      go (inr l) =
+          elim (decLe (members g (grow g p js)) (members g js)) [
+            | yes e ↦ inl (fixed-grow z js c (λ k t.
+                count-same (λ k. has k js) (λ k. has k (grow g p js)) (cells g) (grow-more z js c) e k
+                (→cells g k (grow→ js k t .2 .inside)) t))
+            | no f ↦ inr (omega arith)
+          ]
+
+  fixed : (z : ℕ) → Passes g p z → Fixed (chainedTo g p z)
+  unfolding chainedTo members
+  fixed z h =
+      ⊎-elim (λ f. f) (λ l. absurd (omega (arith, l, count-le (λ k. has k (chainedTo g p z)) (cells g), length-cells g))) (turns z h (size g))
+
+  -- ---- the computed set is the set of the cells that chains join to z
+
+  pub chainedTo→ : (z k : ℕ) → Passes g p z → T (has k (chainedTo g p z)) → Chain g p z k
+  unfolding chainedTo Chained
+  chainedTo→ z k h t = chained z h (size g) k t
+
+  chain-stays : (z : ℕ) → Passes g p z → (n : ℕ) → T (has z (again (grow g p) n (z ∷ [])))
+  chain-stays z h zero = has-head z z [] refl
+  chain-stays z h (suc n) = grow-more z (again (grow g p) n (z ∷ [])) (chained z h n) z (chain-stays z h n)
+
+  pub →chainedTo : (z k : ℕ) → Chain g p z k → T (has k (chainedTo g p z))
+  unfolding chainedTo Fixed
+  →chainedTo z k (itself h n) = chain-stays z (record { inside = h; test = n }) (size g)
+  →chainedTo z k (onward {b = b} j t n) =
+      let zz = chain-first g p z b j in
+      let zb = chain-last g p z b j in
+      let s = square→ g b k (zb .inside) t in
+      fixed z zz k (→grow (chainedTo g p z) b k (→chainedTo z b j) (zb .inside) (record { inside = s .0; test = n }) (close-sym g b k (s .1)))
+
+-- ---- of 0-cells
 
 pub joinedTo→ : (g : Grid) (z k : ℕ) → Zero g z → T (has k (joinedTo g z)) → Joined g z k
-unfolding joinedTo Chained
-joinedTo→ g z k h t = chained g z h (size g) k t
-
-stays : (g : Grid) (z : ℕ) → Zero g z → (n : ℕ) → T (has z (again (grow g) n (z ∷ [])))
-stays g z h zero = has-head z z [] refl
-stays g z h (suc n) = grow-more g z (again (grow g) n (z ∷ [])) (chained g z h n) z (stays g z h n)
+joinedTo→ g z k h t = chainedTo→ g (zeroCell g) z k (zero-passes g z h) t
 
 pub →joinedTo : (g : Grid) (z k : ℕ) → Joined g z k → T (has k (joinedTo g z))
-unfolding joinedTo Fixed
-→joinedTo g z k (itself h n) = stays g z (record { inside = h; none = n }) (size g)
-→joinedTo g z k (onward {b = b} j t n) =
-    let zz = joined-first g z b j in
-    let zb = joined-last g z b j in
-    let s = square→ g b k (zb .inside) t in
-    fixed g z zz k (→grow g (joinedTo g z) b k (→joinedTo g z b j) (zb .inside) (record { inside = s .0; none = n }) (close-sym g b k (s .1)))
+→joinedTo g z k j = →chainedTo g (zeroCell g) z k j
 
 -- ---- the list of openings
 
@@ -171,13 +179,13 @@ each-snoc P [] o e p = (p, tt)
 each-snoc P (q ∷ os) o e p = (e .0, each-snoc P os o (e .1) p)
 
 pub ordered-joinedTo : (g : Grid) (z : ℕ) → Ordered _<_ (joinedTo g z)
-unfolding joinedTo grow
+unfolding chainedTo grow
 ordered-joinedTo g z = go (size g)
   where
-    go : (n : ℕ) → Ordered _<_ (again (grow g) n (z ∷ []))
+    go : (n : ℕ) → Ordered _<_ (again (grow g (zeroCell g)) n (z ∷ []))
     go zero = ((λ y t. absurd t), tt)
     go (suc n) =
-        ordered-keep _<_ (λ k. zeroCell g k && some-of (λ j. has j (square g k)) (again (grow g) n (z ∷ []))) (cells g) (ordered-range 0 (size g))
+        ordered-keep _<_ (λ k. zeroCell g k && some-of (λ j. has j (square g k)) (again (grow g (zeroCell g)) n (z ∷ []))) (cells g) (ordered-range 0 (size g))
 
 full-joinedTo : (g : Grid) (i : ℕ) → Zero g i → Full g (joinedTo g i)
 full-joinedTo g i z =
@@ -234,12 +242,11 @@ gather-old g os i a t = go (zeroCell g i && not (some-of (has i) os))
     go false = t
 
 pub gather-new : (g : Grid) (os : List (List ℕ)) (i : ℕ) → Zero g i → In i (gather g os i)
-unfolding joinedTo
 gather-new g os i z = go (some-of (has i) os) (λ t. t) (zeroCell g i) (z .none)
   where
     go : (b : Bool) → (T b → In i os) → (c : Bool) → T c → In i (elim (c && not b) [ true ↦ os ++ (joinedTo g i ∷ []) | false ↦ os ])
     go true f true t = f tt
-    go false f true t = snoc-new i os (joinedTo g i) (stays g i z (size g))
+    go false f true t = snoc-new i os (joinedTo g i) (→joinedTo g i i (itself (z .inside) (z .none)))
     go b f false t = absurd t
 
 fold-old : (g : Grid) (xs : List ℕ) (os : List (List ℕ)) (a : ℕ) → In a os → In a (fold (gather g) os xs)

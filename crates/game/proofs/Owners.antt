@@ -1,15 +1,16 @@
 -- The one opening that has a 0-cell: counts over the openings that turn on it. Assumes nothing.
 use Prim.Native.Nat.{ℕ}
 use native.Mathlib.Omega.{arith}
-use mathlib.Core.Path.{_≡_, ap, refl, subst}
+use mathlib.Core.Path.{_≡_, ap, refl}
 use mathlib.Core.Bool.{Bool, _&&_, _||_, false, true}
 use mathlib.Core.List.{List, [], _∷_}
-use lib.Dec.{T}
+use lib.Dec.{T, eqb→eq}
+use lib.ListN.{getD}
 use Rattle.game.specs.Grid.{Grid, square}
 use Rattle.game.specs.Lists.{Each, bit, count, has, some-of}
-use Rattle.game.specs.Openings.{Joined, holds, itself, joinedTo, openings}
-use Rattle.game.specs.Position.{Position, closed, openingClosed}
-use Rattle.game.proofs.Members.{all-give, some-ext}
+use Rattle.game.specs.Openings.{holds, itself, joinedTo, openings}
+use Rattle.game.specs.Position.{Position, closed, openingClosed, unopened}
+use Rattle.game.proofs.Members.{some-same, some-yes}
 use Rattle.game.proofs.Openings.{Apart, Full, In, covered, good, joinedTo→, →joinedTo}
 use Rattle.game.proofs.Truth.{T→true, iff, no→false, or-left, or-right}
 use Rattle.game.proofs.Zeros.{Zero}
@@ -63,15 +64,13 @@ owner g c z = owner-in g c (openings g) z (good g .apart) (good g .full) (covere
 -- it holds what the cells joined to c hold
 pub same-holds : (g : Grid) (c x : ℕ) (o : List ℕ) → Zero g c → Full g o → T (has c o) → holds g x o ≡ holds g x (joinedTo g c)
 same-holds g c x o z f t =
-    some-ext (λ j. has j o) (λ j. has j (joinedTo g c)) (square g x) (λ j. iff (has j o) (has j (joinedTo g c))
+    some-same (λ j. has j o) (λ j. has j (joinedTo g c)) (square g x) (λ j m. iff (has j o) (has j (joinedTo g c))
     (λ u. →joinedTo g c j (f .linked c j t u)) (λ u. f .joined-in c j t (joinedTo→ g c j z u)))
 
--- the 0-cells of each opening are closed together
-unfoldable pub Even : Grid → Position → Type 0
-Even g s = (a b : ℕ) → Joined g a b → closed s a ≡ closed s b
+-- a closed cell is not opened
+pub closed-unopened : (s : Position) (i : ℕ) → T (closed s i) → T (unopened s i)
+closed-unopened s i t = rw (eqb→eq (getD s i 0) 0 t) tt
 
--- so the opening of a closed 0-cell is closed
-pub even-closed : (g : Grid) (s : Position) (o : List ℕ) (c : ℕ) → Even g s → Full g o → T (has c o) → T (closed s c) → openingClosed s o ≡ true
-unfolding Even
-even-closed g s o c e f t u =
-    T→true (openingClosed s o) (all-give (closed s) o (λ x v. subst T (e c x (f .linked c x t v)) u))
+-- the opening of a closed 0-cell is closed
+pub opening-shut : (s : Position) (o : List ℕ) (c : ℕ) → T (has c o) → T (closed s c) → openingClosed s o ≡ true
+opening-shut s o c t u = T→true (openingClosed s o) (some-yes (unopened s) c o t (closed-unopened s c u))

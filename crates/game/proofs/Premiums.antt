@@ -5,7 +5,7 @@ use native.Mathlib.Decide.{ℕ-discrete}
 use mathlib.Core.Path.{_∙_, _≡_, ap, refl, subst, sym}
 use mathlib.Core.Bool.{Bool, _&&_, cond, false, not, true}
 use mathlib.Core.List.{List}
-use lib.Dec.{T, eqb, eqb→eq}
+use lib.Dec.{T, eqb, eqb→eq, not-T}
 use lib.IntN.{+ℤ-assoc, +ℤ-comm, +ℤ-negℤ-cancel, -ℤ-+ℤ-cancel, _+ℤ_, _-ℤ_, negℤ, negℤ-+ℤ, pos, ℤ}
 use lib.ListN.{getD, length, set}
 use lib.Seq.{getD-set-other, getD-set-same}
@@ -13,13 +13,15 @@ use Rattle.game.specs.Grid.{Grid, mine, safe, size, square, zeroCell}
 use Rattle.game.specs.Lists.{bit, has}
 use Rattle.game.specs.Moves.{reveal, sweep}
 use Rattle.game.specs.Openings.{holds, joinedTo, openings, unlabelled}
-use Rattle.game.specs.Position.{Position, cellUnit, closed, cost, flagged, gain, openingClosed, premium, unflagged}
+use Rattle.game.specs.Position.{Position, Tidy, cellUnit, closed, cost, flagged, gain, openingClosed, premium, unflagged, unopened}
 use Rattle.game.proofs.Counts.{bit-yes, count-drop, count-each, count-ext, count-split, each-map}
-use Rattle.game.proofs.Members.{all-ext}
+use Rattle.game.proofs.Members.{some-same}
+use Rattle.game.proofs.Opened.{reveal-opening}
 use Rattle.game.proofs.Openings.{Full, good}
-use Rattle.game.proofs.Owners.{Even, even-closed, owner, same-holds}
-use Rattle.game.proofs.Reveal.{Revealed, flag-stays, getD-sweep, mine-off, opens, reveal-opening, revealed, stays, sweeps, unlabelled-off, unlabelled-safe, zero-safe}
+use Rattle.game.proofs.Owners.{closed-unopened, opening-shut, owner, same-holds}
+use Rattle.game.proofs.Reveal.{Revealed, flag-stays, getD-sweep, mine-off, opens, revealed, stays, sweeps, unlabelled-off, unlabelled-safe, zero-safe}
 use Rattle.game.proofs.Squares.{once-square, square→}
+use Rattle.game.proofs.Tidy.{tidy-unopened}
 use Rattle.game.proofs.Truth.{T→true, and-false, and-inside, and-true, and-under, no→false}
 use Rattle.game.proofs.Zeros.{Zero}
 use borrow.Author.Tests.{eq-eqb, ne-eqb}
@@ -55,8 +57,8 @@ module _ (g : Grid) (s : Position) (c : ℕ) (inside : c < size g) (long : lengt
   state-c : getD (set s c 1) c 0 ≡ 1
   state-c = getD-set-same s c 1 0 (omega arith)
 
-  closed-off : (x : ℕ) → (x ≡ c → ⊥) → closed (set s c 1) x ≡ closed s x
-  closed-off x n = ap (λ (k : ℕ). eqb k 0) (getD-set-other s c x 1 0 n)
+  unopened-off : (x : ℕ) → (x ≡ c → ⊥) → unopened (set s c 1) x ≡ unopened s x
+  unopened-off x n = ap (λ (k : ℕ). not (eqb k 1)) (getD-set-other s c x 1 0 n)
 
   flags-stay : (j : ℕ) → flagged (set s c 1) j ≡ flagged s j
   flags-stay j =
@@ -73,19 +75,19 @@ module _ (g : Grid) (s : Position) (c : ℕ) (inside : c < size g) (long : lengt
       let a = count-ext (unflagged g (set s c 1)) (unflagged g s) (square g x) (λ j t. ap (λ (b : Bool). mine g j && not b) (flags-stay j)) in
       elim (ℕ-discrete x c) [
         | yes e ↦
-            let b = ap (λ (k : ℕ). bit (eqb k 0)) (ap (λ (k : ℕ). getD (set s c 1) k 0) e ∙ state-c) in
-            let d = bit-yes (closed s x) (rw e shut) in
+            let b = ap (λ (k : ℕ). bit (not (eqb k 1))) (ap (λ (k : ℕ). getD (set s c 1) k 0) e ∙ state-c) in
+            let d = bit-yes (unopened s x) (rw e (closed-unopened s c shut)) in
             let k = ap bit (eq-eqb x c e) in
             omega arith
         | no n ↦
-            let b = ap bit (closed-off x n) in
+            let b = ap bit (unopened-off x n) in
             let k = ap bit (ne-eqb x c n) in
             omega arith
       ]
 
   openings-stay : (o : List ℕ) → Full g o → openingClosed (set s c 1) o ≡ openingClosed s o
   openings-stay o f =
-      all-ext (closed (set s c 1)) (closed s) o (λ z t. closed-off z (λ e. nonzero (subst (λ (k : ℕ). T (zeroCell g k)) e (f .zero-cell z t .none))))
+      some-same (unopened (set s c 1)) (unopened s) o (λ z t. unopened-off z (λ e. nonzero (subst (λ (k : ℕ). T (zeroCell g k)) e (f .zero-cell z t .none))))
 
   -- each cell in its square gains one less, if it has no label
   pub open-gain : (x : ℕ) → gain g s x ≡ gain g (set s c 1) x + bit (has c (square g x) && unlabelled g c)
@@ -94,10 +96,10 @@ module _ (g : Grid) (s : Position) (c : ℕ) (inside : c < size g) (long : lengt
       let a = count-each (λ o. holds g x o && openingClosed (set s c 1) o) (λ o. holds g x o && openingClosed s o) (openings g)
       (each-map (openings g) (λ o f. ap (λ (b : Bool). holds g x o && b) (openings-stay o f)) (good g .full)) in
       let b = count-drop (cellUnit g s) (cellUnit g (set s c 1)) c (square g x) (once-square g x)
-      (λ j n. ap (λ (b : Bool). unlabelled g j && b) (sym (closed-off j n)))
-      (ap (λ (k : ℕ). unlabelled g c && eqb k 0) state-c ∙ sym (and-false (unlabelled g c))) in
+      (λ j n. ap (λ (b : Bool). unlabelled g j && b) (sym (unopened-off j n)))
+      (ap (λ (k : ℕ). unlabelled g c && not (eqb k 1)) state-c ∙ sym (and-false (unlabelled g c))) in
       let d = ap (λ (b : Bool). bit (has c (square g x) && b))
-      (ap (λ (b : Bool). unlabelled g c && b) (T→true (closed s c) shut) ∙ sym (and-true (unlabelled g c))) in
+      (ap (λ (b : Bool). unlabelled g c && b) (T→true (unopened s c) (closed-unopened s c shut)) ∙ sym (and-true (unlabelled g c))) in
       omega arith
 
   -- -1 in the square of a cell without label, +1 at the cell itself
@@ -108,14 +110,17 @@ module _ (g : Grid) (s : Position) (c : ℕ) (inside : c < size g) (long : lengt
 -- ---- a mine is flagged
 
 module _ (g : Grid) (s : Position) (m : ℕ) (inside : m < size g) (long : length s ≡ size g) (shut : T (closed s m)) (is-mine : T (mine g m)) where
+  unopened-stays : (j : ℕ) → T (safe g j) → unopened (set s m 2) j ≡ unopened s j
+  unopened-stays j t = ap (λ (k : ℕ). not (eqb k 1)) (flag-stays g s m j is-mine t)
+
   pub flag-gain : (x : ℕ) → gain g s x ≡ gain g (set s m 2) x + 0
   unfolding gain
   flag-gain x =
       let a = count-each (λ o. holds g x o && openingClosed (set s m 2) o) (λ o. holds g x o && openingClosed s o) (openings g)
       (each-map (openings g) (λ o f. ap (λ (b : Bool). holds g x o && b)
-      (all-ext (closed (set s m 2)) (closed s) o (λ z t. flag-stays g s m z is-mine (zero-safe g z (f .zero-cell z t))))) (good g .full)) in
+      (some-same (unopened (set s m 2)) (unopened s) o (λ z t. unopened-stays z (zero-safe g z (f .zero-cell z t))))) (good g .full)) in
       let b = count-ext (cellUnit g (set s m 2)) (cellUnit g s) (square g x)
-      (λ j t. and-under (unlabelled g j) (closed (set s m 2) j) (closed s j) (λ u. flag-stays g s m j is-mine (unlabelled-safe g j u))) in
+      (λ j t. and-under (unlabelled g j) (unopened (set s m 2) j) (unopened s j) (λ u. unopened-stays j (unlabelled-safe g j u))) in
       omega arith
 
   -- each safe cell in its square costs one less
@@ -128,7 +133,7 @@ module _ (g : Grid) (s : Position) (m : ℕ) (inside : m < size g) (long : lengt
       let b = ap (λ (b : Bool). bit (has m (square g x) && b))
       (ap (λ (k : ℕ). mine g m && not (eqb k 2)) (eqb→eq (getD s m 0) 0 shut) ∙ ap (λ (b : Bool). b && true) (T→true (mine g m) is-mine)) in
       let c = ap bit (and-true (has m (square g x))) in
-      let d = ap bit (flag-stays g s m x is-mine t) in
+      let d = ap bit (unopened-stays x t) in
       omega arith
 
   -- +1 in the mine's square
@@ -137,7 +142,7 @@ module _ (g : Grid) (s : Position) (m : ℕ) (inside : m < size g) (long : lengt
 
 -- ---- an opening is swept
 
-module _ (g : Grid) (s : Position) (c : ℕ) (z : Zero g c) (shut : T (closed s c)) where
+module _ (g : Grid) (s : Position) (c : ℕ) (f : Tidy g s) (z : Zero g c) (shut : T (closed s c)) where
   -- L on a closed 0-cell is a sweep
   pub reveal-sweep : reveal g s c ≡ sweep g s c
   reveal-sweep = go (reveal g s c) (revealed g s c)
@@ -148,7 +153,7 @@ module _ (g : Grid) (s : Position) (c : ℕ) (z : Zero g c) (shut : T (closed s 
       go t (sweeps a b k) = refl
 
   swept : (j : ℕ) → j < size g → getD (reveal g s c) j 0 ≡ cond (holds g j (joinedTo g c)) 1 (getD s j 0)
-  swept j h = ap (λ (t : Position). getD t j 0) reveal-sweep ∙ getD-sweep g s c j h
+  swept j h = ap (λ (t : Position). getD t j 0) reveal-sweep ∙ getD-sweep g s c f z shut j h
 
   unswept : (j : ℕ) → j < size g → (T (holds g j (joinedTo g c)) → ⊥) → getD (reveal g s c) j 0 ≡ getD s j 0
   unswept j h n = swept j h ∙ ap (λ (b : Bool). cond b 1 (getD s j 0)) (no→false (holds g j (joinedTo g c)) n)
@@ -161,34 +166,34 @@ module _ (g : Grid) (s : Position) (c : ℕ) (z : Zero g c) (shut : T (closed s 
       (λ j t. and-under (mine g j) (not (flagged (reveal g s c) j)) (not (flagged s j)) (λ u.
       let hj = square→ g x j h t .0 in
       ap (λ (k : ℕ). not (eqb k 2)) (unswept j hj (mine-off g c j z hj u)))) in
-      let b = ap (λ (k : ℕ). bit (eqb k 0)) (swept x h) in
-      let d = one (holds g x (joinedTo g c)) (getD s x 0) in
+      let b = ap (λ (k : ℕ). bit (not (eqb k 1))) (swept x h) in
+      let d = one (holds g x (joinedTo g c)) (getD s x 0) (λ t. tidy-unopened g s x f h (not-T (mine g x) (λ m. mine-off g c x z h m t))) in
       omega arith
     where
-      one : (b : Bool) (k : ℕ) → bit (eqb k 0) ≡ bit (eqb (cond b 1 k) 0) + bit (b && eqb k 0)
-      one true k = omega arith
-      one false k = omega arith
+      one : (b : Bool) (k : ℕ) → (T b → not (eqb k 1) ≡ eqb k 0) → bit (not (eqb k 1)) ≡ bit (not (eqb (cond b 1 k) 1)) + bit (b && eqb k 0)
+      one true k e = omega (arith, ap bit (e tt))
+      one false k e = omega arith
 
   -- a cell of the opening gains one less
-  pub sweep-gain : (x : ℕ) → length s ≡ size g → Even g s → x < size g → gain g s x ≡ gain g (reveal g s c) x + bit (holds g x (joinedTo g c))
+  pub sweep-gain : (x : ℕ) → x < size g → gain g s x ≡ gain g (reveal g s c) x + bit (holds g x (joinedTo g c))
   unfolding gain
-  sweep-gain x l ev h =
+  sweep-gain x h =
       let w = owner g c z in
       let a = count-split (λ o. holds g x o && openingClosed s o) (λ o. has c o) (openings g) in
       let b = count-each (λ o. holds g x o && openingClosed (reveal g s c) o) (λ o. holds g x o && openingClosed s o && not (has c o)) (openings g)
-      (each-map (openings g) (λ o f. sym (and-inside (holds g x o) (openingClosed s o) (openingClosed (reveal g s c) o) (has c o)
-      (λ _. reveal-opening g s c o (z .inside) l f))) (good g .full)) in
+      (each-map (openings g) (λ o k. sym (and-inside (holds g x o) (openingClosed s o) (openingClosed (reveal g s c) o) (has c o)
+      (λ _. reveal-opening g s c o (z .inside) f k))) (good g .full)) in
       let d = w .only (λ o. holds g x o && openingClosed s o) in
       let e : bit (holds g x (w .opening) && openingClosed s (w .opening)) ≡ bit (holds g x (joinedTo g c)) =
-      ap (λ (b : Bool). bit (holds g x (w .opening) && b)) (even-closed g s (w .opening) c ev (w .full) (w .has-it) shut)
+      ap (λ (b : Bool). bit (holds g x (w .opening) && b)) (opening-shut s (w .opening) c (w .has-it) shut)
       ∙ ap bit (sym (and-true (holds g x (w .opening))) ∙ same-holds g c x (w .opening) z (w .full) (w .has-it)) in
       let k = count-ext (cellUnit g (reveal g s c)) (cellUnit g s) (square g x)
-      (λ j t. and-under (unlabelled g j) (closed (reveal g s c) j) (closed s j) (λ u.
-      ap (λ (k : ℕ). eqb k 0) (unswept j (square→ g x j h t .0) (unlabelled-off g j c u z)))) in
+      (λ j t. and-under (unlabelled g j) (unopened (reveal g s c) j) (unopened s j) (λ u.
+      ap (λ (k : ℕ). not (eqb k 1)) (unswept j (square→ g x j h t .0) (unlabelled-off g j c u z)))) in
       omega arith
 
   -- at each cell of the opening -1, and +1 if it was closed
-  pub premium-sweep : (x : ℕ) → length s ≡ size g → Even g s → x < size g
+  pub premium-sweep : (x : ℕ) → x < size g
       → premium g (reveal g s c) x ≡ premium g s x -ℤ pos (bit (holds g x (joinedTo g c))) +ℤ pos (bit (holds g x (joinedTo g c) && closed s x))
-  premium-sweep x l ev h =
-      premium-shift g s (reveal g s c) x (bit (holds g x (joinedTo g c))) (bit (holds g x (joinedTo g c) && closed s x)) (sweep-gain x l ev h) (sweep-cost x h)
+  premium-sweep x h =
+      premium-shift g s (reveal g s c) x (bit (holds g x (joinedTo g c))) (bit (holds g x (joinedTo g c) && closed s x)) (sweep-gain x h) (sweep-cost x h)

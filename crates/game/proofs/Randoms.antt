@@ -19,7 +19,8 @@ use Rattle.game.proofs.Draws.{IfSome, Used, draw-uses, used-on, used-wi
 use Rattle.game.proofs.Rounds.{by-none, by-some, steps-end}
 use Rattle.game.proofs.Runs.{Fits, Run, choice-fits, fit-takes, sound, step-tidy}
 use Rattle.game.proofs.Tidy.{untouched-tidy}
-use Rattle.game.proofs.Units.{after-append, units-untouched}
+use Rattle.game.proofs.Narrow.{after-append}
+use Rattle.game.proofs.Units.{units-untouched}
 
 -- ---- one draw after another
 

@@ -12,15 +12,16 @@ use lib.ListN.{getD, length, length-append, length-map}
 use Rattle.game.specs.Grid.{Grid, columnOf, index, mine, near, number, rowOf, safe, size, square}
 use Rattle.game.specs.Lists.{bit, concat-map, count, has, some-of}
 use Rattle.game.specs.Openings.{holds, labels, openings, places, threeBV, unlabelled}
-use Rattle.game.specs.Position.{Position, cellUnit, closed, cost, flagged, gain, openingClosed, premium, unflagged, untouched}
+use Rattle.game.specs.Position.{Position, cellUnit, cost, flagged, gain, openingClosed, premium, unflagged, unopened, untouched}
 use Rattle.game.proofs.Counts.{bit-le, bit-no, bit-small, count-each, count-ext, count-le, each-map}
 use Rattle.game.proofs.Labels.{at-most-two, labelled→zero, labels-range}
-use Rattle.game.proofs.Members.{all-give, at-most, has-cases, length-from}
+use Rattle.game.proofs.Members.{at-most, has-cases, length-from}
 use Rattle.game.proofs.Openings.{good}
 use Rattle.game.proofs.Reveal.{zero-labelled}
 use Rattle.game.proofs.Squares.{in-own-square, square→}
-use Rattle.game.proofs.Truth.{T→true, and-left, and-true}
-use Rattle.game.proofs.Units.{closed-untouched, units-at-most-cells, untouched-at}
+use Rattle.game.proofs.Truth.{and-left, and-true}
+use Rattle.game.proofs.Units.{units-at-most-cells}
+use Rattle.game.proofs.Untouched.{opening-untouched, unopened-untouched, untouched-at}
 
 -- ---- a square has at most nine cells
 
@@ -81,7 +82,7 @@ gain-range g s i h =
     elim (decLe 1 (count (holds g i) (openings g))) [
       | yes k ↦
           let w = labelled→zero g i (held-some g i (openings g) k) in
-          let f = count-short (cellUnit g s) (w .0) (square g i) (w .1) (λ u. zero-labelled g (w .0) (w .2) (and-left (unlabelled g (w .0)) (closed s (w .0)) u)) in
+          let f = count-short (cellUnit g s) (w .0) (square g i) (w .1) (λ u. zero-labelled g (w .0) (w .2) (and-left (unlabelled g (w .0)) (unopened s (w .0)) u)) in
           omega arith
       | no k ↦ omega arith
     ]
@@ -91,7 +92,7 @@ pub cost-range : (g : Grid) (s : Position) (i : ℕ) → i < size g → T (safe 
 unfolding cost
 cost-range g s i h t =
     let a = count-short (unflagged g s) i (square g i) (in-own-square g i h) (λ u. T-not (mine g i) t (and-left (mine g i) (not (flagged s i)) u)) in
-    omega (arith, length-square g i, bit-small (closed s i))
+    omega (arith, length-square g i, bit-small (unopened s i))
 
 -- ---- the premium
 
@@ -123,7 +124,7 @@ unfolding cost number
 untouched-cost g i h =
     let a = count-ext (unflagged g (untouched g)) (mine g) (square g i)
     (λ j t. ap (λ (k : ℕ). mine g j && not (eqb k 2)) (untouched-at g j (square→ g i j h t .0)) ∙ sym (and-true (mine g j))) in
-    let b = ap bit (closed-untouched g i h) in
+    let b = ap bit (unopened-untouched g i h) in
     omega arith
 
 -- and every unit is closed
@@ -131,11 +132,10 @@ pub untouched-gain : (g : Grid) (i : ℕ) → i < size g → gain g (untouched g
 unfolding gain labels
 untouched-gain g i h =
     let a = count-each (λ o. holds g i o && openingClosed (untouched g) o) (holds g i) (openings g)
-    (each-map (openings g) (λ o f. ap (λ (b : Bool). holds g i o && b) (T→true (openingClosed (untouched g) o)
-    (all-give (closed (untouched g)) o (λ x t. rw (closed-untouched g x (f .zero-cell x t .inside)) tt))) ∙ sym (and-true (holds g i o))) (good g .full)) in
+    (each-map (openings g) (λ o f. ap (λ (b : Bool). holds g i o && b) (opening-untouched g o f) ∙ sym (and-true (holds g i o))) (good g .full)) in
     let b = held-count g i 1 (openings g) in
     let c = count-ext (cellUnit g (untouched g)) (unlabelled g) (square g i)
-    (λ j t. ap (λ (b : Bool). unlabelled g j && b) (closed-untouched g j (square→ g i j h t .0)) ∙ sym (and-true (unlabelled g j))) in
+    (λ j t. ap (λ (b : Bool). unlabelled g j && b) (unopened-untouched g j (square→ g i j h t .0)) ∙ sym (and-true (unlabelled g j))) in
     omega arith
 
 -- ---- labels

@@ -2,16 +2,21 @@
 use Prim.Native.Nat.{ℕ, _%_, _*_, _+_, _/_, _<_, _≤_, suc}
 use native.Mathlib.Omega.{arith}
 use mathlib.Core.Path.{_∙_, _≡_, ap, refl}
-use mathlib.Core.Bool.{Bool, false, true}
+use mathlib.Core.Bool.{Bool, _&&_, cond, false, not, true}
 use mathlib.Core.List.{List, [], _∷_, map}
 use mathlib.Core.Option.{Option, some}
+use lib.Dec.{T, eqb, eqb→eq}
+use lib.IntN.{ℤ}
+use lib.ListN.{take}
+use Rattle.game.specs.Lists.{bit}
+use Rattle.game.specs.Calls.{gives, replayed, replayedList}
 use Rattle.game.specs.Demands.{Sound, standing}
 use Rattle.game.specs.Grid.{Grid, size}
-use Rattle.game.specs.Moves.{AllLegal, Move, Replayed, after, cellOf, chord, flag, kindOf, left, legal, legalRead, moveOf, play, playRead, readMove, replayFrom, stopped, whole, word}
-use Rattle.game.specs.Position.{Position, untouched}
+use Rattle.game.specs.Moves.{AllLegal, Move, Replayed, after, cellOf, chord, flag, kindOf, left, legal, legalRead, moveOf, play, playRead, readMove, replayFrom, stopped, unflag, whole, word}
+use Rattle.game.specs.Position.{Position, closedSafe, ending, lost, untouched}
 use Rattle.game.specs.Rounds.{Step, movesOf}
-use Rattle.game.proofs.Tidy.{legal-inside}
-use Rattle.game.proofs.Truth.{T→true}
+use Rattle.game.proofs.Narrow.{legal-inside}
+use Rattle.game.proofs.Truth.{T→true, and-left}
 
 -- the kind and the index of a word
 word-parts : (k i : ℕ) → i < 65536 → ((k * 65536 + i) / 65536 ≡ k) × ((k * 65536 + i) % 65536 ≡ i)
@@ -28,6 +33,7 @@ read-word m h =
     own (left i) = refl
     own (flag i) = refl
     own (chord i) = refl
+    own (unflag i) = refl
 
 -- a legal list replays whole
 pub replay-legal : (g : Grid) (k : ℕ) (ms : List Move) (s : Position) → size g ≤ 65536 → AllLegal g s ms → replayFrom g k s (map word ms) ≡ whole (after g s ms)
@@ -43,3 +49,20 @@ replay-legal g k (m ∷ ms) s h l =
 -- what a round lists replays to its end
 pub round-replays : (g : Grid) (ts : List Step) → size g ≤ 65536 → Sound g ts → replayFrom g 0 (untouched g) (map word (movesOf ts)) ≡ whole (standing g ts)
 round-replays g ts h d = replay-legal g 0 (movesOf ts) (untouched g) h (d .legal-moves)
+
+-- there no safe cell is closed, and the game is won
+pub round-won : (g : Grid) (ts : List Step) → Sound g ts → (closedSafe g (standing g ts) ≡ 0) × (ending g (standing g ts) ≡ 1)
+unfolding ending
+round-won g ts d = (eqb→eq (closedSafe g (standing g ts)) 0 (and-left (eqb (closedSafe g (standing g ts)) 0) (not (lost g (standing g ts))) (d .wins)), one (eqb (closedSafe g (standing g ts)) 0) (lost g (standing g ts)) (d .wins))
+  where
+    one : (a b : Bool) → T (a && not b) → cond b 2 (bit (a && not b)) ≡ 1
+    one true false t = refl
+    one true true t = absurd t
+    one false b t = absurd t
+
+-- so a replay of its list answers that
+pub round-answers : (g : Grid) (ts : List Step) (ws : List ℤ) (ms : List ℕ) (n : ℕ) → Sound g ts → replayFrom g 0 (untouched g) (take n ms) ≡ whole (standing g ts)
+    → replayedList g ws ms n .answer ≡ gives (n ∷ 0 ∷ 1 ∷ [])
+round-answers g ts ws ms n d e =
+    let w = round-won g ts d in
+    ap (λ (r : Replayed). replayed g n r ws .answer) e ∙ rw (w .0, w .1)

@@ -10,18 +10,19 @@ use lib.Dec.{T}
 use Rattle.game.specs.Demands.{Sound}
 use Rattle.game.specs.Grid.{Grid, cells, size, zeroCell}
 use Rattle.game.specs.Lists.{has}
-use Rattle.game.specs.Moves.{AllLegal, Move, after}
+use Rattle.game.specs.Moves.{after}
 use Rattle.game.specs.Openings.{threeBV}
 use Rattle.game.specs.Position.{Position, Tidy, closed, closedSafe, closedUnits, untouched}
-use Rattle.game.specs.Rounds.{Step, afterStep, choice, clickStep, firstClicks, greedySteps, movesOf, openingClicks, openingsFirstSteps, stepOf, stepsFrom, width}
+use Rattle.game.specs.Rounds.{Step, afterStep, choice, clickStep, firstClicks, greedySteps, movesOf, openingClicks, openingsFirstSteps, stepOf, stepsFrom}
 use Rattle.game.proofs.Choices.{never-stuck, →unit}
 use Rattle.game.proofs.Members.{first-of, rest-of}
-use Rattle.game.proofs.Tidy.{after-tidy, untouched-tidy}
+use Rattle.game.proofs.Narrow.{after-append}
+use Rattle.game.proofs.Tidy.{untouched-tidy}
 use Rattle.game.proofs.Reveal.{zero-safe}
 use Rattle.game.proofs.Runs.{Fits, Run, choice-fits, fit-takes, moves-append, run-append, run-falls, run-tidy, sound, step-tidy, unit}
 use Rattle.game.proofs.Squares.{cells→}
 use Rattle.game.proofs.Truth.{and-left, and-right}
-use Rattle.game.proofs.Units.{after-append, units-untouched}
+use Rattle.game.proofs.Units.{units-untouched}
 use Rattle.game.proofs.Zeros.{Zero}
 
 -- ---- steps by the lowest index
@@ -129,8 +130,3 @@ openings-first-sound g =
 
     enough : closedUnits g hit ≤ closedUnits g (untouched g) → closedUnits g hit ≤ threeBV g
     enough h = omega (arith, units-untouched g)
-
--- the exit without a move is never reached, wherever legal play has come to
-pub never-none : (openedOnly : Bool) (g : Grid) (ms : List Move) → AllLegal g (untouched g) ms → 1 ≤ closedSafe g (after g (untouched g) ms)
-    → 1 ≤ width (choice openedOnly g (after g (untouched g) ms))
-never-none openedOnly g ms h k = never-stuck openedOnly g (after g (untouched g) ms) (after-tidy g ms (untouched g) h (untouched-tidy g)) k

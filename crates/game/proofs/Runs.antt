@@ -4,27 +4,27 @@ use native.Mathlib.Omega.{arith}
 use mathlib.Core.Path.{_∙_, _≡_, ap, refl, subst, sym}
 use mathlib.Core.Bool.{Bool, _&&_, cond, false, not, true}
 use mathlib.Core.List.{List, [], _++_, _∷_, append-assoc, map}
-use mathlib.Core.Option.{none}
 use lib.Dec.{T, eqb, eqb→eq}
 use lib.IntN.{+ℤ-assoc, +ℤ-comm, +ℤ-negℤ-cancel, _+ℤ_, _-ℤ_, natAbs, negℤ, pos, ℤ}
 use lib.ListN.{getD, length, length-append, length-map}
 use Rattle.game.specs.Demands.{Sound, earned, standing, worth}
-use Rattle.game.specs.Grid.{Grid, cells, mine, safe, size, square}
-use Rattle.game.specs.Lists.{bit, count, has, keep}
-use Rattle.game.specs.Moves.{AllLegal, Move, after, chord, flag, left, play, reveal}
-use Rattle.game.specs.Openings.{openings, threeBV, unlabelled}
-use Rattle.game.specs.Position.{Position, Tidy, cellUnit, closed, closedSafe, closedUnits, cost, gain, opened, openingClosed, premium, unflagged, untouched}
+use Rattle.game.specs.Grid.{Grid, cells, mine, safe, size, square, zeroCell}
+use Rattle.game.specs.Lists.{bit, has, keep}
+use Rattle.game.specs.Moves.{Move, after, chord, flag, left, play}
+use Rattle.game.specs.Openings.{openings, threeBV}
+use Rattle.game.specs.Position.{Position, Tidy, cellUnit, closed, closedSafe, closedUnits, cost, gain, opened, openingClosed, premium, unflagged, unopened, untouched}
 use Rattle.game.specs.Rounds.{Step, afterStep, choice, chordStep, chords, clickStep, clicks, movesAt, movesOf, stepOf, topCells, unitCells, width}
 use Rattle.game.proofs.Choices.{Top, looked→, premium-pays, top→, unit→}
-use Rattle.game.proofs.Counts.{count-each, count-none, each-map, length-keep, none-counted}
-use Rattle.game.proofs.Legal.{click-legal, legal-append, moves-legal, zero-poor}
-use Rattle.game.proofs.Members.{all-has, getD-has}
+use Rattle.game.proofs.Counts.{count-each, count-none, count-one, each-map, length-keep}
+use Rattle.game.proofs.Legal.{cell-left, click-narrow, moves-narrow, none-left, none-of, opening-left, zero-poor}
+use Rattle.game.proofs.Members.{getD-has}
+use Rattle.game.proofs.Narrow.{AllNarrow, after-append, after-tidy, all-legal, narrow-append}
 use Rattle.game.proofs.Openings.{good}
-use Rattle.game.proofs.Tidy.{after-tidy, tidy-even, untouched-tidy}
-use Rattle.game.proofs.Reveal.{opens, unlabelled-safe, zero-safe}
+use Rattle.game.proofs.Owners.{closed-unopened}
 use Rattle.game.proofs.Squares.{cells→, →cells}
-use Rattle.game.proofs.Truth.{and-both, and-left, and-right, no→false}
-use Rattle.game.proofs.Units.{after-append, units-at-most-cells, units-click, units-moves, units-untouched}
+use Rattle.game.proofs.Tidy.{tidy-unfinished, tidy-unopened, tidy-won, untouched-tidy}
+use Rattle.game.proofs.Truth.{and-both, no→false}
+use Rattle.game.proofs.Units.{units-at-most-cells, units-left, units-moves, units-untouched}
 
 -- ---- one step
 
@@ -33,20 +33,31 @@ pub data Fits (g : Grid) (s : Position) : Step → Type 0 where
   pays : (i : ℕ) → i < size g → T (safe g i) → cost g s i ≤ gain g s i → Fits g s (chordStep g s i)
   unit : (i : ℕ) → T (has i (unitCells g s)) → Fits g s (clickStep i)
 
-pub fit-legal : (g : Grid) (s : Position) (t : Step) → Tidy g s → Fits g s t → AllLegal g s (t .moves)
-fit-legal g s t f (pays i h k c) =
-    moves-legal g s i f h k (λ u. let p = zero-poor g s i (record { inside = h; none = u }) in absurd (omega arith))
-fit-legal g s t f (unit i u) = (click-legal g s i u, tt)
+-- a chosen cell is no 0-cell
+pub chosen-numbered : (g : Grid) (s : Position) (i : ℕ) → Tidy g s → i < size g → cost g s i ≤ gain g s i → T (zeroCell g i) → ⊥
+chosen-numbered g s i f h c u = let p = zero-poor g s i f (record { inside = h; none = u }) in absurd (omega arith)
+
+-- while a unit is closed a safe cell is
+unit-left : (g : Grid) (s : Position) (i : ℕ) → T (has i (unitCells g s)) → 1 ≤ closedSafe g s
+unfolding closedSafe
+unit-left g s i u =
+    let v = unit→ g s i u in
+    count-one (λ i. safe g i && unopened s i) i (cells g) (→cells g i (v .inside)) (and-both (safe g i) (unopened s i) (v .is-safe) (closed-unopened s i (v .is-closed)))
+
+-- its moves are those of the rounds where they stand
+pub fit-narrow : (g : Grid) (s : Position) (t : Step) → Tidy g s → Fits g s t → AllNarrow g s (t .moves)
+fit-narrow g s t f (pays i h k c) = moves-narrow g s i f h k (chosen-numbered g s i f h c) c
+fit-narrow g s t f (unit i u) = (tidy-unfinished g s f (unit-left g s i u), click-narrow g s i u, tt)
 
 -- the moves at a cell are as many as it costs
-pub moves-cost : (g : Grid) (s : Position) (i : ℕ) → length (movesAt g s i) ≡ cost g s i
+pub moves-cost : (g : Grid) (s : Position) (i : ℕ) → Tidy g s → i < size g → T (safe g i) → length (movesAt g s i) ≡ cost g s i
 unfolding movesAt cost
-moves-cost g s i =
+moves-cost g s i f h t =
     let a = length-append (cond (closed s i) (left i ∷ []) [] ++ map flag ms) (chord i ∷ []) in
     let b = length-append (cond (closed s i) (left i ∷ []) []) (map flag ms) in
     let c = length-map ms flag in
     let d = length-keep (unflagged g s) (square g i) in
-    omega (arith, one (closed s i))
+    omega (arith, one (closed s i), ap bit (tidy-unopened g s i f h t))
   where
     ms : List ℕ
     ms = keep (unflagged g s) (square g i)
@@ -55,13 +66,15 @@ moves-cost g s i =
     one true = refl
     one false = refl
 
+-- a click on a unit takes it
+pub unit-takes : (g : Grid) (s : Position) (i : ℕ) → Tidy g s → T (has i (unitCells g s)) → closedUnits g s ≡ closedUnits g (play g s (left i)) + 1
+unit-takes g s i f u = let v = unit→ g s i u in units-left g s i (v .is-safe) (v .inside) f (v .is-closed) (v .which)
+
 -- each step takes a unit
 pub fit-takes : (g : Grid) (s : Position) (t : Step) → Tidy g s → Fits g s t → closedUnits g (afterStep g s t) < closedUnits g s
-unfolding cost play
-fit-takes g s t f (pays i h k c) = omega (arith, units-moves g s i h (f .long))
-fit-takes g s t f (unit i u) =
-    let v = unit→ g s i u in
-    omega (arith, units-click g s i (v .inside) (f .long) (tidy-even g s f) (v .is-closed) (v .which))
+unfolding cost
+fit-takes g s t f (pays i h k c) = omega (arith, units-moves g s i f h k (chosen-numbered g s i f h c))
+fit-takes g s t f (unit i u) = omega (arith, unit-takes g s i f u)
 
 cost-and-gain : (u g c : ℕ) → pos c +ℤ pos u +ℤ (pos g -ℤ pos c) ≡ pos (u + g)
 cost-and-gain u g c =
@@ -73,14 +86,13 @@ cost-and-gain u g c =
 -- clicks paid + closed units left + the chosen cell's premium = closed units before
 pub fit-sum : (g : Grid) (s : Position) (t : Step) → Tidy g s → Fits g s t
     → pos (length (t .moves)) +ℤ pos (closedUnits g (afterStep g s t)) +ℤ worth g s t ≡ pos (closedUnits g s)
-unfolding premium play
+unfolding premium
 fit-sum g s t f (pays i h k c) =
-    ap (λ (n : ℕ). pos n +ℤ pos (closedUnits g (after g s (movesAt g s i))) +ℤ (pos (gain g s i) -ℤ pos (cost g s i))) (moves-cost g s i)
+    ap (λ (n : ℕ). pos n +ℤ pos (closedUnits g (after g s (movesAt g s i))) +ℤ (pos (gain g s i) -ℤ pos (cost g s i))) (moves-cost g s i f h k)
     ∙ cost-and-gain (closedUnits g (after g s (movesAt g s i))) (gain g s i) (cost g s i)
-    ∙ ap pos (sym (units-moves g s i h (f .long)))
+    ∙ ap pos (sym (units-moves g s i f h k (chosen-numbered g s i f h c)))
 fit-sum g s t f (unit i u) =
-    let v = unit→ g s i u in
-    ap pos (one (closedUnits g (reveal g s i)) (closedUnits g s) (units-click g s i (v .inside) (f .long) (tidy-even g s f) (v .is-closed) (v .which)))
+    ap pos (one (closedUnits g (play g s (left i))) (closedUnits g s) (unit-takes g s i f u))
   where
     one : (a b : ℕ) → b ≡ a + 1 → 1 + a + 0 ≡ b
     one a b e = omega arith
@@ -118,7 +130,7 @@ Run g s [] = Unit {0}
 Run g s (t ∷ ts) = Fits g s t × Run g (afterStep g s t) ts
 
 pub step-tidy : (g : Grid) (s : Position) (t : Step) → Tidy g s → Fits g s t → Tidy g (afterStep g s t)
-step-tidy g s t f p = after-tidy g (t .moves) s (fit-legal g s t f p) f
+step-tidy g s t f p = after-tidy g (t .moves) s (fit-narrow g s t f p) f
 
 pub run-before : (g : Grid) (s : Position) (ts us : List Step) → Run g s (ts ++ us) → Run g s ts
 run-before g s [] us r = tt
@@ -134,13 +146,13 @@ run-append g s [] us r q = q
 run-append g s (t ∷ ts) us r q =
     (r .0, run-append g (afterStep g s t) ts us (r .1) (subst (λ (p : Position). Run g p us) (after-append g (t .moves) (movesOf ts) s) q))
 
-pub run-legal : (g : Grid) (s : Position) (ts : List Step) → Tidy g s → Run g s ts → AllLegal g s (movesOf ts)
-run-legal g s [] f r = tt
-run-legal g s (t ∷ ts) f r =
-    legal-append g (t .moves) (movesOf ts) s (fit-legal g s t f (r .0)) (run-legal g (afterStep g s t) ts (step-tidy g s t f (r .0)) (r .1))
+pub run-narrow : (g : Grid) (s : Position) (ts : List Step) → Tidy g s → Run g s ts → AllNarrow g s (movesOf ts)
+run-narrow g s [] f r = tt
+run-narrow g s (t ∷ ts) f r =
+    narrow-append g (t .moves) (movesOf ts) s (fit-narrow g s t f (r .0)) (run-narrow g (afterStep g s t) ts (step-tidy g s t f (r .0)) (r .1))
 
 pub run-tidy : (g : Grid) (s : Position) (ts : List Step) → Tidy g s → Run g s ts → Tidy g (after g s (movesOf ts))
-run-tidy g s ts f r = after-tidy g (movesOf ts) s (run-legal g s ts f r) f
+run-tidy g s ts f r = after-tidy g (movesOf ts) s (run-narrow g s ts f r) f
 
 -- two balances one after the other
 join : (a b u₀ u₁ u₂ : ℕ) (w e : ℤ) → pos a +ℤ pos u₁ +ℤ w ≡ pos u₀ → pos b +ℤ pos u₂ +ℤ e ≡ pos u₁ → pos (a + b) +ℤ pos u₂ +ℤ (w +ℤ e) ≡ pos u₀
@@ -187,10 +199,6 @@ run-earned g s (t ∷ ts) r =
 -- ---- the end
 
 module _ (g : Grid) (s : Position) (f : Tidy g s) (done : closedSafe g s ≡ 0) where
-  all-open : (i : ℕ) → i < size g → T (safe g i) → T (closed s i) → ⊥
-  unfolding closedSafe
-  all-open i h t u = none-counted (λ i. safe g i && closed s i) (cells g) done i (→cells g i h) (and-both (safe g i) (closed s i) t u)
-
   -- exactly the safe cells are open
   pub exactly-safe : (i : ℕ) → i < size g → opened s i ≡ safe g i
   exactly-safe i h = go (mine g i) refl
@@ -202,24 +210,15 @@ module _ (g : Grid) (s : Position) (f : Tidy g s) (done : closedSafe g s ≡ 0) 
       go true e = no→false (opened s i) (never-both (getD s i 0) (f .mines i h (rw e tt)))
       go false e =
           let t : T (safe g i) = rw e tt in
-          f .safes i h t ∙ ap not (no→false (closed s i) (all-open i h t))
+          f .safes i h t ∙ ap not (no→false (closed s i) (λ u. none-left g s done i h t (closed-unopened s i u)))
 
   -- no unit is closed
   pub no-units : closedUnits g s ≡ 0
   unfolding closedUnits
   no-units =
-      let a = count-each (openingClosed s) (λ o. false) (openings g)
-      (each-map (openings g) (λ o k. no→false (openingClosed s o) (λ t.
-      let w = k .begun in
-      let z = k .zero-cell (w .0) (w .1) in
-      all-open (w .0) (z .inside) (zero-safe g (w .0) z) (all-has (closed s) (w .0) o (w .1) t))) (good g .full)) in
-      let b = count-none (cellUnit g s) (cells g) (λ i t u.
-      all-open i (cells→ g i t) (unlabelled-safe g i (and-left (unlabelled g i) (closed s i) u)) (and-right (unlabelled g i) (closed s i) u)) in
+      let a = count-each (openingClosed s) (λ o. false) (openings g) (each-map (openings g) (opening-left g s done) (good g .full)) in
+      let b = count-none (cellUnit g s) (cells g) (λ i t u. cell-left g s done i (cells→ g i t) u) in
       omega (arith, none-of (openings g))
-    where
-      none-of : (os : List (List ℕ)) → count (λ o. false) os ≡ 0
-      none-of [] = refl
-      none-of (o ∷ os) = omega (arith, none-of os)
 
 -- ---- demand 3 of a run to its end
 
@@ -232,8 +231,9 @@ sound g ts r e =
           let p = subst (Run g (untouched g)) q r in
           fit-takes g (standing g done) t (run-tidy g (untouched g) done start (run-before g (untouched g) done (t ∷ left) p))
           (run-behind g (untouched g) done (t ∷ left) p .0);
-      legal-moves = run-legal g (untouched g) ts start r;
+      legal-moves = all-legal g (movesOf ts) (untouched g) (run-narrow g (untouched g) ts start r) start;
       opens = exactly-safe g (standing g ts) final e;
+      wins = tidy-won g (standing g ts) final e;
       finished = no-units g (standing g ts) final e;
       at-most-units = paid (length (movesOf ts)) (closedUnits g (standing g ts)) (threeBV g) (earned g (untouched g) ts)
           (run-earned g (untouched g) ts r) (run-sum g (untouched g) ts start r ∙ ap pos (units-untouched g));

@@ -1,31 +1,28 @@
--- Positions that legal play comes to are tidy: each move keeps it. Assumes nothing.
-use Prim.Native.Nat.{ℕ, _<_}
+-- Tidy positions: what the rounds do keeps them tidy, and what is closed, lost and won in them. Assumes nothing.
+use Prim.Native.Nat.{ℕ, _<_, _≤_}
 use native.Mathlib.Omega.{arith}
 use native.Mathlib.Decide.{ℕ-discrete}
 use mathlib.Core.Path.{_∙_, _≡_, ap, refl, subst, sym}
 use mathlib.Core.Bool.{Bool, _&&_, cond, false, not, true}
 use mathlib.Core.List.{List, [], _∷_}
-use mathlib.Core.Option.{Option, none, some}
-use lib.Dec.{T, T-not, eqb, ltb, ltb→lt, not-T}
+use lib.Dec.{T, T-not, eqb, eqb→eq, not-T}
 use lib.ListN.{getD, length-replicate, length-set, set}
 use lib.Seq.{getD-set-other, getD-set-same}
-use Rattle.game.specs.Grid.{Grid, mine, safe, size, square}
-use Rattle.game.specs.Lists.{fold, has}
-use Rattle.game.specs.Moves.{AllLegal, Move, Reached, after, cellOf, chord, chordable, flag, left, legal, legalRead, play, playRead, reveal, sweep}
+use Rattle.game.specs.Grid.{Grid, cells, mine, safe, size}
+use Rattle.game.specs.Lists.{fold, has, some-of}
+use Rattle.game.specs.Moves.{reveal, sweep}
 use Rattle.game.specs.Openings.{holds, joinedTo}
-use Rattle.game.specs.Position.{Position, Tidy, closed, untouched}
+use Rattle.game.specs.Position.{Position, Tidy, blown, closed, closedSafe, ending, lost, openingClosed, unfinished, unopened, untouched, won}
 use Rattle.game.proofs.Chains.{joined-first, joined-last, joined-sym, joined-trans}
-use Rattle.game.proofs.Members.{first-of, rest-of}
-use Rattle.game.proofs.Owners.{Even}
+use Rattle.game.proofs.Members.{first-of, rest-of, yes-some}
+use Rattle.game.proofs.Openings.{Full}
+use Rattle.game.proofs.Owners.{opening-shut}
 use Rattle.game.proofs.Reveal.{Revealed, getD-sweep, held-joined, joined-held, length-sweep, mine-off, opens, revealed, stays, sweeps, zero-safe}
-use Rattle.game.proofs.Squares.{close-sym, self-close, square→}
-use Rattle.game.proofs.Truth.{and-both, and-left, and-right, no→false}
-use Rattle.game.proofs.Units.{closed-untouched, untouched-at}
+use Rattle.game.proofs.Squares.{cells→, close-sym, self-close, square→}
+use Rattle.game.proofs.Truth.{and-both, and-left, and-right, iff, no→false}
+use Rattle.game.proofs.Untouched.{closed-untouched, untouched-at}
 use Rattle.game.proofs.Zeros.{Zero}
-
-pub tidy-even : (g : Grid) (s : Position) → Tidy g s → Even g s
-unfolding Even
-tidy-even g s f = f .even
+use borrow.Author.Tests.{ne-eqb}
 
 pub untouched-tidy : (g : Grid) → Tidy g (untouched g)
 untouched-tidy g =
@@ -75,8 +72,8 @@ set-tidy g s c v h f n e p q =
 
 -- ---- an opening is swept
 
-sweep-tidy : (g : Grid) (s : Position) (c : ℕ) → Zero g c → Tidy g s → Tidy g (sweep g s c)
-sweep-tidy g s c z f =
+sweep-tidy : (g : Grid) (s : Position) (c : ℕ) → Zero g c → T (closed s c) → Tidy g s → Tidy g (sweep g s c)
+sweep-tidy g s c z b f =
     record {
       long = length-sweep g s c;
       even = λ a b j. shut a (joined-first g a b j .inside) ∙ both (held a) (held b) (closed s a) (closed s b)
@@ -90,10 +87,10 @@ sweep-tidy g s c z f =
           let w = f .around y j hj ny m (and-right (not (held j)) (closed s j) v) in
           subst T (sym (shut y (zy .inside))) (and-both (not (held y)) (closed s y)
           (not-T (held y) (λ k. T-not (held j) (and-left (not (held j)) (closed s j) v) (joined-held g c y j hj (held-joined g c y z zy k) cl))) w);
-      safes = λ j hj u. ap (λ (x : ℕ). eqb x 1) (getD-sweep g s c j hj) ∙ one (held j) (getD s j 0) (f .safes j hj u)
-          ∙ sym (ap (λ (x : ℕ). not (eqb x 0)) (getD-sweep g s c j hj));
+      safes = λ j hj u. ap (λ (x : ℕ). eqb x 1) (getD-sweep g s c f z b j hj) ∙ one (held j) (getD s j 0) (f .safes j hj u)
+          ∙ sym (ap (λ (x : ℕ). not (eqb x 0)) (getD-sweep g s c f z b j hj));
       mines = λ j hj u.
-          let q = getD-sweep g s c j hj ∙ ap (λ (b : Bool). cond b 1 (getD s j 0)) (no→false (held j) (mine-off g c j z hj u)) in
+          let q = getD-sweep g s c f z b j hj ∙ ap (λ (b : Bool). cond b 1 (getD s j 0)) (no→false (held j) (mine-off g c j z hj u)) in
           ap (λ (x : ℕ). eqb x 2) q ∙ f .mines j hj u ∙ sym (ap (λ (x : ℕ). not (eqb x 0)) q);
     }
   where
@@ -105,7 +102,7 @@ sweep-tidy g s c z f =
     shut-one false x = refl
 
     shut : (j : ℕ) → j < size g → closed (sweep g s c) j ≡ (not (held j) && closed s j)
-    shut j h = ap (λ (x : ℕ). eqb x 0) (getD-sweep g s c j h) ∙ shut-one (held j) (getD s j 0)
+    shut j h = ap (λ (x : ℕ). eqb x 0) (getD-sweep g s c f z b j h) ∙ shut-one (held j) (getD s j 0)
 
     both : (p q x y : Bool) → (T p → T q) → (T q → T p) → x ≡ y → (not p && x) ≡ (not q && y)
     both true true x y h k r = refl
@@ -125,7 +122,7 @@ reveal-tidy g s c h f = go (reveal g s c) (revealed g s c)
     go : (t : Position) → Revealed g s c t → Tidy g t
     go t (stays n) = f
     go t (opens a b n) = set-tidy g s c 1 h f (λ z. n (z .none)) refl (λ u. refl) (λ u. absurd (T-not (mine g c) a u))
-    go t (sweeps a b z) = sweep-tidy g s c (record { inside = h; none = z }) f
+    go t (sweeps a b z) = sweep-tidy g s c (record { inside = h; none = z }) b f
 
 pub fold-tidy : (g : Grid) (xs : List ℕ) (s : Position) → ((x : ℕ) → T (has x xs) → x < size g) → Tidy g s → Tidy g (fold (reveal g) s xs)
 fold-tidy g [] s h f = f
@@ -135,28 +132,42 @@ pub flag-tidy : (g : Grid) (s : Position) (m : ℕ) → m < size g → T (mine g
 flag-tidy g s m h t f =
     set-tidy g s m 2 h f (λ z. T-not (mine g m) (zero-safe g m z) t) refl (λ u. absurd (T-not (mine g m) u t)) (λ u. refl)
 
--- a legal move is on a cell of the grid
-pub legal-inside : (g : Grid) (s : Position) (m : Move) → T (legal g s m) → cellOf m < size g
-unfolding legal
-legal-inside g s (left i) t = ltb→lt i (size g) (and-left (ltb i (size g)) (safe g i) (and-left (ltb i (size g) && safe g i) (closed s i) t))
-legal-inside g s (flag i) t = ltb→lt i (size g) (and-left (ltb i (size g)) (mine g i) (and-left (ltb i (size g) && mine g i) (closed s i) t))
-legal-inside g s (chord i) t = ltb→lt i (size g) (and-left (ltb i (size g)) (chordable g s i) t)
+-- ---- what is closed in a tidy position
 
-pub play-tidy : (g : Grid) (s : Position) (m : Move) → T (legal g s m) → Tidy g s → Tidy g (play g s m)
-unfolding play legal
-play-tidy g s (left i) t f = reveal-tidy g s i (legal-inside g s (left i) t) f
-play-tidy g s (flag i) t f =
-    flag-tidy g s i (legal-inside g s (flag i) t) (and-right (ltb i (size g)) (mine g i) (and-left (ltb i (size g) && mine g i) (closed s i) t)) f
-play-tidy g s (chord i) t f = fold-tidy g (square g i) s (λ x u. square→ g i x (legal-inside g s (chord i) t) u .0) f
+-- a safe cell is closed while it is not opened: none is flagged
+pub tidy-unopened : (g : Grid) (s : Position) (j : ℕ) → Tidy g s → j < size g → T (safe g j) → unopened s j ≡ closed s j
+tidy-unopened g s j f h t = ap not (f .safes j h t) ∙ twice (closed s j)
+  where
+    twice : (b : Bool) → not (not b) ≡ b
+    twice true = refl
+    twice false = refl
 
-pub read-tidy : (g : Grid) (s : Position) (m : Option Move) → legalRead g s m ≡ true → Tidy g s → Tidy g (playRead g s m)
-read-tidy g s none e f = f
-read-tidy g s (some m) e f = play-tidy g s m (rw e tt) f
+-- an opening is closed while any one of its 0-cells is: they are closed together
+pub tidy-opening : (g : Grid) (s : Position) (o : List ℕ) (c : ℕ) → Tidy g s → Full g o → T (has c o) → openingClosed s o ≡ closed s c
+tidy-opening g s o c f k t =
+    iff (openingClosed s o) (closed s c)
+    (λ u.
+    let a = yes-some (unopened s) o u in
+    let z = k .zero-cell (a .0) (a .1) in
+    subst T (tidy-unopened g s (a .0) f (z .inside) (zero-safe g (a .0) z) ∙ f .even (a .0) c (k .linked (a .0) c (a .1) t)) (a .2))
+    (λ u. rw (opening-shut s o c t u) tt)
 
-pub after-tidy : (g : Grid) (ms : List Move) (s : Position) → AllLegal g s ms → Tidy g s → Tidy g (after g s ms)
-after-tidy g [] s h f = f
-after-tidy g (m ∷ ms) s h f = after-tidy g ms (play g s m) (h .1) (play-tidy g s m (h .0) f)
+-- no mine is open
+pub tidy-lost : (g : Grid) (s : Position) → Tidy g s → lost g s ≡ false
+unfolding lost
+tidy-lost g s f =
+    no→false (some-of (blown s) (cells g)) (λ t.
+    let a = yes-some (blown s) (cells g) t in
+    whole (a .0) (cells→ g (a .0) (a .1)) (eqb→eq (getD s (a .0) 0) 3 (a .2)) (mine g (a .0)) refl)
+  where
+    whole : (j : ℕ) → j < size g → getD s j 0 ≡ 3 → (b : Bool) → mine g j ≡ b → ⊥
+    whole j h e true k = subst T (sym (subst (λ (x : ℕ). eqb x 2 ≡ not (eqb x 0)) e (f .mines j h (rw k tt)))) tt
+    whole j h e false k = subst T (sym (subst (λ (x : ℕ). eqb x 1 ≡ not (eqb x 0)) e (f .safes j h (rw k tt)))) tt
 
--- so of every position that legal play comes to
-pub reached-tidy : (g : Grid) (s : Position) → Reached g s → Tidy g s
-reached-tidy g s r = subst (Tidy g) (r .comes-to) (after-tidy g (r .moves) (untouched g) (r .all-legal) (untouched-tidy g))
+-- so the game goes on while a safe cell is closed, and is won when none is
+pub tidy-unfinished : (g : Grid) (s : Position) → Tidy g s → 1 ≤ closedSafe g s → T (unfinished g s)
+unfolding ending
+tidy-unfinished g s f h = rw (tidy-lost g s f, ne-eqb (closedSafe g s) 0 (λ e. omega arith)) tt
+
+pub tidy-won : (g : Grid) (s : Position) → Tidy g s → closedSafe g s ≡ 0 → T (won g s)
+tidy-won g s f e = rw (tidy-lost g s f, e) tt

@@ -1,7 +1,8 @@
 -- Computed tests: what holds of `T`, `&&`, `||` and `not`, each by the cases of its tests. Assumes nothing.
+use Prim.Native.Nat.{ℕ}
 use mathlib.Core.Path.{_≡_, refl, subst, sym}
 use mathlib.Core.Logic.{_⊎_, inl, inr}
-use mathlib.Core.Bool.{Bool, _&&_, _||_, false, not, true}
+use mathlib.Core.Bool.{Bool, _&&_, _||_, cond, false, not, true}
 use lib.Dec.{T, not-T}
 
 pub or-left : (a b : Bool) → T a → T (a || b)
@@ -64,6 +65,11 @@ iff true true h k = refl
 iff true false h k = absurd (h tt)
 iff false true h k = absurd (k tt)
 iff false false h k = refl
+
+-- a choice between two that are the same
+pub cond-same : (b : Bool) (v : ℕ) → cond b v v ≡ v
+cond-same true v = refl
+cond-same false v = refl
 
 pub and-true : (a : Bool) → a ≡ (a && true)
 and-true true = refl

@@ -9,7 +9,7 @@ use lib.Dec.{eqb, ltb}
 use Rattle.game.specs.Draws.{Source, lent}
 use Rattle.game.specs.Grid.{Grid, size}
 use Rattle.game.specs.Openings.{threeBV}
-use Rattle.game.specs.Position.{untouched, closedSafe}
+use Rattle.game.specs.Position.{untouched, closedSafe, ending}
 use Rattle.game.specs.Moves.{Move, after, Replayed, whole, stopped, replayFrom}
 use Rattle.game.specs.Rounds.{movesOf, roundSteps, Round, randomRound, Searched, randomSearch}
 use Rattle.game.specs.Area.{areaOf, listOf, clearedArea, clearedList}
@@ -186,9 +186,9 @@ unfoldable pub randomSearchCall : Grid → List ℤ → List ℕ → ℕ → Out
 randomSearchCall g ws bytes n =
     unless (firstGiven (gridChecks g ws ++ roundsCheck n ∷ [])) ws (searchBy (lent bytes) n g ws)
 
--- what a replay of n moves comes to: moves made and safe cells still closed, or MOVE with the bad move's place
+-- what a replay of n moves comes to: moves made, safe cells still closed and the ending, or MOVE with the bad move's place
 abbrev pub replayed : Grid → ℕ → Replayed → List ℤ → Outcome
-replayed g n (whole s) ws = record { answer = gives (n ∷ closedSafe g s ∷ []); work = areaOf g s ws }
+replayed g n (whole s) ws = record { answer = gives (n ∷ closedSafe g s ∷ ending g s ∷ []); work = areaOf g s ws }
 replayed g n (stopped k s) ws =
     record { answer = record { number = numberOf move; values = k ∷ [] }; work = areaOf g s ws }
 

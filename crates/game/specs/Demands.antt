@@ -6,13 +6,13 @@ use mathlib.Core.List.{List, [], _++_, _∷_}
 use mathlib.Core.Option.{none, some}
 use lib.IntN.{_+ℤ_, pos, ℤ}
 use lib.ListN.{length}
-use lib.Dec.{eqb}
+use lib.Dec.{T, eqb}
 use Rattle.game.specs.Draws.{Source}
 use Rattle.game.specs.Grid.{Grid, safe, size}
 use Rattle.game.specs.Lists.{Each}
 use Rattle.game.specs.Moves.{AllLegal, Move, after, left}
 use Rattle.game.specs.Openings.{threeBV}
-use Rattle.game.specs.Position.{Position, closedUnits, opened, premium, untouched}
+use Rattle.game.specs.Position.{Position, closedUnits, opened, premium, untouched, won}
 use Rattle.game.specs.Rounds.{Round, Searched, Step, afterStep, movesOf, randomRound}
 
 -- the premium of the cell that a step chose, just before it; a single L has none
@@ -43,6 +43,8 @@ pub record Sound (g : Grid) (ts : List Step) : Type 0 where
   pub legal-moves : AllLegal g (untouched g) (movesOf ts)
   -- they open exactly the safe cells
   pub opens : (i : ℕ) → i < size g → opened (standing g ts) i ≡ safe g i
+  -- and the game is won
+  pub wins : T (won g (standing g ts))
   -- no unit is left closed
   pub finished : closedUnits g (standing g ts) ≡ 0
   -- a round costs at most 3BV, and 3BV is at most the cells

@@ -1,35 +1,51 @@
--- Legal play: the moves L, F and C, what each does, and the replay of a list (RULES 3, 6.3). Assumes nothing.
+-- Legal play: the moves L, F, C and the taking away of a flag, what each does, and the replay of a list (RULES 3, 6.3). Assumes nothing.
 use Prim.Native.Nat.{ℕ, _%_, _*_, _+_, _/_, suc}
 use mathlib.Core.Path.{_≡_}
-use mathlib.Core.Bool.{Bool, _&&_, _||_, cond, false, not, true}
+use mathlib.Core.Bool.{Bool, _&&_, cond, false, not, true}
 use mathlib.Core.List.{List, [], _∷_, map}
 use mathlib.Core.Option.{Option, none, some}
 use lib.Dec.{T, eqb, ltb}
 use lib.ListN.{getD, set}
-use Rattle.game.specs.Grid.{Grid, cells, mine, safe, size, square, zeroCell}
-use Rattle.game.specs.Lists.{all-of, fold}
-use Rattle.game.specs.Openings.{holds, joinedTo}
-use Rattle.game.specs.Position.{Position, closed, flagged, opened, untouched}
+use Rattle.game.specs.Grid.{Grid, cells, mine, number, safe, size, square, zeroCell}
+use Rattle.game.specs.Lists.{count, fold}
+use Rattle.game.specs.Openings.{chainedTo, holds}
+use Rattle.game.specs.Position.{Position, closed, flagged, opened, unfinished, untouched}
 
--- L, F and C, each on the cell of an index
+-- L, F, C and the taking away of a flag, each on the cell of an index
 pub data Move : Type 0 where
-  left flag chord : ℕ → Move
+  left flag chord unflag : ℕ → Move
 
--- C may be played: the cell is opened, of number 1 or more, and the mines of its square are all flagged
+-- the cell that a move is on
+abbrev pub cellOf : Move → ℕ
+cellOf (left i) = i
+cellOf (flag i) = i
+cellOf (chord i) = i
+cellOf (unflag i) = i
+
+-- C may be played: the cell is opened, of number 1 or more, and the flags in its square are as many as its number
 unfoldable pub chordable : Grid → Position → ℕ → Bool
-chordable g s i = opened s i && not (zeroCell g i) && all-of (λ j. not (mine g j) || flagged s j) (square g i)
+chordable g s i = opened s i && not (zeroCell g i) && eqb (count (flagged s) (square g i)) (number g i)
 
--- L on a closed safe cell, F on a closed mine, C where it may be played
+-- what a move asks of its cell: L and F that it is closed and not flagged, C that it may be played, the taking away of a flag that there is one
+abbrev pub allowed : Grid → Position → Move → Bool
+allowed g s (left i) = closed s i
+allowed g s (flag i) = closed s i
+allowed g s (chord i) = chordable g s i
+allowed g s (unflag i) = flagged s i
+
+-- a move is legal: the game is neither won nor lost, the cell is on the grid and is as the move asks
 unfoldable pub legal : Grid → Position → Move → Bool
-legal g s (left i) = ltb i (size g) && safe g i && closed s i
-legal g s (flag i) = ltb i (size g) && mine g i && closed s i
-legal g s (chord i) = ltb i (size g) && chordable g s i
+legal g s m = unfinished g s && ltb (cellOf m) (size g) && allowed g s m
 
--- the position with the whole opening of a 0-cell opened
-abbrev pub sweep : Grid → Position → ℕ → Position
-sweep g s z = map (λ j. cond (holds g j (joinedTo g z)) 1 (getD s j 0)) (cells g)
+-- the 0-cells that L on a closed 0-cell opens: chains of closed unflagged 0-cells join them to it
+abbrev pub spread : Grid → Position → ℕ → List ℕ
+spread g s z = chainedTo g (λ k. zeroCell g k && closed s k) z
 
--- a closed safe cell is opened, and if its number is 0, its whole opening; any other cell stays as it is
+-- the position after L on a closed 0-cell: the closed unflagged cells in the squares of those 0-cells are opened
+unfoldable pub sweep : Grid → Position → ℕ → Position
+sweep g s z = map (λ j. cond (closed s j && holds g j (spread g s z)) 1 (getD s j 0)) (cells g)
+
+-- a closed unflagged safe cell is opened, and if its number is 0, what spreads from it; any other cell stays as it is
 unfoldable pub reveal : Grid → Position → ℕ → Position
 reveal g s i =
     elim (safe g i && closed s i) [
@@ -37,11 +53,20 @@ reveal g s i =
       | false ↦ s
     ]
 
--- what a move does: C acts as L on every closed safe cell of its square
+-- a closed unflagged mine is opened; any other cell stays as it is
+unfoldable pub blow : Grid → Position → ℕ → Position
+blow g s i = elim (mine g i && closed s i) [ true ↦ set s i 3 | false ↦ s ]
+
+-- L on each of some cells: the safe ones are opened first, then the mines
+abbrev pub clickEach : Grid → Position → List ℕ → Position
+clickEach g s js = fold (blow g) (fold (reveal g) s js) js
+
+-- what a move does: C acts as L on every closed unflagged cell of its square
 unfoldable pub play : Grid → Position → Move → Position
-play g s (left i) = reveal g s i
+play g s (left i) = clickEach g s (i ∷ [])
 play g s (flag i) = set s i 2
-play g s (chord i) = fold (reveal g) s (square g i)
+play g s (chord i) = clickEach g s (square g i)
+play g s (unflag i) = set s i 0
 
 -- the position after a list of moves
 abbrev pub after : Grid → Position → List Move → Position
@@ -61,17 +86,12 @@ pub record Reached (g : Grid) (s : Position) : Type 0 where
 
 -- ---- moves as numbers
 
--- the kind of a move: 1 for L, 2 for F, 3 for C
+-- the kind of a move: 1 for L, 2 for F, 3 for C, 4 for the taking away of a flag
 abbrev pub kindOf : Move → ℕ
 kindOf (left i) = 1
 kindOf (flag i) = 2
 kindOf (chord i) = 3
-
--- the cell that a move is on
-abbrev pub cellOf : Move → ℕ
-cellOf (left i) = i
-cellOf (flag i) = i
-cellOf (chord i) = i
+kindOf (unflag i) = 4
 
 -- a move as a number: kind x 65536 + index
 abbrev pub word : Move → ℕ
@@ -80,7 +100,8 @@ word m = kindOf m * 65536 + cellOf m
 -- the move of a kind and an index, if there is such a kind
 abbrev pub moveOf : ℕ → ℕ → Option Move
 moveOf kind i =
-    cond (eqb kind 1) (some (left i)) (cond (eqb kind 2) (some (flag i)) (cond (eqb kind 3) (some (chord i)) none))
+    cond (eqb kind 1) (some (left i))
+    (cond (eqb kind 2) (some (flag i)) (cond (eqb kind 3) (some (chord i)) (cond (eqb kind 4) (some (unflag i)) none)))
 
 -- the move that a number stands for
 unfoldable pub readMove : ℕ → Option Move

@@ -7,18 +7,26 @@ use lib.Dec.{T}
 use Rattle.game.specs.Lists.{keep, count, some-of, has, fold, again}
 use Rattle.game.specs.Grid.{Grid, size, cells, safe, square, zeroCell}
 
--- two 0-cells joined by side or corner: a chain of 0-cells, each in the square of the one before
-pub data Joined (g : Grid) (a : ℕ) : ℕ → Type 0 where
-  itself : a < size g → T (zeroCell g a) → Joined g a a
-  onward : {b c : ℕ} → Joined g a b → T (has c (square g b)) → T (zeroCell g c) → Joined g a c
+-- a chain from a on, of cells that pass the test p, each in the square of the one before
+pub data Chain (g : Grid) (p : ℕ → Bool) (a : ℕ) : ℕ → Type 0 where
+  itself : a < size g → T (p a) → Chain g p a a
+  onward : {b c : ℕ} → Chain g p a b → T (has c (square g b)) → T (p c) → Chain g p a c
 
--- the 0-cells in whose square one of js stands
-unfoldable pub grow : Grid → List ℕ → List ℕ
-grow g js = keep (λ k. zeroCell g k && some-of (λ j. has j (square g k)) js) (cells g)
+-- two 0-cells joined by side or corner: a chain of 0-cells
+abbrev pub Joined : Grid → ℕ → ℕ → Type 0
+Joined g a b = Chain g (zeroCell g) a b
 
--- the 0-cells joined to a 0-cell, lowest first: a chain need not be longer than the grid has cells
-unfoldable pub joinedTo : Grid → ℕ → List ℕ
-joinedTo g z = again (grow g) (size g) (z ∷ [])
+-- the cells that pass the test p and in whose square one of js stands
+unfoldable pub grow : Grid → (ℕ → Bool) → List ℕ → List ℕ
+grow g p js = keep (λ k. p k && some-of (λ j. has j (square g k)) js) (cells g)
+
+-- the cells that chains join to z, lowest first: a chain need not be longer than the grid has cells
+unfoldable pub chainedTo : Grid → (ℕ → Bool) → ℕ → List ℕ
+chainedTo g p z = again (grow g p) (size g) (z ∷ [])
+
+-- the 0-cells joined to a 0-cell, lowest first
+abbrev pub joinedTo : Grid → ℕ → List ℕ
+joinedTo g z = chainedTo g (zeroCell g) z
 
 -- a 0-cell that is in none of the openings so far begins the next
 abbrev pub gather : Grid → List (List ℕ) → ℕ → List (List ℕ)

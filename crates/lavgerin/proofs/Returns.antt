@@ -5,7 +5,7 @@ use mathlib.Core.List.{List}
 use lib.IntN.{ℤ}
 use Rattle.game.specs.Calls.{Answer, ListOutcome, Outcome}
 use Rattle.answers.specs.Answers.{Keeps, KeepsList}
-use Rattle.lavgerin.specs.Names.{Returned, ReturnedList, ReturnedListTwo, ReturnedTwo, told}
+use Rattle.lavgerin.specs.Names.{Returned, ReturnedList, ReturnedListTwo, ReturnedThree, ReturnedTwo, told}
 
 -- the answer's number, carried from the answer that came to the one promised
 as-number : {promised came : Answer} {n : ℕ} → came ≡ promised → n ≡ came .number → n ≡ promised .number
@@ -25,6 +25,10 @@ module _ {promise : Outcome} {a came : Answer} {work : List ℤ} (kept : Keeps p
   -- two answers
   pub returned-two : {before2 after2 : ℕ} → after2 ≡ told came 1 before2 → ReturnedTwo promise n work before after before2 after2
   returned-two {before2} second = record { first = returned; second = as-told 1 before2 (sym so ∙ kept .answers) second }
+
+  -- three answers
+  pub returned-three : {before2 after2 before3 after3 : ℕ} → after2 ≡ told came 1 before2 → after3 ≡ told came 2 before3 → ReturnedThree promise n work before after before2 after2 before3 after3
+  returned-three {before3} second third = record { two = returned-two second; third = as-told 2 before3 (sym so ∙ kept .answers) third }
 
 module _ {promise : ListOutcome} {a came : Answer} {work : List ℤ} {list : List ℕ} (kept : KeepsList promise a work list) (so : a ≡ came) {n before after : ℕ} (number : n ≡ came .number) (first : after ≡ told came 0 before) where
   -- one answer and a list
@@ -46,6 +50,12 @@ pub two-once : (p : Outcome) (n n′ : ℕ) (w w′ : List ℤ) (b a a′ b2 a2 
 two-once p n n′ w w′ b a a′ b2 a2 a2′ k k′ =
     let e = returned-once p n n′ w w′ b a a′ (k .first) (k′ .first) in
     (e .0, e .1, e .2, k .second ∙ sym (k′ .second))
+
+pub three-once : (p : Outcome) (n n′ : ℕ) (w w′ : List ℤ) (b a a′ b2 a2 a2′ b3 a3 a3′ : ℕ) → ReturnedThree p n w b a b2 a2 b3 a3 → ReturnedThree p n′ w′ b a′ b2 a2′ b3 a3′
+    → (n ≡ n′) × (w ≡ w′) × (a ≡ a′) × (a2 ≡ a2′) × (a3 ≡ a3′)
+three-once p n n′ w w′ b a a′ b2 a2 a2′ b3 a3 a3′ k k′ =
+    let e = two-once p n n′ w w′ b a a′ b2 a2 a2′ (k .two) (k′ .two) in
+    (e .0, e .1, e .2, e .3, k .third ∙ sym (k′ .third))
 
 pub list-once : (p : ListOutcome) (n n′ : ℕ) (w w′ : List ℤ) (l l′ : List ℕ) (b a a′ : ℕ) → ReturnedList p n w l b a → ReturnedList p n′ w′ l′ b a′ → (n ≡ n′) × (w ≡ w′) × (l ≡ l′) × (a ≡ a′)
 list-once p n n′ w w′ l l′ b a a′ k k′ =

@@ -21,6 +21,11 @@ pub record ReturnedTwo (promise : Outcome) (number : ℕ) (work : List ℤ) (bef
   pub first : Returned promise number work before after
   pub second : after2 ≡ told (promise .answer) 1 before2
 
+-- the same with three answers
+pub record ReturnedThree (promise : Outcome) (number : ℕ) (work : List ℤ) (before after before2 after2 before3 after3 : ℕ) : Type 0 where
+  pub two : ReturnedTwo promise number work before after before2 after2
+  pub third : after3 ≡ told (promise .answer) 2 before3
+
 -- a call with a list, as C sees it: the number returned, the work area, the list and one answer at exit
 pub record ReturnedList (promise : ListOutcome) (number : ℕ) (work : List ℤ) (list : List ℕ) (before after : ℕ) : Type 0 where
   pub answers : number ≡ promise .answer .number

@@ -7,7 +7,7 @@ use zini::Replayed;
 use zini::Rolled;
 ghost use Rattle.game.specs.Calls.{greedyCall, openingsFirstCall, priceCall, randomRoundCall, randomSearchCall, replayCall, threeBVCall};
 ghost use Rattle.area.specs.Numbers.{gridOf};
-ghost use Rattle.lavgerin.specs.Names.{Returned, ReturnedList, ReturnedListTwo, ReturnedTwo};
+ghost use Rattle.lavgerin.specs.Names.{Returned, ReturnedList, ReturnedListTwo, ReturnedThree, ReturnedTwo};
 
 // 3BV of a grid.
 #[no_mangle]
@@ -132,7 +132,7 @@ pub extern "C" fn lavgerin_random_search(
     }
 }
 
-// The first moves of a list are played on a board: how many were made, or the place of the bad one, and the safe cells still closed.
+// The first moves of a list are played on a board: how many were made, or the place of the bad one, the safe cells still closed, and the ending (0 unfinished, 1 won, 2 lost).
 #[no_mangle]
 pub extern "C" fn lavgerin_replay(
     rows: usize,
@@ -143,14 +143,16 @@ pub extern "C" fn lavgerin_replay(
     count: usize,
     made: &mut u64,
     closed: &mut u64,
+    ending: &mut u64,
 ) -> u8
-    ensures { λ r. ⌜ ReturnedTwo (replayCall (gridOf rows columns (now (grid .entry))) (now (work .entry)) (now (list .entry)) count) r (now (work .exit)) (now (made .entry)) (now (made .exit)) (now (closed .entry)) (now (closed .exit)) ⌝ }
+    ensures { λ r. ⌜ ReturnedThree (replayCall (gridOf rows columns (now (grid .entry))) (now (work .entry)) (now (list .entry)) count) r (now (work .exit)) (now (made .entry)) (now (made .exit)) (now (closed .entry)) (now (closed .exit)) (now (ending .entry)) (now (ending .exit)) ⌝ }
 {
     let answer = zini::replays::replay(rows, columns, grid, work, list, count);
     match answer {
-        Replayed::Played(moves, left) => {
+        Replayed::Played(moves, left, end) => {
             *made = moves as u64;
             *closed = left as u64;
+            *ending = end as u64;
             0
         }
         Replayed::Move(place) => {

@@ -4,18 +4,20 @@ use native.Mathlib.Omega.{arith}
 use native.Mathlib.Nat.{add-zero}
 use mathlib.Core.Path.{_∙_, _≡_, ap, refl, subst, sym}
 use mathlib.Core.List.{List, [], _++_, _∷_, map, map-append}
+use lib.Dec.{T}
 use lib.IntN.{ℤ}
 use lib.ListN.{length, length-append, length-map, set}
 use lib.Seq.{sets}
+use Rattle.play.specs.Promises.{Revealing}
 use Rattle.play.specs.declared.Opened.{Opened}
 use Rattle.moves.specs.declared.State.{State}
 use Rattle.area.specs.Stages.{Stands}
-use Rattle.game.specs.Grid.{Grid}
-use Rattle.game.specs.Moves.{Move, after, cellOf, kindOf, play, word}
+use Rattle.game.specs.Grid.{Grid, safe}
+use Rattle.game.specs.Moves.{Move, after, cellOf, kindOf, left, play, word}
 use Rattle.game.specs.Position.{Position, Tidy, closedSafe}
 use Rattle.moves.specs.Promises.{Carried, Made}
 use Rattle.moves.specs.Walks.{Over}
-use Rattle.game.proofs.Units.{after-append}
+use Rattle.game.proofs.Narrow.{after-append, play-left}
 use Rattle.game.proofs.Members.{suc-across}
 
 -- ---- what is written behind what was written
@@ -35,6 +37,13 @@ module _ (rows columns : ℕ) (g : Grid) (s : Position) (old : List ℤ) where
       → Made rows columns g s old (m ∷ []) list t w′ list′ t′
   made-one m opened list t w′ list′ t′ c st f k e =
       record { stands = st; tidy = f; noted = c .written; clicks = c .one-more; left-closed = omega (arith, c .fewer) }
+
+  -- L on a safe cell is its reveal
+  pub made-left : (i : ℕ) (opened : Opened) (list : List ℕ) (t : State) (w′ : List ℤ) (list′ : List ℕ) (t′ : State) → T (safe g i) → Carried 1 i opened list t list′ t′
+      → Revealing rows columns g s old i opened w′ → t .closed ≡ closedSafe g s → Made rows columns g s old (left i ∷ []) list t w′ list′ t′
+  made-left i opened list t w′ list′ t′ k c r e =
+      let p = play-left g s i k in
+      made-one (left i) opened list t w′ list′ t′ c (rw p (r .stands)) (rw p (r .tidy)) (rw p (r .opened-cells)) e
 
   pub made-both : (ms ns : List Move) (list : List ℕ) (t : State) (v : List ℤ) (l : List ℕ) (u : State) (w′ : List ℤ) (list′ : List ℕ) (t′ : State)
       → Made rows columns g s old ms list t v l u → Made rows columns g (after g s ms) old ns l u w′ list′ t′

@@ -17,7 +17,8 @@ use Rattle.area.proofs.Cells.{cells-few}
 use Rattle.game.proofs.Choices.{never-stuck}
 use Rattle.game.proofs.Falls.{step-falls, step-pays, units-most}
 use Rattle.game.proofs.Runs.{Fits, choice-fits, fit-takes}
-use Rattle.game.proofs.Units.{after-append, units-at-most-cells}
+use Rattle.game.proofs.Narrow.{after-append}
+use Rattle.game.proofs.Units.{units-at-most-cells}
 use Rattle.moves.proofs.Joins.{made-both, made-none}
 
 -- part of the way from a position on: the moves made, how many steps at most are still to come, and which, by these two

@@ -16,6 +16,7 @@ ghost use Rattle.game.specs.Position.{Position, Tidy, closed as isClosed, close
 ghost use Rattle.game.specs.Moves.{left, flag, chord};
 ghost use Rattle.game.specs.Rounds.{movesAt};
 ghost use Rattle.area.specs.Stages.{Shape, Stands};
+ghost use Rattle.play.specs.Promises.{MinesFlagged};
 ghost use Rattle.moves.specs.Promises.{Carried, Made};
 ghost use Rattle.moves.specs.Walks.{Over, flagsFrom};
 
@@ -158,7 +159,7 @@ pub fn flag_around(
     flagged
 }
 
-// C.
+// C, where the mines of the square are flagged.
 pub fn chord_on(
     work: &mut [i32],
     rows: usize,
@@ -169,7 +170,7 @@ pub fn chord_on(
 ) -> State
     requires { ⌜ Shape rows columns ⌝ }
     requires { ⌜ HasCells (now work) (rows * columns) × (index < rows * columns) × (state .moves ≤ 2 ^ 48) ⌝ }
-    ensures { λ r. ⌜ ((g : Grid) (s : Position) (old : List ℤ) → Stands rows columns g s old (now (work .entry)) → Tidy g s → state .closed ≡ closedSafe g s
+    ensures { λ r. ⌜ ((g : Grid) (s : Position) (old : List ℤ) → Stands rows columns g s old (now (work .entry)) → Tidy g s → MinesFlagged g s index → state .closed ≡ closedSafe g s
         → Made rows columns g s old (chord index ∷ []) (now (list .entry)) state (now (work .exit)) (now (list .exit)) r) ⌝ }
 {
     let opened = play::chord(work, rows, columns, index);

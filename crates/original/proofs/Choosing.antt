@@ -11,7 +11,6 @@ use lib.Signed.{leZ, ltZ}
 use lib.ListN.{length}
 use Rattle.game.specs.Grid.{Grid, cells, safe, size, zeroCell}
 use Rattle.game.specs.Lists.{fold, has, keep, range}
-use Rattle.game.specs.Moves.{play}
 use Rattle.game.specs.Openings.{firstLabel}
 use Rattle.game.specs.Position.{Position, Tidy, closed, closedSafe, opened, premium}
 use Rattle.game.specs.Rounds.{Step, afterStep, choice, chords, clicks, closedUnitCell, highest, leastChosen, looked, same, stepOf, topCells, unitCells, width}
@@ -23,8 +22,9 @@ use Rattle.game.proofs.Labels.{first-label}
 use Rattle.game.proofs.Members.{first-of, has-head, has-keep, keep-has, rest-of}
 use Rattle.game.proofs.Orders.{ordered-keep, ordered-range, ordered-same}
 use Rattle.game.proofs.Squares.{cells→, length-cells}
+use Rattle.game.proofs.Tidy.{tidy-unopened}
 use Rattle.game.proofs.Truth.{T→true, and-both, and-false, and-left, and-right, and-true}
-use Rattle.original.proofs.Positions.{Models, not-opened}
+use Rattle.original.proofs.Positions.{Models}
 use Rattle.original.proofs.Scans.{Scanned, fold-prefix, head-of, head-stays, leZ-same, not-lt, reaches, scanned-higher, scanned-none, scanned-same}
 use Rattle.original.proofs.Turns.{click-stands, turn-stands}
 
@@ -133,7 +133,7 @@ module _ (human : Bool) (g : Grid) (s : Position) (n : ℕ) (st : State) (w : Mo
     where
       go : (b : Bool) → safe g x ≡ b → (not (opened s x) && b && (zeroCell g x || eqb (firstLabel g x) 0)) ≡ (b && closed s x && (zeroCell g x || (b && eqb (firstLabel g x) 0)))
       go true e =
-          ap (λ (c : Bool). c && true && (zeroCell g x || eqb (firstLabel g x) 0)) (not-opened g s x h (rw e tt) f)
+          ap (λ (c : Bool). c && true && (zeroCell g x || eqb (firstLabel g x) 0)) (tidy-unopened g s x f h (rw e tt))
           ∙ ap (λ (c : Bool). c && (zeroCell g x || eqb (firstLabel g x) 0)) (sym (and-true (closed s x)))
       go false e = ap (λ (c : Bool). c && (zeroCell g x || eqb (firstLabel g x) 0)) (sym (and-false (not (opened s x))))
 
@@ -158,7 +158,7 @@ module _ (human : Bool) (g : Grid) (s : Position) (n : ℕ) (st : State) (w : Mo
 
   -- while a safe cell is closed it takes the step at the lowest index
   pub applies : Tidy g s → 1 ≤ closedSafe g s → Applies (stepOf g s (choice human g s) 0)
-  unfolding apply-zini choice unitCells play
+  unfolding apply-zini choice unitCells
   applies f c = go (topCells human g s) (unitCells g s) refl refl (never-stuck human g s f c)
     where
       by : Option ℕ → Option ℕ → Option State

@@ -14,7 +14,6 @@ use lib.Seq.{getD-take, take-suc-set}
 use Rattle.game.specs.Draws.{Drawn, draw}
 use Rattle.game.specs.Grid.{Grid, cells, mine, safe, size}
 use Rattle.game.specs.Lists.{Each, fold, has, keep, range}
-use Rattle.game.specs.Moves.{play}
 use Rattle.game.specs.Position.{Position, Tidy, closedSafe, opened, premium}
 use Rattle.game.specs.Rounds.{Choice, afterStep, choice, chords, clicks, closedUnitCell, highest, leastChosen, looked, same, stepOf, topCells, unitCells, width}
 use Rattle.original.specs.Cells.{Zcell}
@@ -253,7 +252,7 @@ module _ (human : Bool) (g : Grid) (s : Position) (n : ℕ) (st : State) (w : Mo
   -- while a safe cell is closed it draws as the definition does
   pub rolls : (bytes : List ℕ) (next : ℕ) (maxpr : List ℕ) → Each (λ b. b < 256) bytes → size g ≤ 65025 → length maxpr ≡ size g → Tidy g s → 1 ≤ closedSafe g s
       → Rolls (choice human g s) (draw bytes next (width (choice human g s))) (apply-zini-rng (g .rows) human bytes st next maxpr)
-  unfolding apply-zini-rng choice unitCells play taken Fallen
+  unfolding apply-zini-rng choice unitCells taken Fallen
   rolls bytes next maxpr q few e f c =
       subst (λ (l : ℕ). Rolls (choice human g s) (draw bytes next (width (choice human g s))) (whole (fold (tied human (st .cells)) (no-ties maxpr) (range 0 l)) l)) (sym (w .board .long))
       (go (topCells human g s) refl (leZ (pos 0) (b .maxp)) refl (never-stuck human g s f c))

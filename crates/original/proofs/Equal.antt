@@ -22,7 +22,6 @@ use Rattle.original.specs.Entries.{cal-hzini, cal-rzini, cal-zini}
 use Rattle.original.specs.Equal.{CallsEqual, Equal, Within, answerUnless, answered, searchAnswer}
 use Rattle.original.proofs.Lowest.{greedy-equal, openings-first-equal}
 use Rattle.original.proofs.Randoms.{random-equal}
-use Rattle.game.proofs.Checks.{side-in}
 
 -- a grid within the limits has at most 65025 cells
 few-cells : (g : Grid) → Within g → size g ≤ 65025

@@ -4,7 +4,6 @@ use native.Mathlib.Omega.{arith}
 use mathlib.Core.Path.{_∙_, _≡_, ap, ap₂, refl, sym}
 use mathlib.Core.Bool.{Bool, _&&_, _||_, cond, false, not, true}
 use mathlib.Core.List.{List, [], _++_, _∷_}
-use mathlib.Core.Option.{none}
 use lib.Dec.{T, T-not, eqb, eqb→eq, not-T}
 use lib.ListN.{getD, length, length-append}
 use Rattle.game.specs.Grid.{Grid, cells, safe, size, zeroCell}

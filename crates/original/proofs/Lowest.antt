@@ -5,14 +5,13 @@ use native.Mathlib.Nat.{add-zero, mul-comm, zero-add}
 use mathlib.Core.Path.{_∙_, _≡_, ap, ap₂, refl, subst, sym}
 use mathlib.Core.Bool.{Bool, _&&_, false, not, true}
 use mathlib.Core.List.{List, [], _∷_}
-use mathlib.Core.Option.{none}
 use lib.Dec.{T, eqb}
 use lib.ListN.{length, length-append}
 use Rattle.game.specs.Grid.{Grid, cells, mine, safe, size, zeroCell}
 use Rattle.game.specs.Lists.{bit, count, fold, has, range}
-use Rattle.game.specs.Moves.{after, play, reveal}
+use Rattle.game.specs.Moves.{after, left, play}
 use Rattle.game.specs.Openings.{threeBV}
-use Rattle.game.specs.Position.{Position, Tidy, closed, closedSafe, closedUnits, flagged, opened, premium, untouched}
+use Rattle.game.specs.Position.{Position, Tidy, closed, closedSafe, closedUnits, flagged, opened, premium, unopened, untouched}
 use Rattle.game.specs.Rounds.{Step, clickStep, firstClicks, greedySteps, movesOf, openingClicks, openingsFirstSteps, stepsFrom}
 use Rattle.original.specs.Cells.{Zcell, at}
 use Rattle.original.specs.Entries.{cal-hzini, cal-zini, prepared}
@@ -20,17 +19,18 @@ use Rattle.original.specs.Play.{State, click, hitopenings}
 use Rattle.original.specs.Rounds.{begin, mines-of, zini-loop, zinialg}
 use Rattle.game.proofs.Counts.{count-ext}
 use Rattle.game.proofs.Members.{first-of, rest-of}
-use Rattle.game.proofs.Tidy.{reveal-tidy, untouched-tidy}
+use Rattle.game.proofs.Tidy.{tidy-unopened, untouched-tidy}
 use Rattle.game.proofs.Reveal.{zero-safe}
 use Rattle.game.proofs.Rounds.{clicks-run}
 use Rattle.game.proofs.Runs.{Run, moves-append, run-falls, run-tidy}
 use Rattle.game.proofs.Squares.{cells→, length-cells}
 use Rattle.game.proofs.Truth.{T→true, and-false, and-left, and-true}
-use Rattle.game.proofs.Units.{units-at-most-cells, units-untouched, untouched-at}
+use Rattle.game.proofs.Units.{units-at-most-cells, units-untouched}
+use Rattle.game.proofs.Untouched.{unopened-untouched, untouched-at}
 use Rattle.original.proofs.Loops.{loop-clicks}
-use Rattle.original.proofs.Positions.{Models, board-ext, not-opened}
+use Rattle.original.proofs.Positions.{Models, board-ext}
 use Rattle.original.proofs.Ready.{prepared-table}
-use Rattle.original.proofs.Turns.{click-stands}
+use Rattle.original.proofs.Turns.{click-stands, left-tidy}
 
 -- ---- before any move
 
@@ -56,7 +56,7 @@ begin-stands g =
         mul-comm (g .columns) (g .rows),
         count-not (mine g) (cells g),
         length-cells g,
-        count-ext (λ i. safe g i && closed (untouched g) i) (safe g) (cells g) (λ i t. ap (λ (x : ℕ). safe g i && eqb x 0) (untouched-at g i (cells→ g i t)) ∙ sym (and-true (safe g i))),
+        count-ext (λ i. safe g i && unopened (untouched g) i) (safe g) (cells g) (λ i t. ap (λ (b : Bool). safe g i && b) (unopened-untouched g i (cells→ g i t)) ∙ sym (and-true (safe g i))),
       );
     }
 
@@ -87,11 +87,10 @@ hit-turn g t j =
 
 hit-stands : (g : Grid) (xs : List ℕ) (s : Position) (n : ℕ) (st : State) → ((x : ℕ) → T (has x xs) → x < size g) → Tidy g s → Models g s n st
     → Models g (after g s (movesOf (openingClicks g s xs))) (n + length (movesOf (openingClicks g s xs))) (fold (hit-turn g) st xs)
-unfolding play
 hit-stands g [] s n st h f w = subst (λ (m : ℕ). Models g s m st) (sym (add-zero n)) w
 hit-stands g (x ∷ xs) s n st h f w =
     subst (λ (b : Bool). Models g (after g s (movesOf (openingClicks g s (x ∷ xs)))) (n + length (movesOf (openingClicks g s (x ∷ xs)))) (fold (hit-turn g) (by b) xs)) (sym test)
-    (go (zeroCell g x && closed s x) refl (λ a b. hit-stands g xs (reveal g s x) (n + 1) (click (g .rows) st x) (rest-of x xs h) a b) (hit-stands g xs s n st (rest-of x xs h) f w))
+    (go (zeroCell g x && closed s x) refl (λ a b. hit-stands g xs (play g s (left x)) (n + 1) (click (g .rows) st x) (rest-of x xs h) a b) (hit-stands g xs s n st (rest-of x xs h) f w))
   where
     hx : x < size g
     hx = first-of x xs h
@@ -105,22 +104,22 @@ hit-stands g (x ∷ xs) s n st h f w =
         one : (b : Bool) → zeroCell g x ≡ b → (safe g x && b && not (opened s x)) ≡ (b && closed s x)
         one true e =
             let t = zero-safe g x (record { inside = hx; none = rw e tt }) in
-            ap₂ (λ a c. a && true && c) (T→true (safe g x) t) (not-opened g s x hx t f)
+            ap₂ (λ a c. a && true && c) (T→true (safe g x) t) (tidy-unopened g s x f hx t)
         one false e = ap (λ (a : Bool). a && not (opened s x)) (sym (and-false (safe g x)))
 
     more : (m : ℕ) → n + 1 + m ≡ n + suc m
     more m = omega arith
 
     go : (b : Bool) → (zeroCell g x && closed s x) ≡ b
-        → (Tidy g (reveal g s x) → Models g (reveal g s x) (n + 1) (click (g .rows) st x)
-        → Models g (after g (reveal g s x) (movesOf (openingClicks g (reveal g s x) xs))) (n + 1 + length (movesOf (openingClicks g (reveal g s x) xs))) (fold (hit-turn g) (click (g .rows) st x) xs))
+        → (Tidy g (play g s (left x)) → Models g (play g s (left x)) (n + 1) (click (g .rows) st x)
+        → Models g (after g (play g s (left x)) (movesOf (openingClicks g (play g s (left x)) xs))) (n + 1 + length (movesOf (openingClicks g (play g s (left x)) xs))) (fold (hit-turn g) (click (g .rows) st x) xs))
         → Models g (after g s (movesOf (openingClicks g s xs))) (n + length (movesOf (openingClicks g s xs))) (fold (hit-turn g) st xs)
-        → Models g (after g s (movesOf (elim b [ true ↦ clickStep x ∷ openingClicks g (reveal g s x) xs | false ↦ openingClicks g s xs ])))
-        (n + length (movesOf (elim b [ true ↦ clickStep x ∷ openingClicks g (reveal g s x) xs | false ↦ openingClicks g s xs ]))) (fold (hit-turn g) (by b) xs)
+        → Models g (after g s (movesOf (elim b [ true ↦ clickStep x ∷ openingClicks g (play g s (left x)) xs | false ↦ openingClicks g s xs ])))
+        (n + length (movesOf (elim b [ true ↦ clickStep x ∷ openingClicks g (play g s (left x)) xs | false ↦ openingClicks g s xs ]))) (fold (hit-turn g) (by b) xs)
     go true e hit miss =
         let t = zero-safe g x (record { inside = hx; none = and-left (zeroCell g x) (closed s x) (rw e tt) }) in
-        subst (λ (m : ℕ). Models g (after g (reveal g s x) (movesOf (openingClicks g (reveal g s x) xs))) m (fold (hit-turn g) (click (g .rows) st x) xs)) (more (length (movesOf (openingClicks g (reveal g s x) xs))))
-        (hit (reveal-tidy g s x hx f) (click-stands g s n st x hx t f w))
+        subst (λ (m : ℕ). Models g (after g (play g s (left x)) (movesOf (openingClicks g (play g s (left x)) xs))) m (fold (hit-turn g) (click (g .rows) st x) xs)) (more (length (movesOf (openingClicks g (play g s (left x)) xs))))
+        (hit (left-tidy g s x hx t f) (click-stands g s n st x hx t f w))
     go false e hit miss = miss
 
 pub openings-first-equal : (g : Grid) → cal-hzini g ≡ length (movesOf (openingsFirstSteps g))

@@ -5,19 +5,21 @@ use native.Mathlib.Decide.{ℕ-discrete}
 use mathlib.Core.Path.{_∙_, _≡_, ap, ap₂, refl, subst, sym}
 use mathlib.Core.Bool.{Bool, _&&_, _||_, cond, false, not, true}
 use mathlib.Core.List.{List}
-use lib.Dec.{T, T-not, eqb, eqb→eq}
+use lib.Dec.{T, eqb, eqb→eq}
 use lib.IntN.{+ℤ-assoc, +ℤ-idr, _+ℤ_, _-ℤ_, negsuc, pos, ℤ}
 use lib.ListN.{getD, set}
 use lib.Seq.{getD-set-other, getD-set-same}
 use Rattle.game.specs.Grid.{Grid, cells, mine, safe, size, square, zeroCell}
 use Rattle.game.specs.Lists.{bit, count, fold, has}
 use Rattle.game.specs.Openings.{firstLabel, unlabelled}
-use Rattle.game.specs.Position.{Position, Tidy, closed, closedSafe, flagged, opened, premium}
+use Rattle.game.specs.Position.{Position, Tidy, closed, closedSafe, flagged, opened, premium, unopened}
 use Rattle.original.specs.Cells.{Cells, Zcell, add-premium, around, at, change, with-flagged, with-opened, with-premium}
 use Rattle.original.specs.Play.{State, add-around, flag-cell, one-click, open-cell, with-cells}
 use Rattle.game.proofs.Counts.{bit-yes, count-drop, count-ext}
 use Rattle.game.proofs.Labels.{first-label}
+use Rattle.game.proofs.Owners.{closed-unopened}
 use Rattle.game.proofs.Premiums.{premium-flag, premium-open}
+use Rattle.game.proofs.Reveal.{flag-stays}
 use Rattle.game.proofs.Squares.{once-cells, once-square, square-sym, →cells}
 use Rattle.game.proofs.Truth.{T→true, and-both, and-false, and-true, and-under, no→false}
 use Rattle.original.proofs.Ready.{plain}
@@ -135,14 +137,6 @@ shift false false p = sym (+ℤ-idr (p +ℤ pos 0) ∙ +ℤ-idr p)
 pub not-two : (x : ℕ) → eqb x 1 ≡ not (eqb x 0) → eqb x 2 ≡ false
 not-two x e = no→false (eqb x 2) (λ t. subst T (sym (subst (λ (k : ℕ). eqb k 1 ≡ not (eqb k 0)) (eqb→eq x 2 t) e)) tt)
 
--- a safe cell that is not opened is closed
-pub not-opened : (g : Grid) (s : Position) (i : ℕ) → i < size g → T (safe g i) → Tidy g s → not (opened s i) ≡ closed s i
-not-opened g s i h t f = ap not (f .safes i h t) ∙ not-not (closed s i)
-  where
-    not-not : (b : Bool) → not (not b) ≡ b
-    not-not true = refl
-    not-not false = refl
-
 -- ---- one cell is opened
 
 pub open-stands : (g : Grid) (s : Position) (n : ℕ) (st : State) (c : ℕ) → c < size g → Tidy g s → T (safe g c) → T (closed s c) → (T (zeroCell g c) → ⊥) → Models g s n st
@@ -189,10 +183,11 @@ open-stands g s n st c h f t u z k =
 
     fewer : st .closed-cells - 1 ≡ closedSafe g (set s c 1) + count (mine g) (cells g)
     fewer =
-        let d = count-drop (λ i. safe g i && closed s i) (λ i. safe g i && closed (set s c 1) i) c (cells g) (once-cells g)
-        (λ i e. ap (λ (x : ℕ). safe g i && eqb x 0) (sym (getD-set-other s c i 1 0 e)))
-        (ap (λ (x : ℕ). safe g c && eqb x 0) here ∙ sym (and-false (safe g c))) in
-        let q = bit-yes (has c (cells g) && (safe g c && closed s c)) (and-both (has c (cells g)) (safe g c && closed s c) (→cells g c h) (and-both (safe g c) (closed s c) t u)) in
+        let d = count-drop (λ i. safe g i && unopened s i) (λ i. safe g i && unopened (set s c 1) i) c (cells g) (once-cells g)
+        (λ i e. ap (λ (x : ℕ). safe g i && not (eqb x 1)) (sym (getD-set-other s c i 1 0 e)))
+        (ap (λ (x : ℕ). safe g c && not (eqb x 1)) here ∙ sym (and-false (safe g c))) in
+        let q = bit-yes (has c (cells g) && (safe g c && unopened s c))
+        (and-both (has c (cells g)) (safe g c && unopened s c) (→cells g c h) (and-both (safe g c) (unopened s c) t (closed-unopened s c u))) in
         omega (arith, k .left)
 
 -- ---- a mine is flagged
@@ -239,9 +234,8 @@ flag-stands g s n st m h f t u k = subst (λ (b : Bool). Models g (set s m 2) (n
 
     same : closedSafe g s ≡ closedSafe g (set s m 2)
     same =
-        count-ext (λ i. safe g i && closed s i) (λ i. safe g i && closed (set s m 2) i) (cells g)
-        (λ i v. and-under (safe g i) (closed s i) (closed (set s m 2) i)
-        (λ w. ap (λ (x : ℕ). eqb x 0) (sym (getD-set-other s m i 2 0 (λ e. T-not (mine g i) w (rw e t))))))
+        count-ext (λ i. safe g i && unopened s i) (λ i. safe g i && unopened (set s m 2) i) (cells g)
+        (λ i v. and-under (safe g i) (unopened s i) (unopened (set s m 2) i) (λ w. ap (λ (x : ℕ). not (eqb x 1)) (sym (flag-stays g s m i t w))))
 
     done : Models g (set s m 2) (n + 1) (by false)
     done =

@@ -4,13 +4,12 @@ use native.Mathlib.Omega.{arith}
 use native.Mathlib.Nat.{mul-comm}
 use mathlib.Core.Path.{_∙_, _≡_, ap, ap₂, refl, subst, sym}
 use mathlib.Core.Bool.{Bool, _&&_, _||_, cond, false, not, true}
-use mathlib.Core.Option.{none}
 use lib.Dec.{eqb}
 use lib.IntN.{+ℤ-comm, _+ℤ_, _-ℤ_, negℤ, negℤ-+ℤ, pos, ℤ}
 use lib.ListN.{length}
-use Rattle.game.specs.Grid.{Grid, cells, mine, number, safe, size, square, zeroCell}
+use Rattle.game.specs.Grid.{Grid, cells, number, safe, size, square, zeroCell}
 use Rattle.game.specs.Lists.{bit, count, fold, has, range}
-use Rattle.game.specs.Openings.{firstLabel, labels, openings, secondLabel, unlabelled}
+use Rattle.game.specs.Openings.{firstLabel, labels, secondLabel, unlabelled}
 use Rattle.game.specs.Position.{gain, premium, untouched}
 use Rattle.original.specs.Cells.{Cells, Zcell, add-premium, around, at, build-cells-ref, getadj3bv, initboard, set-number, set-opening, with-premium}
 use Rattle.original.specs.Entries.{prepared}

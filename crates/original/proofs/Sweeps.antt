@@ -6,7 +6,6 @@ use mathlib.Core.Path.{_∙_, _≡_, ap, ap₂, refl, subst, subst₂, sym}
 use mathlib.Core.Logic.{⊎-elim}
 use mathlib.Core.Bool.{Bool, _&&_, _||_, cond, false, not, true}
 use mathlib.Core.List.{List, [], _∷_}
-use mathlib.Core.Option.{none}
 use lib.Dec.{T, eqb, eqb-refl, eqb→eq, not-T}
 use lib.IntN.{_+ℤ_, _-ℤ_, negsuc, pos, ℤ}
 use lib.ListN.{getD, length, set}
@@ -14,7 +13,7 @@ use Rattle.game.specs.Grid.{Grid, cells, mine, safe, size, square, zeroCell}
 use Rattle.game.specs.Lists.{bit, count, fold, has, range}
 use Rattle.game.specs.Moves.{reveal, sweep}
 use Rattle.game.specs.Openings.{firstLabel, holds, joinedTo, labels, openings, secondLabel}
-use Rattle.game.specs.Position.{Position, Tidy, closed, closedSafe, flagged, opened, premium}
+use Rattle.game.specs.Position.{Position, Tidy, closed, closedSafe, flagged, opened, premium, unopened}
 use Rattle.original.specs.Cells.{Zcell, add-premium}
 use Rattle.original.specs.Play.{State, open-cell, reveal-cell, reveal-one, with-cells}
 use Rattle.game.proofs.Counts.{Once, count-ext, count-split}
@@ -22,13 +21,12 @@ use Rattle.game.proofs.Labels.{Seated, at-most-two, first-seat, labels-range, p
 use Rattle.game.proofs.Members.{first-of, has-cases, has-head, has-tail, rest-of}
 use Rattle.game.proofs.Openings.{covered, good}
 use Rattle.game.proofs.Owners.{same-holds}
-use Rattle.game.proofs.Tidy.{tidy-even}
 use Rattle.game.proofs.Premiums.{premium-sweep, reveal-sweep}
 use Rattle.game.proofs.Reveal.{Revealed, getD-sweep, mine-off, opens, revealed, stays, sweeps}
 use Rattle.game.proofs.Squares.{cells→, once-cells, →cells}
 use Rattle.game.proofs.Truth.{T→true, and-false, and-inside, and-true, and-under, iff, no→false, or-cases, or-left, or-right}
 use Rattle.game.proofs.Zeros.{Zero}
-use Rattle.original.proofs.Positions.{Board, Models, after-open, board-ext, board-premium, not-opened, not-two, one-at, open-board, open-stands, shift}
+use Rattle.original.proofs.Positions.{Board, Models, after-open, board-ext, board-premium, not-two, one-at, open-board, open-stands, shift}
 use borrow.Author.Tests.{eq-eqb, ne-eqb}
 
 -- ---- the label of a 0-cell stands at what its opening holds
@@ -262,14 +260,14 @@ sweep-stands g s n st c f z u k =
     held-safe j h t = not-T (mine g j) (λ m. mine-off g c j z h m t)
 
     open-as : (j : ℕ) → j < size g → ((has j (cells g) && carries g o j) || opened s j) ≡ opened (sweep g s c) j
-    open-as j h = ap (λ (a : Bool). a || opened s j) (hit j h) ∙ one (held j) (getD s j 0) ∙ sym (ap (λ (x : ℕ). eqb x 1) (getD-sweep g s c j h))
+    open-as j h = ap (λ (a : Bool). a || opened s j) (hit j h) ∙ one (held j) (getD s j 0) ∙ sym (ap (λ (x : ℕ). eqb x 1) (getD-sweep g s c f z u j h))
       where
         one : (b : Bool) (x : ℕ) → (b || eqb x 1) ≡ eqb (cond b 1 x) 1
         one true x = refl
         one false x = refl
 
     flags : (j : ℕ) → j < size g → flagged s j ≡ flagged (sweep g s c) j
-    flags j h = one (held j) (getD s j 0) (λ t. f .safes j h (held-safe j h t)) ∙ sym (ap (λ (x : ℕ). eqb x 2) (getD-sweep g s c j h))
+    flags j h = one (held j) (getD s j 0) (λ t. f .safes j h (held-safe j h t)) ∙ sym (ap (λ (x : ℕ). eqb x 2) (getD-sweep g s c f z u j h))
       where
         one : (b : Bool) (x : ℕ) → (T b → eqb x 1 ≡ not (eqb x 0)) → eqb x 2 ≡ eqb (cond b 1 x) 2
         one true x e = not-two x (e tt)
@@ -282,31 +280,29 @@ sweep-stands g s n st c f z u k =
         ∙ one (held j) (closed s j) (k .kept j)
         ∙ shift (held j) (held j && closed s j) (k .kept j)
         ∙ ap (λ (p : ℤ). p -ℤ pos (bit (held j)) +ℤ pos (bit (held j && closed s j))) (k .exact j h t)
-        ∙ sym (premium-sweep g s c z u j (f .long) (tidy-even g s f) h)
-        ∙ ap (λ (p : Position). premium g p j) (reveal-sweep g s c z u)
+        ∙ sym (premium-sweep g s c f z u j h)
+        ∙ ap (λ (p : Position). premium g p j) (reveal-sweep g s c f z u)
       where
         one : (b d : Bool) (p : ℤ) → cond b (cond (not d) p (p +ℤ pos 1) +ℤ negsuc 0) p ≡ cond b (cond (b && d) (p +ℤ pos 1) p +ℤ negsuc 0) (cond (b && d) (p +ℤ pos 1) p)
         one true true p = refl
         one true false p = refl
         one false d p = refl
 
-    fewer : closedSafe g s ≡ closedSafe g (sweep g s c) + count (λ j. carries g o j && not (opened s j)) (cells g)
+    fewer : closedSafe g s ≡ closedSafe g (sweep g s c) + count (λ j. carries g o j && unopened s j) (cells g)
     fewer =
-        let a = count-split (λ j. safe g j && closed s j) held (cells g) in
-        let b = count-ext (λ j. safe g j && closed s j && not (held j)) (λ j. safe g j && closed (sweep g s c) j) (cells g)
-        (λ j t. and-inside (safe g j) (closed s j) (closed (sweep g s c) j) (held j)
-        (λ v. ap (λ (x : ℕ). eqb x 0) (getD-sweep g s c j (cells→ g j t)) ∙ shut (held j) (getD s j 0))) in
-        let d = count-ext (λ j. held j && (safe g j && closed s j)) (λ j. carries g o j && not (opened s j)) (cells g)
-        (λ j t. and-under (held j) (safe g j && closed s j) (not (opened s j)) (λ v. open-closed j (cells→ g j t) (held-safe j (cells→ g j t) v))
-        ∙ ap (λ (a : Bool). a && not (opened s j)) (sym (carries-held g c j z (cells→ g j t)))) in
+        let a = count-split (λ j. safe g j && unopened s j) held (cells g) in
+        let b = count-ext (λ j. safe g j && unopened s j && not (held j)) (λ j. safe g j && unopened (sweep g s c) j) (cells g)
+        (λ j t. and-inside (safe g j) (unopened s j) (unopened (sweep g s c) j) (held j)
+        (λ v. ap (λ (x : ℕ). not (eqb x 1)) (getD-sweep g s c f z u j (cells→ g j t)) ∙ shut (held j) (getD s j 0))) in
+        let d = count-ext (λ j. held j && (safe g j && unopened s j)) (λ j. carries g o j && unopened s j) (cells g)
+        (λ j t. and-under (held j) (safe g j && unopened s j) (unopened s j)
+        (λ v. ap (λ (a : Bool). a && unopened s j) (T→true (safe g j) (held-safe j (cells→ g j t) v)))
+        ∙ ap (λ (a : Bool). a && unopened s j) (sym (carries-held g c j z (cells→ g j t)))) in
         omega arith
       where
-        shut : (b : Bool) (x : ℕ) → eqb (cond b 1 x) 0 ≡ (eqb x 0 && not b)
-        shut true x = and-false (eqb x 0)
-        shut false x = and-true (eqb x 0)
-
-        open-closed : (j : ℕ) → j < size g → T (safe g j) → (safe g j && closed s j) ≡ not (opened s j)
-        open-closed j h t = ap (λ (a : Bool). a && closed s j) (T→true (safe g j) t) ∙ sym (not-opened g s j h t f)
+        shut : (b : Bool) (x : ℕ) → not (eqb (cond b 1 x) 1) ≡ (not (eqb x 1) && not b)
+        shut true x = and-false (not (eqb x 1))
+        shut false x = and-true (not (eqb x 1))
 
 -- ---- reveal
 

@@ -6,7 +6,6 @@ use native.Mathlib.Nat.{add-zero}
 use mathlib.Core.Path.{_∙_, _≡_, ap, refl, subst, subst₂, sym}
 use mathlib.Core.Bool.{Bool, _&&_, cond, false, not, true}
 use mathlib.Core.List.{List, [], _∷_, map}
-use mathlib.Core.Option.{none}
 use lib.Dec.{T, T-not, eqb}
 use lib.IntN.{pos}
 use lib.ListN.{getD, length, set}
@@ -22,13 +21,15 @@ use Rattle.original.specs.Play.{State, add-around, click, flag-cell, fla
 use Rattle.original.specs.Rounds.{play-at}
 use Rattle.game.proofs.Counts.{Once, length-keep}
 use Rattle.game.proofs.Members.{first-of, has-cases, keep-ext, rest-of}
-use Rattle.game.proofs.Tidy.{flag-tidy, reveal-tidy}
+use Rattle.game.proofs.Narrow.{play-chord, play-left}
+use Rattle.game.proofs.Tidy.{flag-tidy, reveal-tidy, tidy-unopened}
 use Rattle.game.proofs.Reveal.{Revealed, getD-sweep, mine-off, opens, revealed, stays, sweeps}
 use Rattle.game.proofs.Runs.{moves-cost}
 use Rattle.game.proofs.Squares.{once-square, square→}
 use Rattle.game.proofs.Truth.{T-other, T→true, and-left, and-not, and-right, and-under, no→false}
 use Rattle.game.proofs.Units.{after-moves}
-use Rattle.original.proofs.Positions.{Models, board-around, flag-stands, not-opened}
+use Rattle.game.proofs.Zeros.{Zero}
+use Rattle.original.proofs.Positions.{Models, board-around, flag-stands}
 use Rattle.original.proofs.Sweeps.{reveal-stands}
 
 -- ---- click
@@ -38,21 +39,28 @@ clicked : (g : Grid) (s : Position) (n : ℕ) (st : State) → Models g s n st �
 clicked g s n st k =
     record { kept = k .kept; board = k .board; exact = k .exact; clicks = ap (λ (x : ℕ). x + 1) (k .clicks); left = k .left }
 
+-- click at a safe cell does what L does
 pub click-stands : (g : Grid) (s : Position) (n : ℕ) (st : State) (c : ℕ) → c < size g → T (safe g c) → Tidy g s → Models g s n st
-    → Models g (reveal g s c) (n + 1) (click (g .rows) st c)
+    → Models g (play g s (left c)) (n + 1) (click (g .rows) st c)
 click-stands g s n st c h t f k =
-    clicked g (reveal g s c) n (reveal-cell (g .rows) st c) (reveal-stands g s n st c h f (λ m. absurd (T-not (mine g c) t m)) k)
+    subst (λ (p : Position). Models g p (n + 1) (click (g .rows) st c)) (sym (play-left g s c t))
+    (clicked g (reveal g s c) n (reveal-cell (g .rows) st c) (reveal-stands g s n st c h f (λ m. absurd (T-not (mine g c) t m)) k))
+
+-- and the position after it is tidy
+pub left-tidy : (g : Grid) (s : Position) (c : ℕ) → c < size g → T (safe g c) → Tidy g s → Tidy g (play g s (left c))
+left-tidy g s c h t f = subst (Tidy g) (sym (play-left g s c t)) (reveal-tidy g s c h f)
 
 -- ---- mines stay as they are while cells are revealed
 
-mine-stays : (g : Grid) (s : Position) (c j : ℕ) → c < size g → j < size g → T (mine g j) → flagged (reveal g s c) j ≡ flagged s j
-mine-stays g s c j h hj m = ap (λ (x : ℕ). eqb x 2) (go (reveal g s c) (revealed g s c))
+mine-stays : (g : Grid) (s : Position) (c j : ℕ) → Tidy g s → c < size g → j < size g → T (mine g j) → flagged (reveal g s c) j ≡ flagged s j
+mine-stays g s c j f h hj m = ap (λ (x : ℕ). eqb x 2) (go (reveal g s c) (revealed g s c))
   where
     go : (t : Position) → Revealed g s c t → getD t j 0 ≡ getD s j 0
     go t (stays d) = refl
     go t (opens a b d) = getD-set-other s c j 1 0 (λ e. T-not (mine g c) a (subst (λ (x : ℕ). T (mine g x)) e m))
     go t (sweeps a b z) =
-        getD-sweep g s c j hj ∙ ap (λ (b : Bool). cond b 1 (getD s j 0)) (no→false (holds g j (joinedTo g c)) (mine-off g c j (record { inside = h; none = z }) hj m))
+        let y : Zero g c = record { inside = h; none = z } in
+        getD-sweep g s c f y b j hj ∙ ap (λ (b : Bool). cond b 1 (getD s j 0)) (no→false (holds g j (joinedTo g c)) (mine-off g c j y hj m))
 
 -- ---- flagaround
 
@@ -156,16 +164,16 @@ reveal-all : (g : Grid) (xs : List ℕ) (s : Position) (n : ℕ) (st : State) �
 reveal-all g [] s n st h m f k = k
 reveal-all g (x ∷ xs) s n st h m f k =
     reveal-all g xs (reveal g s x) n (reveal-cell (g .rows) st x) (rest-of x xs h)
-    (λ y u v. subst T (sym (mine-stays g s x y (first-of x xs h) (rest-of x xs h y u) v)) (rest-of x xs m y u v))
+    (λ y u v. subst T (sym (mine-stays g s x y f (first-of x xs h) (rest-of x xs h y u) v)) (rest-of x xs m y u v))
     (reveal-tidy g s x (first-of x xs h) f) (reveal-stands g s n st x (first-of x xs h) f (first-of x xs m) k)
 
 -- ---- the moves at a cell
 
 pub turn-stands : (g : Grid) (s : Position) (n : ℕ) (st : State) (i : ℕ) → i < size g → T (safe g i) → Tidy g s → Models g s n st
     → Models g (after g s (movesAt g s i)) (n + length (movesAt g s i)) (play-at (g .rows) st i)
-unfolding play cost
+unfolding cost
 turn-stands g s n st i h t f k =
-    subst₂ (λ p m. Models g p m (play-at (g .rows) st i)) (sym (after-moves g s i)) all-clicks
+    subst₂ (λ p m. Models g p m (play-at (g .rows) st i)) (sym (after-moves g s i ∙ play-chord g s₂ i (r .played .long) (r .all))) all-clicks
     (subst (λ (xs : List ℕ). Models g (fold (reveal g) s₂ (square g i)) (n + bit (closed s i) + length ms + 1) (fold (reveal-cell (g .rows)) (one-click st₂) xs)) (sym (same-square s₂ (n + bit (closed s i) + length ms) st₂ (r .stands)))
     (reveal-all g (square g i) s₂ (n + bit (closed s i) + length ms + 1) (one-click st₂) inside (λ x u m. r .all x u m) (r .played)
     (clicked g s₂ (n + bit (closed s i) + length ms) st₂ (r .stands))))
@@ -195,14 +203,14 @@ turn-stands g s n st i h t f k =
     same-square p m d q = board-around g (opened p) (flagged p) (q .kept) (d .cells) i h (q .board)
 
     closed-yet : not (at (st .cells) i .opened) ≡ closed s i
-    closed-yet = ap (λ (z : Zcell). not (z .opened)) (k .board .reads i h) ∙ not-opened g s i h t f
+    closed-yet = ap (λ (z : Zcell). not (z .opened)) (k .board .reads i h) ∙ tidy-unopened g s i f h t
 
     first : (b : Bool) → Models g (after g s (cond b (left i ∷ []) [])) (n + bit b) (by b) × Tidy g (after g s (cond b (left i ∷ []) []))
-    first true = (click-stands g s n st i h t f k, reveal-tidy g s i h f)
+    first true = (click-stands g s n st i h t f k, left-tidy g s i h t f)
     first false = (subst (λ (x : ℕ). Models g s x st) (sym (add-zero n)) k, f)
 
     same-flags : (b : Bool) (j : ℕ) → j < size g → T (mine g j) → flagged (after g s (cond b (left i ∷ []) [])) j ≡ flagged s j
-    same-flags true j hj m = mine-stays g s i j h hj m
+    same-flags true j hj m = ap (λ (p : Position). flagged p j) (play-left g s i t) ∙ mine-stays g s i j f h hj m
     same-flags false j hj m = refl
 
     same-mines : keep (unflagged g s₁) (square g i) ≡ ms
@@ -219,4 +227,4 @@ turn-stands g s n st i h t f k =
         (flags-all g (square g i) s₁ (n + bit (closed s i)) st₁ (once-square g i) inside (first (closed s i) .1) one)
 
     all-clicks : n + bit (closed s i) + length ms + 1 ≡ n + length (movesAt g s i)
-    all-clicks = omega (arith, moves-cost g s i, length-keep (unflagged g s) (square g i))
+    all-clicks = omega (arith, moves-cost g s i f h t, ap bit (tidy-unopened g s i f h t), length-keep (unflagged g s) (square g i))

@@ -16,10 +16,11 @@ use Rattle.game.specs.Grid.{Grid, cells, mine, safe, size, square, zeroCell}
 use Rattle.game.specs.Lists.{bit, count, fold, has}
 use Rattle.game.specs.Moves.{reveal}
 use Rattle.game.specs.Openings.{firstLabel, holds, joinedTo, unlabelled}
-use Rattle.game.specs.Position.{Position, Tidy, closed, closedSafe, cost, gain, opened}
+use Rattle.game.specs.Position.{Position, Tidy, closed, closedSafe, cost, gain, unopened}
 use Rattle.game.proofs.Counts.{bit-yes, count-drop, count-ext, count-split}
 use Rattle.game.proofs.Labels.{first-label}
-use Rattle.game.proofs.Tidy.{tidy-even}
+use Rattle.game.proofs.Owners.{closed-unopened}
+use Rattle.game.proofs.Tidy.{tidy-unopened}
 use Rattle.game.proofs.Premiums.{flag-cost, flag-gain, open-cost, open-gain, reveal-sweep, sweep-cost, sweep-gain}
 use Rattle.game.proofs.Reveal.{getD-sweep, mine-off}
 use Rattle.game.proofs.Squares.{cells→, in-own-square, once-cells, once-square, square-sym, square→, →cells}
@@ -157,11 +158,11 @@ module _ (g : Grid) (s : Position) (old : List ℤ) (i : ℕ) (room : HasCells o
     pub open-count : closedSafe g s ≡ 1 + closedSafe g (set s i 1)
     unfolding closedSafe
     open-count =
-        let a = count-drop (λ x. safe g x && closed s x) (λ x. safe g x && closed (set s i 1) x) i (cells g) (once-cells g)
-        (λ x n. ap (λ (k : ℕ). safe g x && eqb k 0) (sym (getD-set-other s i x 1 0 n)))
-        (ap (λ (k : ℕ). safe g i && eqb k 0) (getD-set-same s i 1 0 (omega (arith, long))) ∙ sym (and-false (safe g i))) in
-        let b = bit-yes (has i (cells g) && (safe g i && closed s i))
-        (and-both (has i (cells g)) (safe g i && closed s i) (→cells g i inside) (and-both (safe g i) (closed s i) is-safe shut)) in
+        let a = count-drop (λ x. safe g x && unopened s x) (λ x. safe g x && unopened (set s i 1) x) i (cells g) (once-cells g)
+        (λ x n. ap (λ (k : ℕ). safe g x && not (eqb k 1)) (sym (getD-set-other s i x 1 0 n)))
+        (ap (λ (k : ℕ). safe g i && not (eqb k 1)) (getD-set-same s i 1 0 (omega (arith, long))) ∙ sym (and-false (safe g i))) in
+        let b = bit-yes (has i (cells g) && (safe g i && unopened s i))
+        (and-both (has i (cells g)) (safe g i && unopened s i) (→cells g i inside) (and-both (safe g i) (unopened s i) is-safe (closed-unopened s i shut))) in
         omega arith
 
   -- ---- a mine is flagged
@@ -208,9 +209,9 @@ module _ (g : Grid) (s : Position) (old : List ℤ) (i : ℕ) (room : HasCells o
     pub flag-count : closedSafe g (set s i 2) ≡ closedSafe g s
     unfolding closedSafe
     flag-count =
-        count-ext (λ x. safe g x && closed (set s i 2) x) (λ x. safe g x && closed s x) (cells g) (λ x t.
-        and-under (safe g x) (closed (set s i 2) x) (closed s x) (λ u.
-        ap (λ (k : ℕ). eqb k 0) (getD-set-other s i x 2 0 (λ e. T-not (mine g x) u (rw e is-mine)))))
+        count-ext (λ x. safe g x && unopened (set s i 2) x) (λ x. safe g x && unopened s x) (cells g) (λ x t.
+        and-under (safe g x) (unopened (set s i 2) x) (unopened s x) (λ u.
+        ap (λ (k : ℕ). not (eqb k 1)) (getD-set-other s i x 2 0 (λ e. T-not (mine g x) u (rw e is-mine)))))
 
   -- ---- an opening is swept
 
@@ -226,7 +227,7 @@ module _ (g : Grid) (s : Position) (old : List ℤ) (i : ℕ) (room : HasCells o
     marks x h = marked-held g i x z h
 
     after-state : (x : ℕ) → x < size g → getD (reveal g s i) x 0 ≡ cond (in-it x) 1 (getD s x 0)
-    after-state x h = ap (λ (t : Position). getD t x 0) (reveal-sweep g s i z shut) ∙ getD-sweep g s i x h
+    after-state x h = ap (λ (t : Position). getD t x 0) (reveal-sweep g s i f z shut) ∙ getD-sweep g s i f z shut x h
 
     sweep-each : (x : ℕ) → x < size g → sweepCell (firstLabel g i) (heldCell g s x) ≡ heldCell g (reveal g s i) x
     sweep-each x h =
@@ -237,7 +238,7 @@ module _ (g : Grid) (s : Position) (old : List ℤ) (i : ℕ) (room : HasCells o
             → shiftCell q p (restated k (heldCell g s x)) ≡ heldCell g (reveal g s i) x
         by p q r u l m k e =
             ap (λ (v : ℕ). shiftCell q p (restated v (heldCell g s x))) (sym e)
-            ∙ moved g s (reveal g s i) x p q h l m (λ t. omega (arith, sweep-gain g s i z shut x long (tidy-even g s f) h)) (λ t. omega (arith, sweep-cost g s i z shut x h))
+            ∙ moved g s (reveal g s i) x p q h l m (λ t. omega (arith, sweep-gain g s i f z shut x h)) (λ t. omega (arith, sweep-cost g s i f z shut x h))
 
         down : raised g s x - 1 ≡ raised g s x + 0 - 1
         down = omega arith
@@ -260,25 +261,27 @@ module _ (g : Grid) (s : Position) (old : List ℤ) (i : ℕ) (room : HasCells o
     sweep-count : closedSafe g s ≡ closedSafe g (reveal g s i) + count (λ x. opensCell (firstLabel g i) (heldCell g s x)) (cells g)
     unfolding closedSafe
     sweep-count =
-        let a = count-split (λ x. safe g x && closed s x) in-it (cells g) in
-        let b = count-ext (λ x. (safe g x && closed s x) && not (in-it x)) (λ x. safe g x && closed (reveal g s i) x) (cells g) (λ x t. left-closed x (cells→ g x t)) in
-        let c = count-ext (λ x. in-it x && (safe g x && closed s x)) (λ x. opensCell (firstLabel g i) (heldCell g s x)) (cells g) (λ x t. now-opened x (cells→ g x t)) in
+        let a = count-split (λ x. safe g x && unopened s x) in-it (cells g) in
+        let b = count-ext (λ x. (safe g x && unopened s x) && not (in-it x)) (λ x. safe g x && unopened (reveal g s i) x) (cells g) (λ x t. left-closed x (cells→ g x t)) in
+        let c = count-ext (λ x. in-it x && (safe g x && unopened s x)) (λ x. opensCell (firstLabel g i) (heldCell g s x)) (cells g) (λ x t. now-opened x (cells→ g x t)) in
         omega arith
       where
-        left-closed : (x : ℕ) → x < size g → ((safe g x && closed s x) && not (in-it x)) ≡ (safe g x && closed (reveal g s i) x)
+        left-closed : (x : ℕ) → x < size g → ((safe g x && unopened s x) && not (in-it x)) ≡ (safe g x && unopened (reveal g s i) x)
         left-closed x h =
-            go (safe g x) (closed s x) (in-it x) (getD s x 0) refl
-            ∙ ap (λ (k : ℕ). safe g x && eqb k 0) (sym (after-state x h))
+            go (safe g x) (unopened s x) (in-it x) (getD s x 0) refl
+            ∙ ap (λ (k : ℕ). safe g x && not (eqb k 1)) (sym (after-state x h))
           where
-            go : (a b c : Bool) (k : ℕ) → eqb k 0 ≡ b → ((a && b) && not c) ≡ (a && eqb (cond c 1 k) 0)
+            go : (a b c : Bool) (k : ℕ) → not (eqb k 1) ≡ b → ((a && b) && not c) ≡ (a && not (eqb (cond c 1 k) 1))
             go true b true k e = sym (and-false b)
             go true b false k e = sym (and-true b) ∙ sym e
             go false b c k e = refl
 
-        now-opened : (x : ℕ) → x < size g → (in-it x && (safe g x && closed s x)) ≡ opensCell (firstLabel g i) (heldCell g s x)
+        now-opened : (x : ℕ) → x < size g → (in-it x && (safe g x && unopened s x)) ≡ opensCell (firstLabel g i) (heldCell g s x)
         now-opened x h =
-            and-under (in-it x) (safe g x && closed s x) (closed s x)
-            (λ t. ap (λ (b : Bool). b && closed s x) (T→true (safe g x) (not-T (mine g x) (λ m. mine-off g i x z h m t))))
+            and-under (in-it x) (safe g x && unopened s x) (closed s x)
+            (λ t.
+            let u = not-T (mine g x) (λ m. mine-off g i x z h m t) in
+            ap (λ (b : Bool). b && unopened s x) (T→true (safe g x) u) ∙ tidy-unopened g s x f h u)
             ∙ ap (λ (b : Bool). b && closed s x) (sym (marks x h))
 
     -- what the sweep comes to

@@ -1,17 +1,18 @@
 -- Reveals one after the other: nothing, one cell, two lists; a chord is the reveals of its square. Assumes nothing.
 use Prim.Native.Nat.{ℕ}
 use native.Mathlib.Omega.{arith}
-use mathlib.Core.Path.{_≡_, ap}
+use mathlib.Core.Path.{_∙_, _≡_, ap, sym}
 use mathlib.Core.List.{List, [], _∷_, _++_}
 use lib.IntN.{ℤ}
 use Rattle.area.specs.Squares.{squareOf}
 use Rattle.game.specs.Grid.{Grid, square}
 use Rattle.game.specs.Lists.{fold}
-use Rattle.game.specs.Moves.{play, reveal}
+use Rattle.game.specs.Moves.{reveal}
 use Rattle.game.specs.Position.{Position, Tidy, closedSafe}
 use Rattle.game.proofs.Members.{fold-append}
+use Rattle.game.proofs.Narrow.{play-chord}
 use Rattle.area.specs.Stages.{Stands}
-use Rattle.play.specs.Promises.{Chording, Opens, Revealing, RevealingAll, together}
+use Rattle.play.specs.Promises.{Chording, MinesFlagged, Opens, Revealing, RevealingAll, together}
 use Rattle.play.specs.declared.Opened.{Opened}
 
 pub opens-none : (rows columns : ℕ) (w : List ℤ) → Opens rows columns w [] (record { cells = 0 }) w
@@ -44,9 +45,8 @@ square-of rows columns g i e f = rw (← e, ← f)
 
 -- a chord
 pub opens-chord : (rows columns : ℕ) (w : List ℤ) (i : ℕ) (r : Opened) (v : List ℤ) → Opens rows columns w (squareOf rows columns i) r v
-    → (g : Grid) (s : Position) (old : List ℤ) → Stands rows columns g s old w → Tidy g s → Chording rows columns g s old i r v
-unfolding play
-opens-chord rows columns w i r v h g s old t f =
+    → (g : Grid) (s : Position) (old : List ℤ) → Stands rows columns g s old w → Tidy g s → MinesFlagged g s i → Chording rows columns g s old i r v
+opens-chord rows columns w i r v h g s old t f m =
     let a = h .revealing g s old t f in
-    let e = square-of rows columns g i (t .rows-are) (t .columns-are) in
-    record { stands = rw (← e) (a .stands); tidy = rw (← e) (a .tidy); opened-cells = rw (← e) (a .opened-cells) }
+    let e = play-chord g s i (f .long) m ∙ ap (fold (reveal g) s) (sym (square-of rows columns g i (t .rows-are) (t .columns-are))) in
+    record { stands = rw e (a .stands); tidy = rw e (a .tidy); opened-cells = rw e (a .opened-cells) }

@@ -6,9 +6,9 @@ use mathlib.Core.List.{List}
 use lib.Dec.{eqb}
 use lib.IntN.{ℤ}
 use Rattle.area.specs.Squares.{shifted, squareOf}
-use Rattle.game.specs.Lists.{bit, fold}
-use Rattle.area.specs.Numbers.{firstAt, contentAt, premiumAt, putPremium, putState, secondAt, stateAt}
-use Rattle.play.specs.Walks.{CellSwept, unflaggedAt, labelledAt, openedOne, opensAt, sweptCell}
+use Rattle.game.specs.Lists.{fold}
+use Rattle.area.specs.Numbers.{firstAt, premiumAt, putPremium, putState, secondAt, stateAt}
+use Rattle.play.specs.Walks.{CellSwept, labelledAt, openedOne, opensAt, sweptCell}
 use borrow.Author.Tests.{eq-eqb, ne-eqb}
 
 -- ---- a label is looked for
@@ -52,18 +52,3 @@ module _ (rows columns : ℕ) (w u v : List ℤ) (i k : ℕ) (p : u ≡ putState
   pub open-bare : (z : List ℤ) → k ≡ 0 → z ≡ fold (shifted 0 1) v (squareOf rows columns i) → z ≡ openedOne rows columns w i
   unfolding openedOne
   open-bare z t s = s ∙ rw (← p, ← q, ← e, t)
-
--- ---- a mine without flag
-
-module _ (w : List ℤ) (i k : ℕ) (e : k ≡ contentAt w i) where
-  pub unflagged-safe : (k ≡ 0 → ⊥) → 0 ≡ bit (unflaggedAt w i)
-  unfolding unflaggedAt
-  unflagged-safe n = rw (← e, ne-eqb k 0 n)
-
-  pub unflagged-flagged : (m : ℕ) → m ≡ stateAt w i → k ≡ 0 → m ≡ 2 → 0 ≡ bit (unflaggedAt w i)
-  unfolding unflaggedAt
-  unflagged-flagged m f z t = rw (← e, z, ← f, t)
-
-  pub unflagged-mine : (m : ℕ) → m ≡ stateAt w i → k ≡ 0 → (m ≡ 2 → ⊥) → 1 ≡ bit (unflaggedAt w i)
-  unfolding unflaggedAt
-  unflagged-mine m f z n = rw (← e, z, ← f, ne-eqb m 2 n)

@@ -3,9 +3,10 @@ use Prim.Native.Nat.{ℕ, _+_}
 use mathlib.Core.Path.{_≡_}
 use mathlib.Core.List.{List}
 use lib.IntN.{ℤ}
-use Rattle.game.specs.Lists.{fold}
-use Rattle.game.specs.Grid.{Grid}
-use Rattle.game.specs.Position.{Position, Tidy, closedSafe}
+use lib.Dec.{T}
+use Rattle.game.specs.Lists.{fold, has}
+use Rattle.game.specs.Grid.{Grid, mine, square}
+use Rattle.game.specs.Position.{Position, Tidy, closedSafe, flagged}
 use Rattle.game.specs.Moves.{reveal, play, chord}
 use Rattle.area.specs.Stages.{Stands}
 use Rattle.play.specs.declared.Opened.{Opened}
@@ -29,6 +30,10 @@ pub record RevealingAll (rows columns : ℕ) (g : Grid) (s : Position) (old : Li
 -- the cells were revealed one after the other, whatever tidy position w stood for
 pub record Opens (rows columns : ℕ) (w : List ℤ) (cells : List ℕ) (r : Opened) (v : List ℤ) : Type 0 where
   pub revealing : (g : Grid) (s : Position) (old : List ℤ) → Stands rows columns g s old w → Tidy g s → RevealingAll rows columns g s old cells r v
+
+-- the mines of the cell's square are all flagged, as they are when a round plays C there
+abbrev pub MinesFlagged : Grid → Position → ℕ → Type 0
+MinesFlagged g s i = (j : ℕ) → T (has j (square g i)) → T (mine g j) → T (flagged s j)
 
 -- r was opened, and w stands for the position after C, which is tidy again
 pub record Chording (rows columns : ℕ) (g : Grid) (s : Position) (old : List ℤ) (index : ℕ) (r : Opened) (w : List ℤ) : Type 0 where

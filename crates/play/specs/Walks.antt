@@ -1,13 +1,13 @@
 -- What the small functions do to the work area, number by number. Assumes nothing.
 use Prim.Native.Nat.{ℕ, _+_, _-_, _*_, _<_, _≤_}
 use mathlib.Core.Path.{_≡_}
-use mathlib.Core.Bool.{Bool, cond, not, _&&_, _||_}
+use mathlib.Core.Bool.{Bool, cond, _&&_, _||_}
 use mathlib.Core.List.{List}
 use lib.Dec.{eqb}
 use lib.IntN.{ℤ}
 use Rattle.area.specs.Squares.{shifted, squareOf}
 use Rattle.game.specs.Lists.{bit, count, fold, range}
-use Rattle.area.specs.Numbers.{firstAt, contentAt, premiumAt, putPremium, putState, secondAt, stateAt}
+use Rattle.area.specs.Numbers.{firstAt, premiumAt, putPremium, putState, secondAt, stateAt}
 
 -- a cell of number 1 or more is opened; if it has no label, each safe cell of its square has one unit less
 unfoldable pub openedOne : ℕ → ℕ → List ℤ → ℕ → List ℤ
@@ -73,7 +73,3 @@ pub record RightSwept (rows columns label column : ℕ) (w : List ℤ) (opened :
   pub in-columns : end ≤ columns
   pub swept : SweptOver label (column * rows) (end * rows) w opened v
   pub ends : (last : ℕ) → end ≡ last + 1 → end < columns → labelledIn label w (last * rows) (last * rows + rows) ≡ 0
-
--- a mine without flag
-unfoldable pub unflaggedAt : List ℤ → ℕ → Bool
-unflaggedAt w i = eqb (contentAt w i) 0 && not (eqb (stateAt w i) 2)

@@ -12,7 +12,7 @@ ghost use Rattle.game.specs.Position.{Position, Tidy, closed as isClosed};
 ghost use Rattle.game.specs.Moves.{play, flag as flagMove};
 ghost use Rattle.area.specs.Stages.{Shape, Stands};
 ghost use Rattle.play.specs.Walks.{openedOne, labelledAt, CellSwept, SweptOver, RunSwept, LeftSwept, RightSwept};
-ghost use Rattle.play.specs.Promises.{Revealing, Opens, Chording, together};
+ghost use Rattle.play.specs.Promises.{Revealing, Opens, Chording, MinesFlagged, together};
 
 // What moves opened: so many cells.
 pub struct Opened {
@@ -221,12 +221,12 @@ fn reveal_row(
     opened
 }
 
-// C: a reveal of each cell of the square, by row, then column. Answers what was opened.
+// C where the mines are flagged: a reveal of each cell of the square, by row, then column. Answers what was opened.
 pub fn chord(work: &mut [i32], rows: usize, columns: usize, index: usize) -> Opened
     requires { ⌜ Shape rows columns ⌝ }
     requires { ⌜ HasCells (now work) (rows * columns) × (index < rows * columns) ⌝ }
     ensures { λ r. ⌜ ((g : Grid) (s : Position) (old : List ℤ) → Stands rows columns g s old (now (work .entry)) → Tidy g s
-        → Chording rows columns g s old index r (now (work .exit))) ⌝ }
+        → MinesFlagged g s index → Chording rows columns g s old index r (now (work .exit))) ⌝ }
 {
     let sides = area::around(rows, columns, index);
     let first = sides.first;

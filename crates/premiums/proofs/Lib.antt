@@ -1,2 +1,3 @@
 pub mod Priced
 pub mod Raising
+pub mod Risen

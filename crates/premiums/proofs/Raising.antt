@@ -1,31 +1,30 @@
 -- Laid cell by cell, then raised square by square, the work area has the raised premiums before any move: each unlabelled cell adds 1 where counting would find it. Assumes nothing.
 use Prim.Native.Nat.{ℕ, _%_, _+_, _-_, _<_}
 use native.Mathlib.Omega.{arith}
-use native.Mathlib.Nat.{add-zero, mod-eq-of-lt}
-use mathlib.Core.Path.{_∙_, _≡_, ap, refl, sym}
+use mathlib.Core.Path.{_∙_, _≡_, ap, refl}
 use mathlib.Core.Bool.{Bool, _&&_, cond, false, not, true}
-use mathlib.Core.List.{List, [], _∷_}
-use lib.Dec.{T, eqb}
+use mathlib.Core.List.{List}
+use lib.Dec.{eqb}
 use lib.IntN.{ℤ}
-use lib.ListN.{getD-replicate, length}
+use lib.ListN.{length}
 use Rattle.area.specs.Numbers.{HasCells, firstAt, contentAt, natural, numberAt, premiumPlace, putPremium, putState, statePlace}
 use Rattle.area.specs.Squares.{shifted, squareOf}
 use Rattle.area.specs.Stages.{held, content, raised}
-use Rattle.game.specs.Grid.{Grid, cells, mine, safe, size, square}
+use Rattle.game.specs.Grid.{Grid, cells, size}
 use Rattle.game.specs.Lists.{bit, count, fold, has, range}
 use Rattle.game.specs.Openings.{firstLabel, secondLabel, unlabelled}
 use Rattle.game.specs.Position.{untouched}
 use Rattle.premiums.specs.Laying.{alonePremium, labelsAt, layCell, raiseNear, safeAt, unlabelledAt}
 use Rattle.game.proofs.Labels.{first-label}
-use Rattle.game.proofs.Members.{first-of, fold-inv, length-fold, range-has, rest-of}
-use Rattle.game.proofs.Squares.{cells→, once-cells, once-square, square→}
+use Rattle.game.proofs.Members.{fold-inv, range-has}
+use Rattle.game.proofs.Squares.{cells→, once-cells}
 use Rattle.game.proofs.Truth.{T→true}
-use Rattle.area.proofs.CellByCell.{Cell, at, cellArea, fold-acts, made, priced, put-premium, put-state-again, read-first, read-content, read-second, same-area, shift-acts, shiftCell}
-use Rattle.area.proofs.Held.{held-cells, heldCell, content-mine, raised-small}
+use Rattle.game.proofs.Untouched.{untouched-at}
+use Rattle.area.proofs.CellByCell.{Cell, at, cellArea, fold-acts, made, priced, put-premium, put-state-again, read-first, read-content, read-second, same-area}
+use Rattle.area.proofs.Held.{content-mine}
 use Rattle.area.proofs.Puts.{put-length, put-there}
-use Rattle.area.proofs.Rows.{same-square}
-use Rattle.area.proofs.Shifting.{length-shift}
-use Rattle.premiums.proofs.Priced.{alone, raised-parts, raises}
+use Rattle.premiums.proofs.Priced.{alone, raised-parts}
+use Rattle.premiums.proofs.Risen.{length-raised, raise-cells, raises, risen-held, risenCell, same-risen}
 
 -- ---- laid
 
@@ -64,11 +63,6 @@ lay-counts w₀ w i n content first k f r e ek ef qk qf qr =
     both false true = refl
     both false false = refl
 
--- labels, a premium, state 0 and content
-abbrev pub risenCell : Grid → (ℕ → ℕ) → ℕ → Cell
-risenCell g p i =
-    record { first = firstLabel g i; second = secondLabel g i; premium = p i % 2147483648; state = 0; content = content g i }
-
 -- a cell laid
 abbrev laidCell : Cell → Cell
 laidCell c =
@@ -93,75 +87,26 @@ module _ (g : Grid) (old : List ℤ) (room : HasCells old (size g)) where
 
   -- from any work area of labels and contents
   pub laid-alone : (C : ℕ → Cell) → ((i : ℕ) → C i .first ≡ firstLabel g i) → ((i : ℕ) → C i .second ≡ secondLabel g i) → ((i : ℕ) → C i .content ≡ content g i)
-      → fold layCell (cellArea C n old) (cells g) ≡ cellArea (risenCell g (alone g)) n old
+      → fold layCell (cellArea C n old) (cells g) ≡ cellArea (risenCell g (untouched g) (alone g)) n old
   unfolding alone
   laid-alone C firsts seconds contents =
       fold-acts n old room layCell laidCell lay-acts (cells g) C (once-cells g) (cells→ g)
-      ∙ same-area n old room (made laidCell (cells g) C) (risenCell g (alone g))
-      (λ x h. rw (T→true (has x (range 0 n)) (range-has 0 n x (omega arith) h), firsts x, seconds x, contents x))
+      ∙ same-area n old room (made laidCell (cells g) C) (risenCell g (untouched g) (alone g))
+      (λ x h. rw (T→true (has x (range 0 n)) (range-has 0 n x (omega arith) h), firsts x, seconds x, contents x, untouched-at g x h))
 
   -- ---- raised
 
-  abbrev risen : (ℕ → ℕ) → List ℤ
-  risen p = cellArea (risenCell g p) n old
+  -- the squares that the pass raises are those of the unlabelled cells
+  near-acts : (p : ℕ → ℕ) (i : ℕ) → i < n → raiseNear (g .rows) (g .columns) (cellArea (risenCell g (untouched g) p) n old) i
+      ≡ cond (unlabelled g i) (fold (shifted 1 0) (cellArea (risenCell g (untouched g) p) n old) (squareOf (g .rows) (g .columns) i)) (cellArea (risenCell g (untouched g) p) n old)
+  near-acts p i h =
+      rw (read-content n old room (risenCell g (untouched g) p) i h, read-first n old room (risenCell g (untouched g) p) i h, content-mine g i, first-label g i)
 
-  -- the same premiums
-  same-risen : (p q : ℕ → ℕ) → ((i : ℕ) → i < n → p i ≡ q i) → risen p ≡ risen q
-  same-risen p q e =
-      same-area n old room (risenCell g p) (risenCell g q)
-      (λ i h. ap (λ (k : ℕ). record { first = firstLabel g i; second = secondLabel g i; premium = k % 2147483648; state = 0; content = content g i }) (e i h))
-
-  -- 1 more for a safe cell of the square
-  up : (p : ℕ → ℕ) (i x : ℕ) → made (shiftCell 1 0) (square g i) (risenCell g p) x ≡ risenCell g (λ x. p x + bit (has x (square g i) && safe g x)) x
-  up p i x = rw (content-mine g x) (go (has x (square g i)) (mine g x))
-    where
-      cell : ℕ → Cell
-      cell m = record { first = firstLabel g x; second = secondLabel g x; premium = m % 2147483648; state = 0; content = content g x }
-
-      go : (b m : Bool) → cond b (cond m (cell (p x)) (priced (p x % 2147483648 + 1 - 0) (cell (p x)))) (cell (p x)) ≡ cell (p x + bit (b && not m))
-      go true true = ap cell (sym (add-zero (p x)))
-      go true false = ap (λ (k : ℕ). record { first = firstLabel g x; second = secondLabel g x; premium = k; state = 0; content = content g x }) (omega arith)
-      go false m = ap cell (sym (add-zero (p x)))
-
-  raise-near : (p : ℕ → ℕ) (i : ℕ) → i < n → raiseNear (g .rows) (g .columns) (risen p) i ≡ risen (λ x. p x + bit (raises g x i))
-  raise-near p i h =
-      rw (read-content n old room (risenCell g p) i h, read-first n old room (risenCell g p) i h)
-      (ap (λ (b : Bool). cond b (fold (shifted 1 0) (risen p) (squareOf (g .rows) (g .columns) i)) (risen p))
-      (ap (λ (b : Bool). not b && eqb (firstLabel g i) 0) (content-mine g i) ∙ sym (first-label g i))
-      ∙ go (unlabelled g i))
-    where
-      go : (b : Bool) → cond b (fold (shifted 1 0) (risen p) (squareOf (g .rows) (g .columns) i)) (risen p) ≡ risen (λ x. p x + bit (b && (has x (square g i) && safe g x)))
-      go true =
-          ap (fold (shifted 1 0) (risen p)) (same-square g i)
-          ∙ fold-acts n old room (shifted 1 0) (shiftCell 1 0) (shift-acts n old room 1 0) (square g i) (risenCell g p) (once-square g i) (λ x t. square→ g i x h t .0)
-          ∙ same-area n old room (made (shiftCell 1 0) (square g i) (risenCell g p)) (risenCell g (λ x. p x + bit (has x (square g i) && safe g x))) (λ x k. up p i x)
-      go false = same-risen p (λ x. p x + 0) (λ x k. sym (add-zero (p x)))
-
-  raise-cells : (xs : List ℕ) (p : ℕ → ℕ) → ((x : ℕ) → T (has x xs) → x < n) → fold (raiseNear (g .rows) (g .columns)) (risen p) xs ≡ risen (λ x. p x + count (raises g x) xs)
-  raise-cells [] p b = same-risen p (λ x. p x + 0) (λ x h. sym (add-zero (p x)))
-  raise-cells (y ∷ ys) p b =
-      ap (λ (w : List ℤ). fold (raiseNear (g .rows) (g .columns)) w ys) (raise-near p y (first-of y ys b))
-      ∙ raise-cells ys (λ x. p x + bit (raises g x y)) (rest-of y ys b)
-      ∙ same-risen (λ x. p x + bit (raises g x y) + count (raises g x) ys) (λ x. p x + (bit (raises g x y) + count (raises g x) ys)) (λ x h. omega arith)
-
-  -- the raised premiums of the untouched position are held
-  risen-held : risen (raised g (untouched g)) ≡ held g (untouched g) old
-  risen-held =
-      same-area n old room (risenCell g (raised g (untouched g))) (heldCell g (untouched g))
-      (λ i h. rw (mod-eq-of-lt (few i h), getD-replicate {A = ℕ} (size g) i 0 0 h))
-      ∙ sym (held-cells g (untouched g) old)
-    where
-      few : (i : ℕ) → i < n → raised g (untouched g) i < 2147483648
-      few i h = omega (arith, raised-small g (untouched g) i h)
-
-  pub raised-all : fold (raiseNear (g .rows) (g .columns)) (cellArea (risenCell g (alone g)) n old) (cells g) ≡ held g (untouched g) old
+  pub raised-all : fold (raiseNear (g .rows) (g .columns)) (cellArea (risenCell g (untouched g) (alone g)) n old) (cells g) ≡ held g (untouched g) old
   raised-all =
-      raise-cells (cells g) (alone g) (cells→ g)
-      ∙ same-risen (λ x. alone g x + count (raises g x) (cells g)) (raised g (untouched g)) (raised-parts g) ∙ risen-held
+      raise-cells g (untouched g) old room (raiseNear (g .rows) (g .columns)) (unlabelled g) near-acts (cells g) (alone g) (cells→ g)
+      ∙ same-risen g (untouched g) old room (λ x. alone g x + count (raises g (unlabelled g) x) (cells g)) (raised g (untouched g)) (raised-parts g)
+      ∙ risen-held g (untouched g) old room
 
 pub length-near : (rows columns : ℕ) (w : List ℤ) (i : ℕ) → length (raiseNear rows columns w i) ≡ length w
-length-near rows columns w i = go (unlabelledAt w i)
-  where
-    go : (b : Bool) → length (cond b (fold (shifted 1 0) w (squareOf rows columns i)) w) ≡ length w
-    go true = length-fold (shifted 1 0) w (squareOf rows columns i) (length-shift 1 0)
-    go false = refl
+length-near rows columns w i = length-raised (unlabelledAt w i) rows columns w i

@@ -26,7 +26,8 @@ use Rattle.rounds.specs.Promises.{Fresh}
 use Rattle.game.proofs.Randoms.{by-draw, drawn-fits, draws-none, draws-on}
 use Rattle.game.proofs.Runs.{Fits, moves-append}
 use Rattle.game.proofs.Tidy.{untouched-tidy}
-use Rattle.game.proofs.Units.{after-append, units-at-most-cells, units-untouched}
+use Rattle.game.proofs.Narrow.{after-append}
+use Rattle.game.proofs.Units.{units-at-most-cells, units-untouched}
 use Rattle.moves.proofs.Partway.{Partway, partway-begins, partway-falls, partway-goes-on, partway-more}
 use Rattle.rounds.proofs.Ending.{closed-alike}
 

@@ -61,10 +61,10 @@ record Takes (g : Grid) (s : Position) (top i : ℕ) (ms : List Move) : Type 0 w
   no-zero : 10 ≤ top → T (zeroCell g i) → ⊥
   same : takenMoves g s top i ≡ ms
 
-takes : (g : Grid) (s : Position) (top i k : ℕ) → k < width (choice false g s) → ltb top 10 ≡ forClick (choice false g s) → i ≡ getD (candidatesOf (choice false g s)) k 0
+takes : (g : Grid) (s : Position) (top i k : ℕ) → Tidy g s → k < width (choice false g s) → ltb top 10 ≡ forClick (choice false g s) → i ≡ getD (candidatesOf (choice false g s)) k 0
     → Takes g s top i (stepOf g s (choice false g s) k .moves)
 unfolding choice
-takes g s top i k = go (topCells false g s) refl (top→ false g s)
+takes g s top i k tidy = go (topCells false g s) refl (top→ false g s)
   where
     choose : List ℕ → Choice
     choose ts = elim ts [ [] ↦ clicks (unitCells g s) | x ∷ xs ↦ chords (x ∷ xs) ]
@@ -89,7 +89,7 @@ takes g s top i k = go (topCells false g s) refl (top→ false g s)
           shut = λ h. absurd (omega arith);
           no-zero = λ h z.
               let c = premium-pays g s i (v .reaches) in
-              let p = zero-poor g s i (record { inside = a .0; none = z }) in
+              let p = zero-poor g s i tidy (record { inside = a .0; none = z }) in
               absurd (omega arith);
           same = sym (act-taken g s top i n) ∙ ap (movesAt g s) q;
         }
@@ -110,13 +110,13 @@ module _ (g : Grid) (s : Position) (w : List ℤ) (cells top : ℕ) (tells : Tel
       of (clicks is) = refl
 
   -- the moves at the cell of a place are those of the step that takes the place
-  pub took : (rows columns : ℕ) (old : List ℤ) (list : List ℕ) (t : State) (p i : ℕ) (tops units : List ℕ) (w′ : List ℤ) (list′ tops′ : List ℕ) (r : State) → p < width (choice false g s)
+  pub took : (rows columns : ℕ) (old : List ℤ) (list : List ℕ) (t : State) (p i : ℕ) (tops units : List ℕ) (w′ : List ℤ) (list′ tops′ : List ℕ) (r : State) → Tidy g s → p < width (choice false g s)
       → i ≡ getD (keep (candidateAt top w) (range 0 cells)) p 0 → TopsKnown false w rows columns tops → UnitsKnown w rows columns units units
       → (T (safe g i) → (top < 10 → T (closed s i) × (topCells false g s ≡ [])) → (10 ≤ top → T (zeroCell g i) → ⊥)
       → MadeKnown false rows columns g s old (takenMoves g s top i) list w tops t w′ list′ tops′ r)
       → Made rows columns g s old (stepOf g s (choice false g s) p .moves) list t w′ list′ r × TopsKnown false w′ rows columns tops′ × UnitsKnown w′ rows columns tops′ units
-  took rows columns old list t p i tops units w′ list′ tops′ r l q kept units-kept made =
-      let a = takes g s top i p l (tells .one-click) (q ∙ ap (λ (xs : List ℕ). getD xs p 0) (tells .candidates)) in
+  took rows columns old list t p i tops units w′ list′ tops′ r f l q kept units-kept made =
+      let a = takes g s top i p f l (tells .one-click) (q ∙ ap (λ (xs : List ℕ). getD xs p 0) (tells .candidates)) in
       let b = made (a .is-safe) (a .shut) (a .no-zero) in
       (subst (λ (ms : List Move). Made rows columns g s old ms list t w′ list′ r) (a .same) (b .made), b .kept kept, b .units-kept units units-kept)
 

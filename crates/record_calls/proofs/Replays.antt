@@ -13,9 +13,9 @@ use lib.Seq.{take-at}
 use borrow.Author.Tests.{le-ltb}
 use Rattle.game.specs.Calls.{Answer, Outcome, Refusal, aboveCheck, firstGiven, gridChecks, replayCall, replayed, trace, unless}
 use Rattle.game.specs.Grid.{Grid, size}
-use Rattle.game.specs.Moves.{Move, Replayed, chord, flag, left, legalRead, playRead, readMove, replayFrom, stopped}
+use Rattle.game.specs.Moves.{Move, Replayed, cellOf, chord, flag, left, legal, legalRead, playRead, readMove, replayFrom, stopped, unflag}
 use Rattle.game.specs.Position.{Position, untouched}
-use Rattle.game.proofs.Tidy.{legal-inside}
+use Rattle.game.proofs.Narrow.{legal-inside}
 use Rattle.game.proofs.Truth.{and-both, no→false}
 use Rattle.area.specs.Stages.{Shape}
 use Rattle.checks.proofs.More.{enough, reaches}
@@ -62,17 +62,20 @@ module _ (g : Grid) (shaped : Shape (g .rows) (g .columns)) (s : Position) (word
   -- so is that of every legal word
   legal-stays : T (legalRead g s (readMove word)) → T (stays (g .rows) word)
   unfolding readMove i
-  legal-stays t = go (eqb (word / 65536) 1) refl (eqb (word / 65536) 2) refl (eqb (word / 65536) 3) refl t
+  legal-stays t = go (eqb (word / 65536) 1) refl (eqb (word / 65536) 2) refl (eqb (word / 65536) 3) refl (eqb (word / 65536) 4) refl t
     where
-      kind : (k : ℕ) → k < 4 → eqb (word / 65536) k ≡ true → word / 65536 < 65536
-      kind k h e = let q = eqb→eq (word / 65536) k (subst T (sym e) tt) in omega (arith, q, h)
+      on : (k : ℕ) (m : Move) → k < 5 → cellOf m ≡ i → eqb (word / 65536) k ≡ true → T (legal g s m) → T (stays (g .rows) word)
+      on k m h c e t =
+          let q = eqb→eq (word / 65536) k (subst T (sym e) tt) in
+          inside-stays (omega (arith, q, h)) (subst (λ (x : ℕ). x < size g) c (legal-inside g s m t))
 
-      go : (a : Bool) → eqb (word / 65536) 1 ≡ a → (b : Bool) → eqb (word / 65536) 2 ≡ b → (c : Bool) → eqb (word / 65536) 3 ≡ c
-          → T (legalRead g s (cond a (some (left i)) (cond b (some (flag i)) (cond c (some (chord i)) none)))) → T (stays (g .rows) word)
-      go true e b e′ c e″ t = inside-stays (kind 1 (omega arith) e) (legal-inside g s (left i) t)
-      go false e true e′ c e″ t = inside-stays (kind 2 (omega arith) e′) (legal-inside g s (flag i) t)
-      go false e false e′ true e″ t = inside-stays (kind 3 (omega arith) e″) (legal-inside g s (chord i) t)
-      go false e false e′ false e″ t = absurd t
+      go : (a : Bool) → eqb (word / 65536) 1 ≡ a → (b : Bool) → eqb (word / 65536) 2 ≡ b → (c : Bool) → eqb (word / 65536) 3 ≡ c → (d : Bool) → eqb (word / 65536) 4 ≡ d
+          → T (legalRead g s (cond a (some (left i)) (cond b (some (flag i)) (cond c (some (chord i)) (cond d (some (unflag i)) none))))) → T (stays (g .rows) word)
+      go true e b e′ c e″ d e‴ t = on 1 (left i) (omega arith) refl e t
+      go false e true e′ c e″ d e‴ t = on 2 (flag i) (omega arith) refl e′ t
+      go false e false e′ true e″ d e‴ t = on 3 (chord i) (omega arith) refl e″ t
+      go false e false e′ false e″ true e‴ t = on 4 (unflag i) (omega arith) refl e‴ t
+      go false e false e′ false e″ false e‴ t = absurd t
 
 -- ---- a list
 

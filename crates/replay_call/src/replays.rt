@@ -16,7 +16,7 @@ fn replay_answer(count: usize, played: replay::Replay) -> Replayed
     ensures { λ r. ⌜ r ≡ answered count played ⌝ }
 {
     match played {
-        replay::Replay::Whole(closed) => Replayed::Played(count, closed),
+        replay::Replay::Whole(closed, ending) => Replayed::Played(count, closed, ending),
         replay::Replay::Stopped(place) => Replayed::Move(place),
     }
 }
@@ -34,14 +34,14 @@ fn replay_checked(
     requires { ⌜ (length (now grid) ≡ rows * columns) × HasCells (now work) (rows * columns) × (count ≤ length (now list)) ⌝ }
     ensures { λ r. ⌜ Keeps (replayedList (gridOf rows columns (now (grid .entry))) (now (work .entry)) (now (list .entry)) count) (replayedAnswer r) (now (work .exit)) ⌝ }
 {
-    let counts = start::begin::set_up(grid, rows, columns, work);
-    let safe = counts.safe;
+    let safe = start::begin::set_out(grid, rows, columns, work);
     let played = replay::run(work, rows, columns, list, count, safe);
+    late_premiums::lay(work, rows, columns);
     start::begin::settle(work, rows * columns);
     replay_answer(count, played)
 }
 
-// The first moves of a list are played on a board: how many were made, and the safe cells still closed.
+// The first moves of a list are played on a board: how many were made, the safe cells still closed, and the ending.
 pub fn replay(
     rows: usize,
     columns: usize,

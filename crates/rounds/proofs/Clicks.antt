@@ -18,11 +18,13 @@ use Rattle.choices.proofs.Below.{in-column}
 use Rattle.choices.proofs.Columns.{column-low}
 use Rattle.choices.proofs.Tops.{none-reaches}
 use Rattle.game.specs.Grid.{Grid, columnOf, mine, safe, size, square, zeroCell}
-use Rattle.game.specs.Moves.{after, left, play}
+use Rattle.game.specs.Moves.{after, left}
 use Rattle.game.specs.Openings.{unlabelled}
-use Rattle.game.specs.Position.{Position, cellUnit, closed, cost, gain}
+use Rattle.game.specs.Position.{Position, cellUnit, closed, cost, gain, unopened}
 use Rattle.game.specs.Rounds.{topCells}
 use Rattle.game.proofs.Counts.{count-mono}
+use Rattle.game.proofs.Narrow.{play-left}
+use Rattle.game.proofs.Owners.{closed-unopened}
 use Rattle.game.proofs.Reveal.{reveal-one}
 use Rattle.game.proofs.Truth.{and-both, and-left, and-right}
 use Rattle.rounds.proofs.Quiet.{same-cost, same-openings, same-units}
@@ -30,8 +32,7 @@ use Rattle.rounds.proofs.Quiet.{same-cost, same-openings, same-units}
 module _ (g : Grid) (s : Position) (i : ℕ) (is-safe : T (safe g i)) (shut : T (closed s i)) (numbered : T (zeroCell g i) → ⊥) where
   -- it alone is opened
   opened-alone : after g s (left i ∷ []) ≡ set s i 1
-  unfolding play
-  opened-alone = reveal-one g s i is-safe shut numbered
+  opened-alone = play-left g s i is-safe ∙ reveal-one g s i is-safe shut numbered
 
   other : (j : ℕ) → (j ≡ i → ⊥) → getD (set s i 1) j 0 ≡ getD s j 0
   other j n = getD-set-other s i j 1 0 n
@@ -39,10 +40,10 @@ module _ (g : Grid) (s : Position) (i : ℕ) (is-safe : T (safe g i)) (shut : T 
   -- a unit that is closed after it was closed before
   still-closed : (k : ℕ) → T (cellUnit g (set s i 1) k) → T (cellUnit g s k)
   still-closed k t =
-      and-both (unlabelled g k) (closed s k) (and-left (unlabelled g k) (closed (set s i 1) k) t)
+      and-both (unlabelled g k) (unopened s k) (and-left (unlabelled g k) (unopened (set s i 1) k) t)
       (elim (ℕ-discrete k i) [
-        | yes e ↦ subst (λ (x : ℕ). T (closed s x)) (sym e) shut
-        | no n ↦ subst (λ (x : ℕ). T (eqb x 0)) (other k n) (and-right (unlabelled g k) (closed (set s i 1) k) t)
+        | yes e ↦ subst (λ (x : ℕ). T (unopened s x)) (sym e) (closed-unopened s i shut)
+        | no n ↦ subst (λ (x : ℕ). T (not (eqb x 1))) (other k n) (and-right (unlabelled g k) (unopened (set s i 1) k) t)
       ])
 
   -- what a chord there gains does not rise

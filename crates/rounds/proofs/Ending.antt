@@ -18,7 +18,7 @@ use Rattle.game.specs.Demands.{Sound}
 use Rattle.game.specs.Grid.{Grid, cells, safe}
 use Rattle.game.specs.Lists.{count, has, range}
 use Rattle.game.specs.Moves.{Move, after, word}
-use Rattle.game.specs.Position.{Position, Tidy, closed, closedSafe, closedUnits, untouched}
+use Rattle.game.specs.Position.{Position, Tidy, closedSafe, closedUnits, unopened, untouched}
 use Rattle.game.specs.Rounds.{firstSteps, movesOf, openingClicks, roundSteps, stepsFrom, stepsOn}
 use Rattle.moves.specs.Promises.{Made}
 use Rattle.rounds.specs.Promises.{Fresh, Going, RoundPlayed}
@@ -41,17 +41,17 @@ module _ (rows columns : ℕ) (g k : Grid) (s p : Position) (old other w : List 
   pub closed-alike : closedSafe g s ≡ closedSafe k p
   unfolding closedSafe
   closed-alike =
-      count-ext (λ i. safe g i && closed s i) (λ i. safe k i && closed p i) (cells g) alike
-      ∙ ap (count (λ i. safe k i && closed p i)) cells-alike
+      count-ext (λ i. safe g i && unopened s i) (λ i. safe k i && unopened p i) (cells g) alike
+      ∙ ap (count (λ i. safe k i && unopened p i)) cells-alike
     where
-      alike : (i : ℕ) → T (has i (cells g)) → (safe g i && closed s i) ≡ (safe k i && closed p i)
+      alike : (i : ℕ) → T (has i (cells g)) → (safe g i && unopened s i) ≡ (safe k i && unopened p i)
       alike i t =
           let h : i < rows * columns = omega (arith, cells→ g i t, ap₂ _*_ (st .rows-are) (st .columns-are)) in
           let a = content-read rows columns g s old w i h st (contentAt w i) refl in
           let b = content-read rows columns k p other w i h su (contentAt w i) refl in
           let c = state-read rows columns g s old w i h st (stateAt w i) refl in
           let d = state-read rows columns k p other w i h su (stateAt w i) refl in
-          ap₂ (λ x y. not x && eqb y 0) (sym (content-mine g i) ∙ ap (λ (n : ℕ). eqb n 0) (sym a ∙ b) ∙ content-mine k i) (sym c ∙ d)
+          ap₂ (λ x y. not x && not (eqb y 1)) (sym (content-mine g i) ∙ ap (λ (n : ℕ). eqb n 0) (sym a ∙ b) ∙ content-mine k i) (sym c ∙ d)
 
 -- ---- the first steps
 

@@ -16,7 +16,7 @@ use Rattle.rounds.specs.Promises.{Going}
 use Rattle.game.proofs.Choices.{never-stuck}
 use Rattle.game.proofs.Rounds.{steps-none, steps-on}
 use Rattle.game.proofs.Runs.{Fits, choice-fits}
-use Rattle.game.proofs.Units.{after-append}
+use Rattle.game.proofs.Narrow.{after-append}
 use Rattle.moves.proofs.Partway.{Partway, partway-begins, partway-falls, partway-goes-on}
 
 -- one step was made, whatever tidy position w stood for

@@ -18,19 +18,19 @@ use Rattle.mark_columns.specs.Columns.{Far}
 use Rattle.marks.specs.Marks.{Quiet}
 use Rattle.game.specs.Grid.{Grid, columnOf, mine, safe, size, square, zeroCell}
 use Rattle.game.specs.Lists.{Each, bit, count, fold, has, keep, range}
-use Rattle.game.specs.Moves.{Move, after, chord, flag, left, play, reveal, sweep}
+use Rattle.game.specs.Moves.{Move, after, blow, chord, clickEach, flag, left, play, reveal, sweep}
 use Rattle.game.specs.Openings.{holds, joinedTo, openings, unlabelled}
-use Rattle.game.specs.Position.{Position, cellUnit, closed, cost, flagged, gain, openingClosed, unflagged}
+use Rattle.game.specs.Position.{Position, cellUnit, closed, cost, flagged, gain, openingClosed, unflagged, unopened}
 use Rattle.game.specs.Rounds.{movesAt}
 use Rattle.choices.proofs.Below.{in-column}
 use Rattle.choices.proofs.Held.{unit-there}
 use Rattle.game.proofs.Chains.{joined-trans}
 use Rattle.game.proofs.Counts.{count-each, count-ext, each-map}
-use Rattle.game.proofs.Members.{all-ext, first-of, fold-inv, has-range, keep-has, rest-of, some-yes, yes-some}
+use Rattle.game.proofs.Members.{first-of, fold-inv, has-cases, has-range, keep-has, rest-of, some-same, some-yes, yes-some}
 use Rattle.game.proofs.Openings.{Full, good, →joinedTo}
-use Rattle.game.proofs.Reveal.{Revealed, getD-sweep, held-joined, mine-off, opens, revealed, stays, sweep-closed, sweeps, unlabelled-off, zero-safe}
+use Rattle.game.proofs.Reveal.{Revealed, held-joined, mine-off, opens, revealed, stays, sweep-closed, sweep-off, sweeps, unlabelled-off, zero-safe}
 use Rattle.game.proofs.Squares.{in-own-square, square→}
-use Rattle.game.proofs.Truth.{and-left, and-under, no→false}
+use Rattle.game.proofs.Truth.{and-left, and-under}
 use Rattle.game.proofs.Zeros.{Zero}
 
 -- ---- the moves of a step at a cell
@@ -95,9 +95,8 @@ module _ (g : Grid) (s : Position) (i : ℕ) (inside : i < size g) where
   kept-sweep s′ c t b z k =
       record {
         same = λ j h f off.
-            getD-sweep g s′ c j h
-            ∙ ap (λ (x : Bool). cond x 1 (getD s′ j 0)) (no→false (holds g j (joinedTo g c)) (off c t z (k .shut c (square→ g i c inside t .0) z b)))
-            ∙ k .same j h f off;
+            let hc = square→ g i c inside t .0 in
+            sweep-off g s′ c j (record { inside = hc; none = z }) b h (off c t z (k .shut c hc z b)) ∙ k .same j h f off;
         shut = λ j h y u. k .shut j h y (sweep-closed g s′ c j h u);
       }
 
@@ -109,12 +108,27 @@ module _ (g : Grid) (s : Position) (i : ℕ) (inside : i < size g) where
       go p (opens a b m) = spared-set s′ c 1 t m k
       go p (sweeps a b z) = kept-sweep s′ c t b z k
 
+  spared-blow : (s′ : Position) (c : ℕ) → T (has c (square g i)) → Spared g i s s′ → Spared g i s (blow g s′ c)
+  unfolding blow
+  spared-blow s′ c t k = go (mine g c && closed s′ c) refl
+    where
+      go : (b : Bool) → (mine g c && closed s′ c) ≡ b → Spared g i s (elim b [ true ↦ set s′ c 3 | false ↦ s′ ])
+      go true e =
+          spared-set s′ c 3 t (λ z.
+          T-not (mine g c) (zero-safe g c (record { inside = square→ g i c inside t .0; none = z })) (and-left (mine g c) (closed s′ c) (rw e tt))) k
+      go false e = k
+
+  spared-clicks : (s′ : Position) (xs : List ℕ) → ((x : ℕ) → T (has x xs) → T (has x (square g i))) → Spared g i s s′ → Spared g i s (clickEach g s′ xs)
+  spared-clicks s′ xs h k =
+      fold-inv (Spared g i s) (blow g) xs (λ p c t. spared-blow p c (h c t)) (fold (reveal g) s′ xs)
+      (fold-inv (Spared g i s) (reveal g) xs (λ p c t. spared-reveal p c (h c t)) s′ k)
+
   kept-play : (s′ : Position) (m : Move) → MoveAt g i m → Spared g i s s′ → Spared g i s (play g s′ m)
   unfolding play
-  kept-play s′ m opens-it k = spared-reveal s′ i (in-own-square g i inside) k
+  kept-play s′ m opens-it k = spared-clicks s′ (i ∷ []) (λ x t. has-cases x i [] (λ e. rw e (in-own-square g i inside)) (λ r. absurd r) t) k
   kept-play s′ m (flags-one c t u) k =
       spared-set s′ c 2 t (λ z. T-not (mine g c) (zero-safe g c (record { inside = square→ g i c inside t .0; none = z })) u) k
-  kept-play s′ m chords-it k = fold-inv (Spared g i s) (reveal g) (square g i) (λ p c t. spared-reveal p c t) s′ k
+  kept-play s′ m chords-it k = spared-clicks s′ (square g i) (λ x t. t) k
 
   kept-after : (ms : List Move) (s′ : Position) → Each (MoveAt g i) ms → Spared g i s s′ → Spared g i s (after g s′ ms)
   kept-after [] s′ e k = k
@@ -132,15 +146,15 @@ module _ (g : Grid) (s s′ : Position) (j : ℕ) where
   same-openings zeros =
       count-each (λ o. holds g j o && openingClosed s′ o) (λ o. holds g j o && openingClosed s o) (openings g)
       (each-map (openings g) (λ o f. and-under (holds g j o) (openingClosed s′ o) (openingClosed s o)
-      (λ t. all-ext (closed s′) (closed s) o (λ k u. ap (λ (x : ℕ). eqb x 0) (zeros o f t k u)))) (good g .full))
+      (λ t. some-same (unopened s′) (unopened s) o (λ k u. ap (λ (x : ℕ). not (eqb x 1)) (zeros o f t k u)))) (good g .full))
 
   same-gain : ((o : List ℕ) → Full g o → T (holds g j o) → (k : ℕ) → T (has k o) → getD s′ k 0 ≡ getD s k 0)
       → ((k : ℕ) → T (has k (square g j)) → T (unlabelled g k) → getD s′ k 0 ≡ getD s k 0) → gain g s′ j ≡ gain g s j
   unfolding gain
   same-gain zeros bare =
       ap₂ _+_ (same-openings zeros)
-      (count-ext (cellUnit g s′) (cellUnit g s) (square g j) (λ k t. and-under (unlabelled g k) (closed s′ k) (closed s k)
-      (λ u. ap (λ (x : ℕ). eqb x 0) (bare k t u))))
+      (count-ext (cellUnit g s′) (cellUnit g s) (square g j) (λ k t. and-under (unlabelled g k) (unopened s′ k) (unopened s k)
+      (λ u. ap (λ (x : ℕ). not (eqb x 1)) (bare k t u))))
 
   pub same-cost : getD s′ j 0 ≡ getD s j 0 → ((k : ℕ) → T (has k (square g j)) → T (mine g k) → getD s′ k 0 ≡ getD s k 0) → cost g s′ j ≡ cost g s j
   unfolding cost
@@ -148,7 +162,7 @@ module _ (g : Grid) (s s′ : Position) (j : ℕ) where
       ap₂ (λ (m n : ℕ). m + 1 + n)
       (count-ext (unflagged g s′) (unflagged g s) (square g j) (λ k t. and-under (mine g k) (not (flagged s′ k)) (not (flagged s k))
       (λ u. ap (λ (x : ℕ). not (eqb x 2)) (mines k t u))))
-      (ap (λ (x : ℕ). bit (eqb x 0)) own)
+      (ap (λ (x : ℕ). bit (not (eqb x 1))) own)
 
 -- ---- a column whose cells keep their states keeps its closed units
 

@@ -68,14 +68,14 @@ module _ (rows columns : ℕ) (w : List ℤ) (r : Found) where
     -- ---- a step
 
     module _ (openedOnly : Bool) (from : ℕ) (f : r ≡ foundFirst (topCells openedOnly g s)) where
-      pub top-taken : (i : ℕ) → r ≡ At i → (T (safe g i) → (T (zeroCell g i) → ⊥) → P (movesAt g s i) from)
+      pub top-taken : (i : ℕ) → Tidy g s → r ≡ At i → (T (safe g i) → (T (zeroCell g i) → ⊥) → P (movesAt g s i) from)
           → P (stepOf g s (choice openedOnly g s) 0 .moves) (columnAfter g (choice openedOnly g s) from)
       unfolding choice
-      top-taken i e q =
+      top-taken i tidy e q =
           let v = top→ openedOnly g s i (found-has (topCells openedOnly g s) r i e f .0) in
           let k = looked→ openedOnly g s i (v .is-looked) in
           go (topCells openedOnly g s) (found-has (topCells openedOnly g s) r i e f)
-          (q (k .1) (λ u. let p = zero-poor g s i (record { inside = k .0; none = u }) in let c = premium-pays g s i (v .reaches) in absurd (omega arith)))
+          (q (k .1) (λ u. let p = zero-poor g s i tidy (record { inside = k .0; none = u }) in let c = premium-pays g s i (v .reaches) in absurd (omega arith)))
         where
           go : (ts : List ℕ) → T (has i ts) × (getD ts 0 0 ≡ i) → P (movesAt g s i) from
               → let c = elim ts as (λ _. Choice) [ [] ↦ clicks (unitCells g s) | x ∷ xs ↦ chords (x ∷ xs) ] in

@@ -6,24 +6,25 @@ use mathlib.Core.Bool.{Bool, _&&_, not}
 use mathlib.Core.List.{List}
 use lib.Dec.{eqb}
 use lib.IntN.{ℤ}
-use lib.ListN.{length}
+use lib.ListN.{getD, length}
 use Rattle.area.specs.Numbers.{HasCells, firstAt}
-use Rattle.area.specs.Stages.{Shape, Stands, held, content, labelledFive}
+use Rattle.area.specs.Stages.{Shape, Stands, held, content, labelledFive, movingFive}
 use Rattle.game.specs.Area.{laid}
 use Rattle.game.specs.Calls.{work}
 use Rattle.game.specs.Grid.{Grid, cells, safe, size}
 use Rattle.game.specs.Lists.{count, fold, range}
 use Rattle.game.specs.Openings.{firstLabel, openings, secondLabel, threeBV, unlabelled}
-use Rattle.game.specs.Position.{Position, closed, closedSafe, untouched}
+use Rattle.game.specs.Position.{Position, closedSafe, unopened, untouched}
 use Rattle.premiums.specs.Laying.{layCell, raiseNear, safeAt, unlabelledAt}
-use Rattle.start.specs.Setting.{Setting}
+use Rattle.start.specs.Setting.{SetOut, Setting}
 use Rattle.game.proofs.Counts.{count-ext}
 use Rattle.game.proofs.Labels.{first-label}
 use Rattle.game.proofs.Squares.{cells→}
 use Rattle.game.proofs.Tidy.{untouched-tidy}
 use Rattle.game.proofs.Truth.{and-true}
-use Rattle.game.proofs.Units.{closed-untouched, units-at-most-cells}
-use Rattle.area.proofs.CellByCell.{Cell, cellArea, read-first, read-content}
+use Rattle.game.proofs.Units.{units-at-most-cells}
+use Rattle.game.proofs.Untouched.{unopened-untouched, untouched-at}
+use Rattle.area.proofs.CellByCell.{Cell, cellArea, read-first, read-content, same-area}
 use Rattle.area.proofs.Held.{held-cells, heldCell, content-mine}
 use Rattle.premiums.proofs.Raising.{laid-alone, raised-all}
 
@@ -34,6 +35,11 @@ labelledCell g x = record { first = firstLabel g x; second = secondLabel g x; pr
 labelled-cells : (g : Grid) (old : List ℤ) → laid (labelledFive g) (size g) old ≡ cellArea (labelledCell g) (size g) old
 unfolding labelledFive
 labelled-cells g old = refl
+
+-- a cell before the moves of a replay
+abbrev movingCell : Grid → ℕ → Cell
+movingCell g x =
+    record { first = firstLabel g x; second = secondLabel g x; premium = 0; state = getD (untouched g) x 0; content = content g x }
 
 module _ (g : Grid) (old : List ℤ) (room : HasCells old (size g)) where
   abbrev w : List ℤ
@@ -52,9 +58,27 @@ module _ (g : Grid) (old : List ℤ) (room : HasCells old (size g)) where
   unfolding threeBV closedSafe
   counted = (
     ap (λ (n : ℕ). length (openings g) + n) (count-ext (unlabelledAt w) (unlabelled g) (cells g) (λ i t. unlabelled-there i (cells→ g i t))),
-    count-ext (safeAt w) (λ i. safe g i && closed (untouched g) i) (cells g) (λ i t.
-        safe-there i (cells→ g i t) ∙ and-true (safe g i) ∙ ap (λ (b : Bool). safe g i && b) (sym (closed-untouched g i (cells→ g i t)))),
+    count-ext (safeAt w) (λ i. safe g i && unopened (untouched g) i) (cells g) (λ i t.
+        safe-there i (cells→ g i t) ∙ and-true (safe g i) ∙ ap (λ (b : Bool). safe g i && b) (sym (unopened-untouched g i (cells→ g i t)))),
   )
+
+  -- a labelled area is set out for a replay
+  pub set-out : (w₁ : List ℤ) (s : ℕ) → Shape (g .rows) (g .columns) → w₁ ≡ laid (labelledFive g) (size g) old → s ≡ count (safeAt w₁) (cells g)
+      → SetOut (g .rows) (g .columns) g old s w₁
+  unfolding movingFive
+  set-out w₁ s h e k =
+      let q = e ∙ labelled-cells g old in
+      record {
+        safe = k ∙ ap (λ (v : List ℤ). count (safeAt v) (cells g)) q ∙ counted .1;
+        moving = record {
+          rows-are = refl;
+          columns-are = refl;
+          shape = h;
+          room = room;
+          long = untouched-tidy g .long;
+          holds-it = q ∙ same-area (size g) old room (labelledCell g) (movingCell g) (λ i l. rw (untouched-at g i l));
+        };
+      }
 
   -- laid and raised, from labels and contents
   begun : (C : ℕ → Cell) → ((i : ℕ) → C i .first ≡ firstLabel g i) → ((i : ℕ) → C i .second ≡ secondLabel g i) → ((i : ℕ) → C i .content ≡ content g i)

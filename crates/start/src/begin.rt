@@ -4,12 +4,14 @@ ghost use mathlib.Core.List.{List};
 ghost use Prim.Native.Nat.{_+_, _*_};
 ghost use lib.IntN.{ℤ};
 ghost use lib.ListN.{length};
+ghost use Rattle.game.specs.Lists.{count, range};
 ghost use Rattle.game.specs.Grid.{Grid, size};
 ghost use Rattle.game.specs.Position.{Position, untouched};
 ghost use Rattle.game.specs.Area.{areaOf};
 ghost use Rattle.area.specs.Numbers.{HasCells, gridOf};
 ghost use Rattle.area.specs.Stages.{Shape, Stands, held};
-ghost use Rattle.start.specs.Setting.{Setting};
+ghost use Rattle.premiums.specs.Laying.{safeAt};
+ghost use Rattle.start.specs.Setting.{SetOut, Setting};
 
 // The units and the safe cells of a grid.
 pub struct Counts {
@@ -32,6 +34,29 @@ pub fn set_up(grid: &[i32], rows: usize, columns: usize, work: &mut [i32]) -> Co
         units: openings + laid.unlabelled,
         safe: laid.safe,
     }
+}
+
+// The safe cells of a work area with contents.
+fn count_safe(work: &[i32], cells: usize) -> usize
+    requires { ⌜ HasCells (now work) cells ⌝ }
+    ensures { λ r. ⌜ r ≡ count (safeAt (now (work .entry))) (range 0 cells) ⌝ }
+{
+    let mut safe: usize = 0;
+    for index in 0..cells {
+        safe += area::one_if_any(area::content(work, index));
+    }
+    safe
+}
+
+// The work area before the moves of a replay, without premiums. Answers the safe cells.
+pub fn set_out(grid: &[i32], rows: usize, columns: usize, work: &mut [i32]) -> usize
+    requires { ⌜ Shape rows columns ⌝ }
+    requires { ⌜ (length (now grid) ≡ rows * columns) × HasCells (now work) (rows * columns) ⌝ }
+    ensures { λ r. ⌜ SetOut rows columns (gridOf rows columns (now (grid .entry))) (now (work .entry)) r (now (work .exit)) ⌝ }
+{
+    crate::load::load(grid, rows, columns, work);
+    openings::label(work, rows, columns);
+    count_safe(work, rows * columns)
 }
 
 // The work area is handed back: it holds a position as RULES 6.1 says.

@@ -242,14 +242,15 @@ fn value_from(text: &[u8], from: usize) -> i32 {
     (number_from(text, from) % 2147483648) as i32
 }
 
-// A move's kind by its letter, L, F or C; 0 for another byte.
+// A move's kind by its letter, L, F, C or U, which takes a flag away; 0 for another byte.
 fn kind_of(byte: u8) -> usize
-    ensures { λ r. ⌜ r ≤ 3 ⌝ }
+    ensures { λ r. ⌜ r ≤ 4 ⌝ }
 {
     match byte {
         76 => 1,
         70 => 2,
         67 => 3,
+        85 => 4,
         _ => 0,
     }
 }

@@ -19,11 +19,14 @@ pub fn print_number(n: u64) {
     io::print_decimal(1, n);
 }
 
-// Prints an answer: its number and its two values.
+// Prints an answer: its number and its two values, and behind a replay's the ending.
 pub fn print_answer(answer: Plain) {
     print_number(answer.number);
     print_number(answer.first);
     print_number(answer.second);
+    if answer.replayed {
+        print_number(answer.ending);
+    }
     io::write_all(1, b"\n");
 }
 

@@ -1,14 +1,16 @@
-// What the calls answer, as three numbers.
+// What the calls answer, as three numbers, and a replay's as four.
 use zini::Counted;
 use zini::Priced;
 use zini::Replayed;
 use zini::Rolled;
 
-// An answer: its number, 0 for success, and its two values, 0 for none.
+// An answer: its number, 0 for success, and its two values, 0 for none; a replay's has the ending too.
 pub struct Plain {
     pub number: u64,
     pub first: u64,
     pub second: u64,
+    pub ending: u64,
+    pub replayed: bool,
 }
 
 // An answer of three numbers.
@@ -17,6 +19,19 @@ pub fn numbers(number: u64, first: u64, second: u64) -> Plain {
         number,
         first,
         second,
+        ending: 0,
+        replayed: false,
+    }
+}
+
+// A replay's answer of four numbers.
+fn replay_numbers(number: u64, first: u64, second: u64, ending: u64) -> Plain {
+    Plain {
+        number,
+        first,
+        second,
+        ending,
+        replayed: true,
     }
 }
 
@@ -47,8 +62,12 @@ pub fn of_rolled(answer: Rolled) -> Plain {
 // What a replay answered.
 pub fn of_replayed(answer: Replayed) -> Plain {
     match answer {
-        Replayed::Played(made, closed) => numbers(0, made as u64, closed as u64),
-        Replayed::Move(place) => numbers(7, place as u64, 0),
-        Replayed::Refused(refusal) => numbers(refusals::number_of(refusal) as u64, 0, 0),
+        Replayed::Played(made, closed, ending) => {
+            replay_numbers(0, made as u64, closed as u64, ending as u64)
+        }
+        Replayed::Move(place) => replay_numbers(7, place as u64, 0, 0),
+        Replayed::Refused(refusal) => {
+            replay_numbers(refusals::number_of(refusal) as u64, 0, 0, 0)
+        }
     }
 }

@@ -18,7 +18,7 @@ use Rattle.game.specs.Rounds.{Round, Searched, Step, greedySteps, movesOf, open
 use Rattle.game.specs.Demands.{Sound, SoundSearch}
 use Rattle.game.specs.Calls.{Answer, ListOutcome, Outcome, Refusal, drawnRound, drawnSearch, draws, firstGiven, gives, greedyCall, gridChecks, listCheck, numberOf, openingsFirstCall, playedRound, priceCall, randomRoundCall, randomSearchCall, rounds, roundsCheck, trace, unless, unlessListed}
 use Rattle.game.proofs.Parts.{joined, search-parts}
-use Rattle.game.proofs.Replays.{round-replays}
+use Rattle.game.proofs.Replays.{round-answers, round-replays}
 use Rattle.game.proofs.Draws.{lent-places}
 use Rattle.game.proofs.Randoms.{random-sound}
 use Rattle.game.proofs.Rounds.{greedy-sound, openings-first-sound}
@@ -45,7 +45,8 @@ unfolding listOf
 stands-written g ts l l′ n h d e q =
     let words : take n l′ ≡ map word (movesOf ts) =
     ap (take n) q ∙ take-at (map word (movesOf ts)) (drop (length (map word (movesOf ts))) l) n (sym (e ∙ sym (length-map (movesOf ts) word))) in
-    record { steps = ts; sound = d; clicks = e; words = words; replays = ap (replayFrom g 0 (untouched g)) words ∙ round-replays g ts h d }
+    let replays = ap (replayFrom g 0 (untouched g)) words ∙ round-replays g ts h d in
+    record { steps = ts; sound = d; clicks = e; words = words; replays = replays; wins = λ ws. round-answers g ts ws l′ n d replays }
 
 -- a grid that was not refused is small
 small : (g : Grid) (w : List ℤ) (l : List ℕ) → firstGiven (gridChecks g w ++ listCheck g l ∷ []) ≡ none → size g ≤ 65536

@@ -2,7 +2,7 @@
 use borrow.Author.Needs.{needs}
 use mathlib.Core.Path.{ap, refl}
 use Rattle.answers.specs.Answers.{replayedAnswer}
-use Rattle.lavgerin.proofs.Returns.{returned-two}
+use Rattle.lavgerin.proofs.Returns.{returned-three}
 use Rattle.lavgerin.proofs.lavgerin_replay.Statement.{statement}
 use Rattle.lavgerin.proofs.lavgerin_replay.Tie as tie
 
@@ -28,19 +28,19 @@ same-length : tie.Need-same-length
 same-length c = search needs
 
 returns : tie.Need-returns
-returns c = returned-two (c .before .before .before .before .replay .ensures) (ap replayedAnswer (c .before .answer .given .1)) refl refl refl
+returns c = returned-three (c .before .before .before .before .replay .ensures) (ap replayedAnswer (c .before .answer .given .1)) refl refl refl refl
 
 same-length-2 : tie.Need-same-length-2
 same-length-2 c = search needs
 
 returns-2 : tie.Need-returns-2
-returns-2 c = returned-two (c .before .before .before .before .before .replay .ensures) (ap replayedAnswer (c .before .before .answer2 .given .1)) (c .number-of .ensures) refl refl
+returns-2 c = returned-three (c .before .before .before .before .before .replay .ensures) (ap replayedAnswer (c .before .before .answer2 .given .1)) (c .number-of .ensures) refl refl refl
 
 same-length-3 : tie.Need-same-length-3
 same-length-3 c = search needs
 
 returns-3 : tie.Need-returns-3
-returns-3 c = returned-two (c .before .before .before .before .before .replay .ensures) (ap replayedAnswer (c .before .before .answer3 .given .1)) (c .number-of2 .ensures) refl refl
+returns-3 c = returned-three (c .before .before .before .before .before .replay .ensures) (ap replayedAnswer (c .before .before .answer3 .given .1)) (c .number-of2 .ensures) refl refl refl
 
 pub lavgerin-replay-spec : {M : Type 1} → statement M
 lavgerin-replay-spec =

@@ -34,7 +34,7 @@ returns c =
     let a = b .args in
     let y = m .take in
     λ g s old st f tells l e. took g s (a .work .now) (a .rows * a .columns) (a .top) tells (a .rows) (a .columns) old (a .list .now) (a .state) (a .place) (p .pick .result) (a .tops .now) _
-    (y .last .0) (y .last .1 .1 .1 .0) (y .last .1 .1 .1 .1 .0) (y .result) l (p .pick .ensures .0) (b .pre .1 .1 .0) (p .pick .ensures .1 .1) (λ k u z. y .ensures g s old st f k u z e)
+    (y .last .0) (y .last .1 .1 .1 .0) (y .last .1 .1 .1 .1 .0) (y .result) f l (p .pick .ensures .0) (b .pre .1 .1 .0) (p .pick .ensures .1 .1) (λ k u z. y .ensures g s old st f k u z e)
 
 pub take-place-spec : {M : Type 1} → statement M
 take-place-spec =

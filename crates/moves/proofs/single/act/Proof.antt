@@ -1,4 +1,5 @@
 -- `moves::single::act`: L, F around and C one after the other, each on what the one before left. Assumes nothing.
+use Rattle.play.proofs.Reveals.{inside}
 use Rattle.moves.proofs.Acted.{acted}
 use borrow.Author.Needs.{needs}
 use Rattle.moves.proofs.single.act.Statement.{statement}
@@ -29,7 +30,7 @@ returns c =
     let y = m .flag-around in
     let z = h .chord-on in
     λ g s old st f t n e. acted (a .rows) (a .columns) g s old (a .index) (a .list .now) (a .state) (x .last .0) (x .last .1 .1 .1 .0) (x .result)
-    (y .last .0) (y .last .1 .1 .1 .0) (y .result) (z .last .0) (z .last .1 .1 .1 .0) (z .result) t n
+    (y .last .0) (y .last .1 .1 .1 .0) (y .result) (z .last .0) (z .last .1 .1 .1 .0) (z .result) f (inside (a .rows) (a .columns) g s old (a .work .now) (a .index) (k .before .before .before .before .pre .1 .1) st) t n
     (x .ensures .1 g s old st f t e) (λ p. y .ensures .1 g p old) (λ p. z .ensures g p old)
 
 pub act-spec : {M : Type 1} → statement M

@@ -25,7 +25,7 @@ returns c =
     let v = c .before .before .before .before .before in
     let a = v .before .before .before .args in
     let x = v .chord in
-    λ g s old st f e. let q = x .ensures g s old st f in
+    λ g s old st f m e. let q = x .ensures g s old st f m in
     made-one (a .rows) (a .columns) g s old (chord (a .index)) (x .result) (a .list .now) (a .state) (x .last .0) (y .last .0) (y .result)
     (y .ensures) (q .stands) (q .tidy) (q .opened-cells) e
 

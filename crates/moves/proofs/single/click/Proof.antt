@@ -1,8 +1,7 @@
 -- `moves::single::click`: a reveal, noted as L. Assumes nothing.
 use native.Mathlib.Omega.{arith}
 use Rattle.area.proofs.Cells.{cells-few}
-use Rattle.game.specs.Moves.{left, play}
-use Rattle.moves.proofs.Joins.{made-one}
+use Rattle.moves.proofs.Joins.{made-left}
 use borrow.Author.Needs.{needs}
 use Rattle.moves.proofs.single.click.Statement.{statement}
 use Rattle.moves.proofs.single.click.Tie as tie
@@ -20,16 +19,15 @@ same-length-2 : tie.Need-same-length-2
 same-length-2 c = search needs
 
 returns : tie.Need-returns
-unfolding play
 returns c =
     let y = c .before .before .carry-on in
     let v = c .before .before .before .before .before in
     let a = v .before .before .before .args in
     let x = v .reveal in (
       omega (arith, y .ensures .one-more),
-      λ g s old st f t u e. let q = x .ensures g s old st f in
-          made-one (a .rows) (a .columns) g s old (left (a .index)) (x .result) (a .list .now) (a .state) (x .last .0) (y .last .0) (y .result)
-          (y .ensures) (q .stands) (q .tidy) (q .opened-cells) e,
+      λ g s old st f t u e.
+          made-left (a .rows) (a .columns) g s old (a .index) (x .result) (a .list .now) (a .state) (x .last .0) (y .last .0) (y .result)
+          t (y .ensures) (x .ensures g s old st f) e,
     )
 
 pub click-spec : {M : Type 1} → statement M

@@ -1,4 +1,4 @@
--- `replay_call::replays::replay_checked`: set up, played, settled. Assumes nothing.
+-- `replay_call::replays::replay_checked`: set out, played, the premiums laid, settled. Assumes nothing.
 use native.Mathlib.Omega.{arith}
 use borrow.Author.Needs.{needs}
 use mathlib.Core.Path.{refl, sym, subst}
@@ -6,24 +6,26 @@ use lib.ListN.{take}
 use Rattle.game.specs.Position.{untouched}
 use Rattle.game.specs.Moves.{replayFrom}
 use Rattle.game.specs.Calls.{replayedList}
-use Rattle.game.proofs.Tidy.{untouched-tidy}
+use Rattle.game.proofs.Sane.{untouched-sane}
+use Rattle.game.proofs.Tidy.{tidy-lost, untouched-tidy}
 use Rattle.area.specs.Numbers.{gridOf}
-use Rattle.area.proofs.Cells.{cells-few}
 use Rattle.answers.specs.Answers.{Keeps, replayedAnswer}
 use Rattle.answers.specs.declared.Replayed.{Replayed}
-use Rattle.start.proofs.Begun.{fresh}
 use Rattle.replay_call.proofs.Played.{replay-kept}
 use Rattle.replay_call.proofs.replays.replay_checked.Statement.{statement}
 use Rattle.replay_call.proofs.replays.replay_checked.Tie as tie
 
-set-up-requires : tie.Need-set-up-requires
-set-up-requires c κs = search needs
+set-out-requires : tie.Need-set-out-requires
+set-out-requires c κs = search needs
 
 run-requires : tie.Need-run-requires
 run-requires c κs = search needs
 
+lay-requires : tie.Need-lay-requires
+lay-requires c κs = search needs
+
 mul-settle : tie.Need-mul-settle
-mul-settle c = omega (arith, cells-few _ _ (c .before .before .before .before .before .before .before .before .pre .0))
+mul-settle c = search needs
 
 settle-requires : tie.Need-settle-requires
 settle-requires c κs = search needs
@@ -36,21 +38,25 @@ same-length c = search needs
 
 returns : tie.Need-returns
 returns c =
-    let a = c .before .before .before .before .before .before .before .before .before .before .before .args in
+    let settle = c .before .before in
+    let lay = settle .before .before .before in
+    let run = lay .before .before .before in
+    let out = run .before .before .before in
+    let a = out .before .before .before .args in
     let g = gridOf (a .rows) (a .columns) (a .grid .now) in
-    let t = fresh (a .rows) (a .columns) g (a .work .now) _ refl refl (c .before .before .before .before .before .before .before .before .before .before .before .pre .0) (omega arith) (c .before .before .before .before .before .before .before .before .set-up .ensures .work) in
-    let k = c .before .before .before .before .before .run .ensures g (untouched g) (a .work .now) t (untouched-tidy g) (c .before .before .before .before .before .before .before .before .set-up .ensures .safe) in
-    subst (λ (x : Replayed). Keeps (replayedList g (a .work .now) (a .list .now) (a .count)) (replayedAnswer x) (c .before .before .settle .last .0))
+    let k = run .run .ensures g (untouched g) (a .work .now) (out .set-out .ensures .moving) (untouched-sane g) (tidy-lost g (untouched g) (untouched-tidy g)) (out .set-out .ensures .safe) in
+    subst (λ (x : Replayed). Keeps (replayedList g (a .work .now) (a .list .now) (a .count)) (replayedAnswer x) (settle .settle .last .0))
     (sym (c .replay-answer .ensures))
-    (replay-kept (a .rows) (a .columns) g (a .work .now) (c .before .before .before .before .before .run .last .0) (c .before .before .settle .last .0) (a .count) (replayFrom g 0 (untouched g) (take (a .count) (a .list .now))) (c .before .before .before .before .before .run .result) k
-    (λ s q. c .before .before .settle .ensures g s (a .work .now) refl (omega arith) q))
+    (replay-kept (a .rows) (a .columns) g (a .work .now) (run .run .last .0) (settle .settle .last .0) (a .count) (replayFrom g 0 (untouched g) (take (a .count) (a .list .now))) (run .run .result) k
+    (λ s m. settle .settle .ensures g s (a .work .now) refl (omega arith) (lay .lay .ensures g s (a .work .now) m .holds-it)))
 
 pub replay-checked-spec : {M : Type 1} → statement M
 replay-checked-spec =
     tie.close
     (tie.spec
-    set-up-requires
+    set-out-requires
     run-requires
+    lay-requires
     mul-settle
     settle-requires
     replay-answer-requires

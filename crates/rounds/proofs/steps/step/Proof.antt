@@ -52,7 +52,7 @@ returns c =
     (top-taken (a .rows) (a .columns) (a .work .now) (m .best .result) g s
     (λ (ms : List Move) (column : ℕ). MadeKnown (a .opened-only) (a .rows) (a .columns) g s old ms (a .list .now) (a .work .now) tops (a .state) (y .last .0) (y .last .1 .1 .1 .0) (y .last .1 .1 .1 .1 .0) (y .result)
     × (a .from ≡ column))
-    (a .opened-only) (a .from) (m .best .ensures .1 g s old st) (k .found .given .0 .0) (k .found .given .1) (λ t z. (y .ensures (a .opened-only) g s old st p t z e, refl)))
+    (a .opened-only) (a .from) (m .best .ensures .1 g s old st) (k .found .given .0 .0) p (k .found .given .1) (λ t z. (y .ensures (a .opened-only) g s old st p t z e, refl)))
     (m .best .ensures .0 .1)
 
 same-length-4 : tie.Need-same-length-4

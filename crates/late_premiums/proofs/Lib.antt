@@ -1,0 +1,4 @@
+pub mod Laid
+pub mod Marked
+pub mod Parts
+pub mod Steps
