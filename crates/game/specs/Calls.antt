@@ -18,7 +18,7 @@ use Rattle.game.specs.Area.{areaOf, listOf, clearedArea, clearedList}
 
 -- the refusals by name
 pub data Refusal : Type 0 where
-  shape board work trace rounds draws move frame size-over : Refusal
+  shape board work trace rounds draws move frame size-over file-wrong : Refusal
 
 -- the refusals by number
 abbrev pub numberOf : Refusal → ℕ
@@ -31,6 +31,7 @@ numberOf draws = 6
 numberOf move = 7
 numberOf frame = 8
 numberOf size-over = 9
+numberOf file-wrong = 10
 
 -- an answer: 0 and its values, or the refusal's number, to which MOVE adds a place
 pub record Answer : Type 0 where

@@ -1,6 +1,6 @@
--- The grid, a cell's square and its number (RULES 1, 2.1, 2.2). Assumes nothing.
+-- The grid, a cell's square and its number (RULES 1, 2.1, 2.2), and the canonical grid (1.4). Assumes nothing.
 use Prim.Native.Nat.{ℕ, zero, suc, _+_, _-_, _*_, _/_, _%_, min}
-use mathlib.Core.Bool.{Bool, true, false, not}
+use mathlib.Core.Bool.{Bool, true, false, not, cond}
 use mathlib.Core.List.{List, map}
 use lib.IntN.{ℤ, pos, negsuc}
 use lib.ListN.{getD}
@@ -63,3 +63,21 @@ number g i = count (mine g) (square g i)
 -- a cell of number 0
 abbrev pub zeroCell : Grid → ℕ → Bool
 zeroCell g i = eqb (number g i) 0
+
+-- ---- the canonical grid
+
+-- the cell whose value stands at a place of the run: values stand row after row
+abbrev pub cellAt : Grid → ℕ → ℕ
+cellAt g p = index g (p / g .columns) (p % g .columns)
+
+-- the right value of a cell: -1 for a mine, its number for a safe cell
+unfoldable pub rightValue : Grid → ℕ → ℤ
+rightValue g i = cond (mine g i) (negsuc 0) (pos (number g i))
+
+-- the right value of each cell, row after row
+unfoldable pub rightValues : Grid → List ℤ
+rightValues g = map (λ p. rightValue g (cellAt g p)) (range 0 (size g))
+
+-- the canonical grid: the same mines, and in each safe cell its number
+abbrev pub canonical : Grid → Grid
+canonical g = record { rows = g .rows; columns = g .columns; values = rightValues g }

@@ -1,6 +1,6 @@
 -- What reading a board line comes to, by the refusal of its checks and the room in the lent run. Assumes nothing.
 use Prim.Native.Nat.{ℕ, _<_, _≤_}
-use mathlib.Core.Path.{_≡_, ap, refl, subst, sym, _∙_}
+use mathlib.Core.Path.{_≡_, sym, _∙_}
 use mathlib.Core.Bool.{Bool, true, false}
 use mathlib.Core.List.{List, [], _∷_, _++_}
 use mathlib.Core.Option.{Option, none, some}
@@ -12,40 +12,31 @@ use Rattle.game.specs.Grid.{size}
 use Rattle.game.specs.Area.{begun}
 use Rattle.game.specs.Calls.{Refusal, board, firstGiven, gives, refuses}
 use Rattle.game.proofs.Checks.{given-append, orElse}
-use Rattle.lines.specs.BoardLine.{GridOutcome, boardLineCall, boardLineChecks, lineGrid, lineRefusal, cellsCheck, unlessRefused}
+use Rattle.lines.specs.BoardLine.{boardLineCall, boardLineChecks, lineGrid, lineRefusal, cellsCheck}
 use Rattle.lines.specs.Answers.{KeepsGrid}
+use Rattle.lines.proofs.Outputs.{grid-else, grid-refused}
 
 -- the verdict of one check by its test
 abbrev alone : Refusal → Bool → Option Refusal
 alone f b = firstGiven (record { given = b; refusal = f } ∷ [])
 
 module _ (line : List ℕ) (lent : List ℤ) where
-  read : GridOutcome
-  read = record { answer = gives (lineGrid line .rows ∷ lineGrid line .columns ∷ []); values = begun (lineGrid line .values) lent }
-
-  outcome : (o : Option Refusal) → firstGiven (boardLineChecks line ++ cellsCheck (lineGrid line) lent ∷ []) ≡ o → unlessRefused o lent read ≡ boardLineCall line lent
-  unfolding boardLineCall read
-  outcome o e = ap (λ (v : Option Refusal). unlessRefused v lent read) (sym e)
-
   -- the checks of the line, then the room
-  by : (o : Option Refusal) (b : Bool) → lineRefusal line ≡ o → ltb (length lent) (size (lineGrid line)) ≡ b
-      → firstGiven (boardLineChecks line ++ cellsCheck (lineGrid line) lent ∷ []) ≡ orElse o (alone board b)
+  by : (o : Option Refusal) (b : Bool) → o ≡ lineRefusal line → b ≡ ltb (length lent) (size (lineGrid line))
+      → orElse o (alone board b) ≡ firstGiven (boardLineChecks line ++ cellsCheck (lineGrid line) lent ∷ [])
   unfolding lineRefusal
-  by o b e f = given-append (boardLineChecks line) (cellsCheck (lineGrid line) lent ∷ []) ∙ (λ i. orElse (e i) (alone board (f i)))
+  by o b e f = (λ i. orElse (e i) (alone board (f i))) ∙ sym (given-append (boardLineChecks line) (cellsCheck (lineGrid line) lent ∷ []))
 
   pub board-refused : (f : Refusal) → some f ≡ lineRefusal line → KeepsGrid (boardLineCall line lent) (refuses f) lent
-  unfolding orElse read
-  board-refused f e =
-      subst (λ (x : GridOutcome). KeepsGrid x (refuses f) lent) (outcome (some f) (by (some f) (ltb (length lent) (size (lineGrid line))) (sym e) refl)) (record { answers = refl; leaves = refl })
+  unfolding boardLineCall orElse
+  board-refused f e = grid-refused _ lent _ f (by (some f) _ e (λ i. ltb (length lent) (size (lineGrid line))))
 
   pub board-short : lineRefusal line ≡ none → length lent < size (lineGrid line) → KeepsGrid (boardLineCall line lent) (refuses board) lent
-  unfolding orElse read
-  board-short e h =
-      subst (λ (x : GridOutcome). KeepsGrid x (refuses board) lent) (outcome (some board) (by none true e (lt-ltb (length lent) (size (lineGrid line)) h))) (record { answers = refl; leaves = refl })
+  unfolding boardLineCall orElse
+  board-short e h = grid-refused _ lent _ board (by none true (sym e) (sym (lt-ltb (length lent) (size (lineGrid line)) h)))
 
   pub board-read : (new : List ℤ) (rows columns : ℕ) → lineRefusal line ≡ none → size (lineGrid line) ≤ length lent → rows ≡ lineGrid line .rows → columns ≡ lineGrid line .columns
       → new ≡ begun (lineGrid line .values) lent → KeepsGrid (boardLineCall line lent) (gives (rows ∷ columns ∷ [])) new
-  unfolding orElse read
+  unfolding boardLineCall orElse
   board-read new rows columns e h r c q =
-      subst (λ (x : GridOutcome). KeepsGrid x (gives (rows ∷ columns ∷ [])) new) (outcome none (by none false e (le-ltb (length lent) (size (lineGrid line)) h)))
-      (record { answers = λ i. gives (r i ∷ c i ∷ []); leaves = q })
+      grid-else _ lent _ (gives (rows ∷ columns ∷ [])) new (by none false (sym e) (sym (le-ltb (length lent) (size (lineGrid line)) h))) (λ i. gives (r i ∷ c i ∷ [])) q

@@ -6,11 +6,11 @@ use mathlib.Core.Option.{Option, none, some}
 use lib.Dec.{eqb, ltb}
 use lib.IntN.{ℤ, pos, negsuc}
 use lib.ListN.{getD, length}
-use Rattle.game.specs.Lists.{range, some-of}
-use Rattle.game.specs.Grid.{Grid, size}
+use Rattle.game.specs.Lists.{bit, concat-map, fold, range, some-of}
+use Rattle.game.specs.Grid.{Grid, isMine, size}
 use Rattle.game.specs.Area.{begun}
 use Rattle.game.specs.Calls.{Answer, Check, Refusal, board, firstGiven, frame, gives, refuses, shapeCheck, size-over}
-use Rattle.hex.specs.Hex.{bytesOf, isWrong}
+use Rattle.hex.specs.Hex.{byteDigits, bytesOf, isWrong}
 
 -- the bit at a place of a run of bytes, high bit first
 unfoldable pub bitAt : List ℕ → ℕ → Bool
@@ -48,6 +48,18 @@ lineGrid line = gridOfBytes (bytesOf line)
 -- the bytes that the mine bits of n cells take
 abbrev pub bitBytes : ℕ → ℕ
 bitBytes n = (n + 7) / 8
+
+-- the value at a place of a grid's run is a mine; past its end there is none
+abbrev pub placeMine : Grid → ℕ → Bool
+placeMine g p = isMine (getD (g .values) p (pos 0))
+
+-- the byte of that place among bits: eight of them, high bit first
+unfoldable pub byteOfBits : (ℕ → Bool) → ℕ → ℕ
+byteOfBits bits k = fold (λ b j. 2 * b + bit (bits (8 * k + j))) 0 (range 0 8)
+
+-- the board line of a grid: rows, columns, then mine bits row by row, high bit first, last byte padded with 0 bits
+unfoldable pub boardLine : Grid → List ℕ
+boardLine g = concat-map byteDigits (g .rows ∷ g .columns ∷ map (byteOfBits (placeMine g)) (range 0 (bitBytes (size g))))
 
 -- the checks of the digits alone: wrong character, odd digits, fewer than 4 or more than 516 digits
 abbrev pub digitChecks : List ℕ → List Check

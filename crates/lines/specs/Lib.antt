@@ -2,3 +2,4 @@
 pub mod BoardLine
 pub mod PriceLine
 pub mod Answers
+pub mod Outputs

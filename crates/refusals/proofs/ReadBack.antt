@@ -7,18 +7,18 @@ use mathlib.Core.List.{List, [], _∷_}
 use mathlib.Core.Option.{Option, none, some}
 use mathlib.Mathlib.Logic.Function.Defs.{LeftInverse·injective}
 use lib.Dec.{eqb}
-use Rattle.game.specs.Calls.{Answer, board, draws, frame, move, numberOf, refuses, rounds, shape, size-over, trace, work}
+use Rattle.game.specs.Calls.{Answer, board, draws, file-wrong, frame, move, numberOf, refuses, rounds, shape, size-over, trace, work}
 use Rattle.game.specs.Calls as Game
 use Rattle.refusals.specs.Names.{named, refusalOf}
 use Rattle.refusals.specs.declared.Refusal.{Refusal}
-use Rattle.refusals.specs.declared.Refusal.the-variants.{Shape, Board, Work, Trace, Rounds, Draws, Move, Frame, Size}
+use Rattle.refusals.specs.declared.Refusal.the-variants.{Shape, Board, Work, Trace, Rounds, Draws, Move, Frame, Size, File}
 use Rattle.refusals.specs.declared.Checked.{Checked}
 use Rattle.refusals.specs.declared.Checked.the-variants.{Fine, Refused}
 
 -- the refusal of a number
 abbrev pub refusalBy : ℕ → Refusal
 refusalBy n =
-    cond (eqb n 1) Shape (cond (eqb n 2) Board (cond (eqb n 3) Work (cond (eqb n 4) Trace (cond (eqb n 5) Rounds (cond (eqb n 6) Draws (cond (eqb n 7) Move (cond (eqb n 8) Frame Size)))))))
+    cond (eqb n 1) Shape (cond (eqb n 2) Board (cond (eqb n 3) Work (cond (eqb n 4) Trace (cond (eqb n 5) Rounds (cond (eqb n 6) Draws (cond (eqb n 7) Move (cond (eqb n 8) Frame (cond (eqb n 9) Size File))))))))
 
 -- a refusal is read back from its number
 pub number-back : (f : Refusal) → refusalBy (numberOf (named f)) ≡ f
@@ -31,6 +31,7 @@ number-back Draws = refl
 number-back Move = refl
 number-back Frame = refl
 number-back Size = refl
+number-back File = refl
 
 -- no refusal's number is 0
 pub numbered : (f : Game.Refusal) → 1 ≤ numberOf f
@@ -43,6 +44,7 @@ numbered draws = omega arith
 numbered move = omega arith
 numbered frame = omega arith
 numbered size-over = omega arith
+numbered file-wrong = omega arith
 
 -- the checks' verdict: the refusal determines it
 pub checked-once : (o : Option Game.Refusal) (r r′ : Checked) → refusalOf r ≡ o → refusalOf r′ ≡ o → r ≡ r′

@@ -1,4 +1,4 @@
-// Why a call, a line or a block is refused, and the refusals' numbers.
+// Why a call, a line, a block or a file is refused, and the refusals' numbers.
 ghost use mathlib.Core.Path.{_≡_};
 ghost use Rattle.game.specs.Calls.{numberOf};
 ghost use Rattle.refusals.specs.Names.{named};
@@ -14,6 +14,7 @@ pub enum Refusal {
     Move,
     Frame,
     Size,
+    File,
 }
 
 // What checks say.
@@ -36,5 +37,6 @@ pub fn number_of(refusal: Refusal) -> u8
         Refusal::Move => 7,
         Refusal::Frame => 8,
         Refusal::Size => 9,
+        Refusal::File => 10,
     }
 }

@@ -9,12 +9,13 @@ use lib.ListN.{length, take}
 use borrow.Author.Tests.{eq-eqb, eqb-true, le-ltb, lt-ltb, ltb-false, ne-eqb, not-false}
 use Rattle.game.specs.Lists.{some-of}
 use Rattle.game.specs.Area.{begun}
-use Rattle.game.specs.Calls.{Answer, Refusal, firstGiven, frame, gives, refuses, shape, sideOut, trace}
+use Rattle.game.specs.Calls.{Refusal, firstGiven, frame, gives, refuses, shape, sideOut, trace}
 use Rattle.hex.specs.Hex.{isWrong}
-use Rattle.stored.specs.MoveLine.{RunOutcome, moveLine, moveLineChecks, readMovesCall, storedOf, unlessGiven, writeChecks, writeMovesCall}
-use Rattle.stored.specs.Answers.{KeepsRun}
+use Rattle.lines.specs.Outputs.{KeepsRun}
+use Rattle.stored.specs.MoveLine.{moveLine, moveLineChecks, readMovesCall, storedOf, writeChecks, writeMovesCall}
 use Rattle.game.proofs.Checks.{side-in}
 use Rattle.game.proofs.Truth.{or-no}
+use Rattle.lines.proofs.Outputs.{run-else, run-refused}
 use Rattle.lines.proofs.Verdict.{columnsByte, rowsByte, side-fine, side-none}
 use Rattle.stored.proofs.Words.{wordsIn}
 
@@ -179,21 +180,6 @@ passed-write rows columns list n lent e =
     }
 
 -- ---- what a call comes to
-
-module _ (o : Option Refusal) (lent : List ℕ) (x : RunOutcome) where
-  pub run-refused : (f : Refusal) → some f ≡ o → KeepsRun (unlessGiven o lent x) (refuses f) lent
-  run-refused f e =
-      record {
-        answers = ap (λ (v : Option Refusal). unlessGiven v lent x .answer) e;
-        leaves = ap (λ (v : Option Refusal). unlessGiven v lent x .run) e;
-      }
-
-  pub run-else : (a : Answer) (run : List ℕ) → none ≡ o → a ≡ x .answer → run ≡ x .run → KeepsRun (unlessGiven o lent x) a run
-  run-else a run e f g =
-      record {
-        answers = f ∙ ap (λ (v : Option Refusal). unlessGiven v lent x .answer) e;
-        leaves = g ∙ ap (λ (v : Option Refusal). unlessGiven v lent x .run) e;
-      }
 
 module _ (line lent : List ℕ) where
   pub read-refused : (f : Refusal) → some f ≡ firstGiven (moveLineChecks line lent) → KeepsRun (readMovesCall line lent) (refuses f) lent

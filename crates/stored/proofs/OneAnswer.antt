@@ -5,8 +5,8 @@ use mathlib.Core.List.{List}
 use mathlib.Mathlib.Logic.Function.Defs.{LeftInverse·injective}
 use lib.ListN.{getD}
 use Rattle.refusals.proofs.ReadBack.{readBack, refused-back}
-use Rattle.stored.specs.MoveLine.{RunOutcome}
-use Rattle.stored.specs.Answers.{KeepsRun, readAnswer, writtenAnswer}
+use Rattle.lines.specs.Outputs.{KeepsRun, RunOutcome}
+use Rattle.stored.specs.Answers.{readAnswer, writtenAnswer}
 use Rattle.stored.specs.declared.MovesRead.{MovesRead}
 use Rattle.stored.specs.declared.MovesRead.the-variants as Reads
 use Rattle.stored.specs.declared.MovesWritten.{MovesWritten}

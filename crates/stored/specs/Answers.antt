@@ -1,10 +1,7 @@
 -- Each answer of a call on stored move lists by its number and values (RULES 9.4, 9.5). Assumes nothing.
-use mathlib.Core.Path.{_≡_}
 use mathlib.Core.List.{List, [], _∷_}
-use Prim.Native.Nat.{ℕ}
 use Rattle.game.specs.Calls.{Answer, gives, refuses}
 use Rattle.refusals.specs.Names.{named}
-use Rattle.stored.specs.MoveLine.{RunOutcome}
 use Rattle.stored.specs.declared.MovesRead.{MovesRead}
 use Rattle.stored.specs.declared.MovesRead.the-variants as Reads
 use Rattle.stored.specs.declared.MovesWritten.{MovesWritten}
@@ -19,8 +16,3 @@ readAnswer (Reads.Refused f) = refuses (named f)
 abbrev pub writtenAnswer : MovesWritten → Answer
 writtenAnswer (Writes.Digits n) = gives (n ∷ [])
 writtenAnswer (Writes.Refused f) = refuses (named f)
-
--- a call that writes into one lent run keeps its promise
-pub record KeepsRun (promise : RunOutcome) (answer : Answer) (run : List ℕ) : Type 0 where
-  pub answers : answer ≡ promise .answer
-  pub leaves : run ≡ promise .run

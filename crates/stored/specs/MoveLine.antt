@@ -2,13 +2,13 @@
 use Prim.Native.Nat.{ℕ, _+_, _*_, _/_, _%_}
 use mathlib.Core.Bool.{_||_, not}
 use mathlib.Core.List.{List, [], _∷_}
-use mathlib.Core.Option.{Option, none, some}
 use lib.Dec.{eqb, ltb}
 use lib.ListN.{getD, length, take, drop}
 use Rattle.game.specs.Lists.{concat-map, some-of}
 use Rattle.game.specs.Area.{begun}
-use Rattle.game.specs.Calls.{Answer, Check, Refusal, firstGiven, frame, gives, refuses, shape, sideOut, trace}
+use Rattle.game.specs.Calls.{Check, firstGiven, frame, gives, shape, sideOut, trace}
 use Rattle.hex.specs.Hex.{byteDigits, bytesOf, isWrong}
+use Rattle.lines.specs.Outputs.{RunOutcome, unlessGiven}
 
 -- a word as four bytes, high first
 abbrev pub wordBytes : ℕ → List ℕ
@@ -53,16 +53,6 @@ moveLineChecks line lent =
     ∷ record { given = sideOut (storedOf line .rows) || sideOut (storedOf line .columns); refusal = shape }
     ∷ record { given = ltb (length lent) (length (storedOf line .words)); refusal = trace }
     ∷ []
-
--- what a call that writes into one lent run comes to
-pub record RunOutcome : Type 0 where
-  pub answer : Answer
-  pub run : List ℕ
-
--- a refusal changes nothing lent
-abbrev pub unlessGiven : Option Refusal → List ℕ → RunOutcome → RunOutcome
-unlessGiven (some f) lent o = record { answer = refuses f; run = lent }
-unlessGiven none lent o = o
 
 -- a stored line read: rows, columns and how many moves, and the moves at the start of the list
 unfoldable pub readMovesCall : List ℕ → List ℕ → RunOutcome

@@ -11,7 +11,8 @@ ghost use Rattle.game.specs.Area.{begun};
 ghost use Rattle.game.specs.Calls.{firstGiven};
 ghost use Rattle.hex.specs.Hex.{byteDigits, bytesOf};
 ghost use Rattle.stored.specs.MoveLine.{moveLine, moveLineChecks, readMovesCall, wordBytes, wordDigits, wordsOf, writeChecks, writeMovesCall};
-ghost use Rattle.stored.specs.Answers.{KeepsRun, readAnswer, writtenAnswer};
+ghost use Rattle.stored.specs.Answers.{readAnswer, writtenAnswer};
+ghost use Rattle.lines.specs.Outputs.{KeepsRun};
 ghost use Rattle.refusals.specs.Names.{refusalOf};
 
 // What reading a stored line answers: rows, columns and how many moves.

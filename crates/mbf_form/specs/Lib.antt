@@ -1,0 +1,3 @@
+-- Boards in MBF files: the form, and what reading and writing come to.
+pub mod Form
+pub mod Calls

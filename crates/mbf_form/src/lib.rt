@@ -1,0 +1,1 @@
+// The MBF form of a board: definitions alone, and the theorems about them.
