@@ -40,6 +40,14 @@ minePlace file k = mineRow file k * fileColumns file + mineColumn file k
 unfoldable pub minePlaces : List ℕ → List ℕ
 minePlaces file = map (minePlace file) (range 0 (mineCount file))
 
+-- the index of its cell: column x rows + row
+abbrev pub mineCell : List ℕ → ℕ → ℕ
+mineCell file k = mineColumn file k * fileRows file + mineRow file k
+
+-- the cells of the listed mines, in the file's order
+unfoldable pub mineCells : List ℕ → List ℕ
+mineCells file = map (mineCell file) (range 0 (mineCount file))
+
 -- the mine that is listed as number k is past the edge
 unfoldable pub pastEdge : List ℕ → ℕ → Bool
 pastEdge file k = leb (fileColumns file) (mineColumn file k) || leb (fileRows file) (mineRow file k)
