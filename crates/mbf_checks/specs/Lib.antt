@@ -1,0 +1,2 @@
+-- What checking a file promises: the verdict, and the bits of its mines.
+pub mod Marks
