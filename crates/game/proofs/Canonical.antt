@@ -1,23 +1,21 @@
 -- The canonical grid by its places: each cell's right value stands where its value stood, so the mines are the same, and so is every call. Assumes nothing.
-use Prim.Native.Nat.{ℕ, _*_, _+_, _-_, _/_, _%_, _<_, _≤_, suc, zero}
+use Prim.Native.Nat.{ℕ, _*_, _+_, _/_, _%_, _<_}
 use native.Mathlib.Decide.{decLt}
-use native.Mathlib.Nat.{div-add-mod', div-lt-iff-lt-mul, mod-lt, zero-add}
+use native.Mathlib.Nat.{div-add-mod', div-lt-iff-lt-mul, mod-lt}
 use native.Mathlib.Omega.{arith}
 use mathlib.Core.Path.{_∙_, _≡_, ap, refl, sym}
 use mathlib.Core.Bool.{Bool, cond, false, true}
-use mathlib.Core.List.{List, [], _∷_, map}
+use mathlib.Core.List.{List, [], _∷_}
 use mathlib.Core.Option.{Option·some-ne-none, none}
 use borrow.Author.Tests.{eqb-true, not-false}
 use lib.Dec.{eqb}
 use lib.IntN.{negsuc, pos, ℤ}
 use lib.ListN.{List·getD-eq-default, getD, length, length-map}
-use Rattle.game.specs.Calls.{board, boardCheck, boardChecks, firstGiven, shape, shapeCheck, sideOut}
+use Rattle.game.specs.Calls.{board, boardCheck, boardChecks, firstGiven, shape, shapeCheck}
 use Rattle.game.specs.Grid.{Grid, canonical, cellAt, cells, columnOf, isMine, mine, number, rightValue, rightValues, rowOf, size}
-use Rattle.game.specs.Lists.{from}
 use Rattle.game.proofs.Alike.{SameCalls, calls-same, revalued, right-same}
-use Rattle.game.proofs.Checks.{side-in}
+use Rattle.game.proofs.Members.{getD-range}
 use Rattle.game.proofs.Squares.{column-lt, index-column, index-lt, index-row, length-cells}
-use Rattle.game.proofs.Truth.{or-no}
 
 -- ---- the cell at a place
 
@@ -49,16 +47,10 @@ pub length-right : (g : Grid) → length (rightValues g) ≡ size g
 unfolding rightValues
 length-right g = length-map (cells g) (λ p. rightValue g (cellAt g p)) ∙ length-cells g
 
--- what a run of values made number by number holds at a place
-run-at : (f : ℕ → ℤ) (n a p : ℕ) → p < n → getD (map f (from a n)) p (pos 0) ≡ f (a + p)
-run-at f zero a p h = absurd (omega arith)
-run-at f (suc n) a zero h = ap f (omega arith)
-run-at f (suc n) a (suc p) h = run-at f n (suc a) p (omega arith) ∙ ap f (omega arith)
-
 -- the value at a place of it
 pub right-at : (g : Grid) (p : ℕ) → p < size g → getD (rightValues g) p (pos 0) ≡ rightValue g (cellAt g p)
 unfolding rightValues
-right-at g p h = run-at (λ q. rightValue g (cellAt g q)) (size g - 0) 0 p (omega arith) ∙ ap (λ (q : ℕ). rightValue g (cellAt g q)) (zero-add p)
+right-at g p h = getD-range (λ q. rightValue g (cellAt g q)) (pos 0) (size g) p h
 
 -- a right value is a mine where the cell is one
 pub right-mine : (g : Grid) (i : ℕ) → isMine (rightValue g i) ≡ mine g i
@@ -80,9 +72,9 @@ place-mines g long p =
     ]
 
 -- the canonical grid has the same mines
-pub canonical-mines : (g : Grid) → 1 ≤ g .rows → 1 ≤ g .columns → length (g .values) ≡ size g → (i : ℕ) → mine g i ≡ mine (canonical g) i
+pub canonical-mines : (g : Grid) → length (g .values) ≡ size g → (i : ℕ) → mine g i ≡ mine (canonical g) i
 unfolding mine
-canonical-mines g some-rows some-columns long i = place-mines g long (rowOf g i * g .columns + columnOf g i)
+canonical-mines g long i = place-mines g long (rowOf g i * g .columns + columnOf g i)
 
 -- two grids of the same sides with the same mines are the same once canonical
 pub canonical-same : (g : Grid) (vs : List ℤ) → ((i : ℕ) → mine g i ≡ mine (revalued g vs) i) → canonical g ≡ canonical (revalued g vs)
@@ -100,6 +92,5 @@ neither false false e = (refl, refl)
 pub canonical-calls : (g : Grid) → firstGiven (boardChecks g) ≡ none → SameCalls g (canonical g)
 canonical-calls g e =
     let passed = neither (shapeCheck g .given) (boardCheck g .given) e in
-    let sides = or-no (sideOut (g .rows)) (sideOut (g .columns)) (passed .0) in
     let long = eqb-true (length (g .values)) (size g) (not-false (eqb (length (g .values)) (size g)) (passed .1)) in
-    calls-same g (rightValues g) (canonical-mines g (side-in (g .rows) (sides .0) .0) (side-in (g .columns) (sides .1) .0) long) (long ∙ sym (length-right g))
+    calls-same g (rightValues g) (canonical-mines g long) (long ∙ sym (length-right g))

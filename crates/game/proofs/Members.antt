@@ -5,7 +5,7 @@ use native.Mathlib.Decide.{ℕ-discrete}
 use native.Mathlib.Nat.{add-sub-of-le, add-suc, add-zero, sub-self, sub-zero, suc-add, suc-mul, zero-add, zero-mul}
 use mathlib.Core.Path.{_∙_, _≡_, ap, refl, sym}
 use mathlib.Core.Logic.{_⊎_, inl, inr, ⊎-elim}
-use mathlib.Core.Bool.{Bool, false, not, true}
+use mathlib.Core.Bool.{Bool, _||_, false, not, true}
 use mathlib.Core.List.{List, [], _++_, _∷_, append-assoc, append-nil, map}
 use lib.Dec.{T, T-not, eqb, eqb-refl, eqb→eq}
 use lib.ListN.{getD, length}
@@ -153,6 +153,15 @@ yes-some f (y ∷ xs) t =
     (λ r. let h = yes-some f xs r in (h .0, has-tail (h .0) y xs (h .1), h .2))
     (or-cases (f y) (some-of f xs) t)
 
+-- one passes in two lists if it passes in either
+pub some-append : (f : ℕ → Bool) (xs ys : List ℕ) → some-of f (xs ++ ys) ≡ (some-of f xs || some-of f ys)
+some-append f [] ys = refl
+some-append f (x ∷ xs) ys = ap (λ (b : Bool). f x || b) (some-append f xs ys) ∙ grouped (f x) (some-of f xs) (some-of f ys)
+  where
+    grouped : (a b c : Bool) → (a || (b || c)) ≡ ((a || b) || c)
+    grouped true b c = refl
+    grouped false b c = refl
+
 -- one passes the one test in the one list, so one passes the other in the other
 pub some-into : (f h : ℕ → Bool) (xs ys : List ℕ) → ((x : ℕ) → T (has x xs) → T (f x) → T (has x ys) × T (h x)) → T (some-of f xs) → T (some-of h ys)
 some-into f h xs ys m t =
@@ -195,6 +204,15 @@ none-there (x ∷ xs) n = absurd (first-of x xs n)
 pub has-length : (x : ℕ) (xs : List ℕ) → T (has x xs) → 1 ≤ length xs
 has-length x [] t = absurd t
 has-length x (y ∷ xs) t = omega arith
+
+getD-from {ℓ} : {A : Type ℓ} (f : ℕ → A) (d : A) (n a p : ℕ) → p < n → getD (map f (from a n)) p d ≡ f (a + p)
+getD-from f d zero a p h = absurd (omega arith)
+getD-from f d (suc n) a zero h = ap f (omega arith)
+getD-from f d (suc n) a (suc p) h = getD-from f d n (suc a) p (omega arith) ∙ ap f (omega arith)
+
+-- what a list made number by number holds at a place
+pub getD-range {ℓ} : {A : Type ℓ} (f : ℕ → A) (d : A) (n p : ℕ) → p < n → getD (map f (range 0 n)) p d ≡ f p
+getD-range f d n p h = getD-from f d (n - 0) 0 p (omega arith) ∙ ap f (zero-add p)
 
 -- ---- folds
 
@@ -254,6 +272,14 @@ from-append : (m n a : ℕ) → from a (m + n) ≡ from a m ++ from (a + m) n
 from-append zero n a = ap (from a) (zero-add n) ∙ ap (λ (k : ℕ). from k n) (sym (add-zero a))
 from-append (suc m) n a =
     ap (from a) (suc-add m n) ∙ ap (λ (l : List ℕ). a ∷ l) (from-append m n (suc a) ∙ ap (λ (k : ℕ). from (suc a) m ++ from k n) (suc-across a m))
+
+-- a range in two parts
+pub range-split : (a b c : ℕ) → a ≤ b → b ≤ c → range a c ≡ range a b ++ range b c
+range-split a b c h k =
+    ap (from a) parts ∙ from-append (b - a) (c - b) a ∙ ap (λ (n : ℕ). range a b ++ from n (c - b)) (add-sub-of-le h)
+  where
+    parts : c - a ≡ (b - a) + (c - b)
+    parts = omega arith
 
 from-shift : (n a b : ℕ) → from (a + b) n ≡ map (λ (k : ℕ). a + k) (from b n)
 from-shift zero a b = refl

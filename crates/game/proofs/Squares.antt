@@ -1,7 +1,7 @@
 -- A cell's square by rows and columns: exactly the cells one row and one column away at most, each once, by row, then column. Assumes nothing.
 use Prim.Native.Nat.{ℕ, _*_, _+_, _-_, _<_, _≤_, min, suc, zero}
 use native.Mathlib.Omega.{arith}
-use native.Mathlib.Nat.{add-zero, div-add-mod', div-eq-of-lt, div-lt-iff-lt-mul, mod-eq-of-lt, mod-lt, mul-add-div-right, mul-add-mod-self-right, mul-comm, mul-le-mul-right, suc-mul, zero-add}
+use native.Mathlib.Nat.{add-zero, div-add-mod', div-eq-of-lt, div-lt-iff-lt-mul, mod-eq-of-lt, mod-lt, mul-add-div-right, mul-add-mod-self-right, mul-comm, mul-le-mul-right, suc-mul}
 use native.Mathlib.Numerals.{add-one}
 use mathlib.Core.Path.{_∙_, _≡_, ap, subst, sym}
 use mathlib.Core.Logic.{_⊎_, inl, inr, ⊎-elim}
@@ -10,9 +10,9 @@ use mathlib.Core.List.{map}
 use lib.Dec.{T}
 use lib.ListN.{getD, length}
 use Rattle.game.specs.Grid.{Grid, cells, columnOf, index, near, rowOf, size, square}
-use Rattle.game.specs.Lists.{concat-map, count, from, has}
+use Rattle.game.specs.Lists.{concat-map, count, has}
 use Rattle.game.proofs.Counts.{Once, count-once}
-use Rattle.game.proofs.Members.{concat-map-has, has-concat-map, has-map, has-range, length-from, map-has, range-has}
+use Rattle.game.proofs.Members.{concat-map-has, getD-range, has-concat-map, has-map, has-range, length-from, map-has, range-has}
 use Rattle.game.proofs.Orders.{Ordered, once-range, ordered-concat-map, ordered-map, ordered-once, ordered-range}
 use Rattle.game.proofs.Truth.{iff}
 
@@ -144,14 +144,9 @@ length-cells g = omega (arith, length-from (size g - 0) 0)
 pub once-cells : (g : Grid) → Once (cells g)
 once-cells g = once-range 0 (size g)
 
-getD-from : (f : ℕ → ℕ) (n a j : ℕ) → j < n → getD (map f (from a n)) j 0 ≡ f (a + j)
-getD-from f zero a j h = absurd (omega arith)
-getD-from f (suc n) a zero h = ap f (omega arith)
-getD-from f (suc n) a (suc j) h = getD-from f n (suc a) j (omega arith) ∙ ap f (omega arith)
-
 -- what a list made cell by cell holds at a cell
 pub getD-cells : (g : Grid) (f : ℕ → ℕ) (j : ℕ) → j < size g → getD (map f (cells g)) j 0 ≡ f j
-getD-cells g f j h = getD-from f (size g - 0) 0 j (omega arith) ∙ ap f (zero-add j)
+getD-cells g f j h = getD-range f 0 (size g) j h
 
 -- what is counted in a square, counted over the grid
 pub count-square : (g : Grid) (f : ℕ → Bool) (i : ℕ) → i < size g → count f (square g i) ≡ count (λ j. has j (square g i) && f j) (cells g)

@@ -4,7 +4,7 @@ use native.Mathlib.Omega.{arith}
 use native.Mathlib.Nat.{add-zero}
 use mathlib.Core.Path.{_∙_, _≡_, ap, refl, subst, sym}
 use mathlib.Core.Bool.{Bool, _&&_, _||_, cond, false, true}
-use mathlib.Core.List.{List, [], _++_, _∷_}
+use mathlib.Core.List.{List, [], _∷_}
 use borrow.Author.Tests.{le-ltb, lt-ltb, ne-eqb, eq-eqb}
 use lib.Dec.{T, eqb}
 use lib.IntN.{ℤ}
@@ -16,7 +16,7 @@ use Rattle.area.proofs.Sides.{nine, nine-all, nine-more}
 use Rattle.game.specs.Grid.{Grid, size, square, zeroCell}
 use Rattle.game.specs.Lists.{has, some-of}
 use Rattle.game.specs.Position.{Position, closed}
-use Rattle.game.proofs.Members.{some-yes, yes-some}
+use Rattle.game.proofs.Members.{some-append, some-yes, yes-some}
 use Rattle.game.proofs.Squares.{square→}
 use Rattle.game.proofs.Truth.{iff, or-left}
 use Rattle.mark_tests.specs.Tests.{bordersClosed, closedZeroAt}
@@ -47,14 +47,6 @@ module _ (w : List ℤ) (cells i : ℕ) where
       or-false false = refl
 
 -- ---- the square
-
-some-append : (f : ℕ → Bool) (xs ys : List ℕ) → some-of f (xs ++ ys) ≡ (some-of f xs || some-of f ys)
-some-append f [] ys = refl
-some-append f (x ∷ xs) ys = ap (λ (b : Bool). f x || b) (some-append f xs ys) ∙ grouped (f x) (some-of f xs) (some-of f ys)
-  where
-    grouped : (a b c : Bool) → (a || (b || c)) ≡ ((a || b) || c)
-    grouped true b c = refl
-    grouped false b c = refl
 
 module _ (f : ℕ → Bool) (g : Grid) (i : ℕ) where
   -- one place more
