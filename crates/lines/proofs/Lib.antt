@@ -5,3 +5,5 @@ pub mod Verdict
 pub mod Outputs
 pub mod Calls
 pub mod OneAnswer
+pub mod BytesOfBits
+pub mod Written
