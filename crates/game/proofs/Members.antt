@@ -214,6 +214,14 @@ getD-from f d (suc n) a (suc p) h = getD-from f d n (suc a) p (omega arith) ∙ 
 pub getD-range {ℓ} : {A : Type ℓ} (f : ℕ → A) (d : A) (n p : ℕ) → p < n → getD (map f (range 0 n)) p d ≡ f p
 getD-range f d n p h = getD-from f d (n - 0) 0 p (omega arith) ∙ ap f (zero-add p)
 
+from-same {ℓ} : {A : Type ℓ} (f h : ℕ → A) (n a : ℕ) → ((j : ℕ) → j < a + n → f j ≡ h j) → map f (from a n) ≡ map h (from a n)
+from-same f h zero a e = refl
+from-same f h (suc n) a e = λ i. e a (omega arith) i ∷ from-same f h n (suc a) (λ j k. e j (omega arith)) i
+
+-- two such lists that agree at each place
+pub range-same {ℓ} : {A : Type ℓ} (f h : ℕ → A) (n : ℕ) → ((j : ℕ) → j < n → f j ≡ h j) → map f (range 0 n) ≡ map h (range 0 n)
+range-same f h n e = from-same f h (n - 0) 0 (λ j k. e j (omega arith))
+
 -- ---- folds
 
 pub fold-inv : {S : Type 0} (P : S → Type 0) (f : S → ℕ → S) (xs : List ℕ) → ((s : S) (x : ℕ) → T (has x xs) → P s → P (f s x)) → (s : S) → P s → P (fold f s xs)

@@ -1,7 +1,6 @@
 -- Bytes made of bits, eight each, high bit first: a byte's bits are those it was made of, and a byte is made of its bits. Assumes nothing.
 use Prim.Native.Nat.{ℕ, zero, suc, _+_, _-_, _*_, _/_, _%_, _^_, _<_, _≤_}
 use native.Mathlib.Omega.{arith}
-use native.Mathlib.Nat.{zero-add}
 use mathlib.Core.Path.{_≡_, ap, refl, sym, _∙_}
 use mathlib.Core.Bool.{Bool, true, false}
 use mathlib.Core.List.{List, [], _∷_, map}
@@ -9,28 +8,11 @@ use lib.Dec.{eqb}
 use lib.ListN.{getD, length, take}
 use lib.Seq.{ext-getD, getD-take, length-take-le}
 use borrow.Author.Tests.{eqb-false, eqb-true}
-use Rattle.game.specs.Lists.{Each, bit, from, range}
+use Rattle.game.specs.Lists.{Each, bit, range}
 use Rattle.game.proofs.Counts.{bit-small}
+use Rattle.game.proofs.Members.{getD-range}
 use Rattle.lines.specs.BoardLine.{bitAt, byteOfBits}
 use Rattle.lines.proofs.Runs.{length-cells}
-
--- ---- runs made place by place
-
-module _ {A : Type 0} (f : ℕ → A) (d : A) where
-  from-at : (n a j : ℕ) → j < n → getD (map f (from a n)) j d ≡ f (a + j)
-  from-at zero a j h = absurd (omega arith)
-  from-at (suc n) a zero h = ap f (omega arith)
-  from-at (suc n) a (suc j) h = from-at n (suc a) j (omega arith) ∙ ap f (omega arith)
-
-  -- what such a run holds at a place
-  pub cells-at : (n j : ℕ) → j < n → getD (map f (range 0 n)) j d ≡ f j
-  cells-at n j h = from-at (n - 0) 0 j (omega arith) ∙ ap f (zero-add j)
-
--- two that agree at each place
-pub cells-same : {A : Type 0} (f h : ℕ → A) (d : A) (n : ℕ) → ((j : ℕ) → j < n → f j ≡ h j) → map f (range 0 n) ≡ map h (range 0 n)
-cells-same f h d n e =
-    ext-getD d (map f (range 0 n)) (map h (range 0 n)) (length-cells f n ∙ sym (length-cells h n))
-    (λ j k. let m : j < n = omega (arith, length-cells f n) in cells-at f d n j m ∙ e j m ∙ sym (cells-at h d n j m))
 
 -- ---- bits
 
@@ -136,7 +118,7 @@ module _ (bits : ℕ → Bool) where
   pub bits-back : (n p : ℕ) → p < 8 * n → bitAt (map (byteOfBits bits) (range 0 n)) p ≡ bits p
   unfolding bitAt
   bits-back n p h =
-      ap (λ (b : ℕ). eqb (b / 2 ^ (7 - p % 8) % 2) 1) (cells-at (byteOfBits bits) 0 n (p / 8) (omega arith))
+      ap (λ (b : ℕ). eqb (b / 2 ^ (7 - p % 8) % 2) 1) (getD-range (byteOfBits bits) 0 n (p / 8) (omega arith))
       ∙ made-bit bits (p / 8) (p % 8) (omega arith)
       ∙ ap bits (omega arith)
 
@@ -148,4 +130,4 @@ module _ (bits : ℕ → Bool) where
       let h : k < n = omega (arith, length-take-le n run l) in
       getD-take n run k 0 h
       ∙ byte-by-bits bits k (getD run k 0) (byte-there run k s) (λ j i. sym (bit-of run k j i) ∙ e (8 * k + j) (omega arith))
-      ∙ sym (cells-at (byteOfBits bits) 0 n k h))
+      ∙ sym (getD-range (byteOfBits bits) 0 n k h))

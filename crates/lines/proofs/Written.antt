@@ -15,13 +15,13 @@ use Rattle.game.specs.Lists.{Each, concat-map, has, range, some-of}
 use Rattle.game.specs.Grid.{Grid, isMine, size}
 use Rattle.game.specs.Calls.{frame, sideOut}
 use Rattle.game.proofs.Checks.{side-in}
-use Rattle.game.proofs.Members.{has-range, range-has, some-yes, yes-some}
+use Rattle.game.proofs.Members.{getD-range, has-range, range-has, range-same, some-yes, yes-some}
 use Rattle.game.proofs.Truth.{T→true, no→false, or-no}
 use Rattle.hex.specs.Hex.{byteDigits, bytesOf}
 use Rattle.hex.proofs.Back.{bytes-back, bytes-clean, bytes-small, digits-back, small-drop, two-first}
 use Rattle.hex.proofs.Bytes.{length-bytes}
 use Rattle.lines.specs.BoardLine.{bitAt, bitBetween, bitBytes, boardLine, byteOfBits, cellValues, digitsRefused, gridOfBytes, lineGrid, lineRefusal, mineBit, placeMine, valueOf}
-use Rattle.lines.proofs.BytesOfBits.{bits-back, byte-small, cells-at, cells-same, run-by-bits}
+use Rattle.lines.proofs.BytesOfBits.{bits-back, byte-small, run-by-bits}
 use Rattle.lines.proofs.Runs.{length-cells}
 use Rattle.lines.proofs.Verdict.{all-fine, cellsOf, columnsByte, digits-by, digits-frame, length-values, padding-set, paddingSet, passed, rowsByte}
 
@@ -131,7 +131,7 @@ module _ (g : Grid) (shape : (sideOut (g .rows) || sideOut (g .columns)) ≡ fal
       values-are : cellValues (bytesOf (boardLine g)) (cellsOf (boardLine g)) ≡ map (λ p. valueOf (placeMine g p)) (range 0 (size g))
       values-are =
           ap (cellValues (bytesOf (boardLine g))) cells-are
-          ∙ cells-same (λ p. valueOf (mineBit (bytesOf (boardLine g)) p)) (λ p. valueOf (placeMine g p)) (pos 0) (size g) (λ p h. ap valueOf (mines-are p (omega arith)))
+          ∙ range-same (λ p. valueOf (mineBit (bytesOf (boardLine g)) p)) (λ p. valueOf (placeMine g p)) (size g) (λ p h. ap valueOf (mines-are p (omega arith)))
 
 -- ---- the grid of a line
 
@@ -158,7 +158,7 @@ module _ (line : List ℕ) (accepted : lineRefusal line ≡ none) where
   mines-back p h =
       sym (mines-after (bytesOf line) p)
       ∙ elim (decLt p (cellsOf line)) [
-        | yes k ↦ sym (ap isMine (cells-at (λ j. valueOf (mineBit (bytesOf line) j)) (pos 0) (cellsOf line) p k) ∙ value-mine (mineBit (bytesOf line) p))
+        | yes k ↦ sym (ap isMine (getD-range (λ j. valueOf (mineBit (bytesOf line) j)) (pos 0) (cellsOf line) p k) ∙ value-mine (mineBit (bytesOf line) p))
         | no k ↦ padding-clear p (omega arith) h ∙ sym (no-mine (lineGrid line) p (omega (arith, length-values line)))
       ]
 
