@@ -40,3 +40,5 @@ pub mod Sane
 pub mod Endings
 pub mod Conservative
 pub mod Reaches
+pub mod Alike
+pub mod Canonical

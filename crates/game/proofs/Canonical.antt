@@ -1,0 +1,105 @@
+-- The canonical grid by its places: each cell's right value stands where its value stood, so the mines are the same, and so is every call. Assumes nothing.
+use Prim.Native.Nat.{ℕ, _*_, _+_, _-_, _/_, _%_, _<_, _≤_, suc, zero}
+use native.Mathlib.Decide.{decLt}
+use native.Mathlib.Nat.{div-add-mod', div-lt-iff-lt-mul, mod-lt, zero-add}
+use native.Mathlib.Omega.{arith}
+use mathlib.Core.Path.{_∙_, _≡_, ap, refl, sym}
+use mathlib.Core.Bool.{Bool, cond, false, true}
+use mathlib.Core.List.{List, [], _∷_, map}
+use mathlib.Core.Option.{Option·some-ne-none, none}
+use borrow.Author.Tests.{eqb-true, not-false}
+use lib.Dec.{eqb}
+use lib.IntN.{negsuc, pos, ℤ}
+use lib.ListN.{List·getD-eq-default, getD, length, length-map}
+use Rattle.game.specs.Calls.{board, boardCheck, boardChecks, firstGiven, shape, shapeCheck, sideOut}
+use Rattle.game.specs.Grid.{Grid, canonical, cellAt, cells, columnOf, isMine, mine, number, rightValue, rightValues, rowOf, size}
+use Rattle.game.specs.Lists.{from}
+use Rattle.game.proofs.Alike.{SameCalls, calls-same, revalued, right-same}
+use Rattle.game.proofs.Checks.{side-in}
+use Rattle.game.proofs.Squares.{column-lt, index-column, index-lt, index-row, length-cells}
+use Rattle.game.proofs.Truth.{or-no}
+
+-- ---- the cell at a place
+
+module _ (g : Grid) (p : ℕ) (h : p < size g) where
+  columns-pos : 0 < g .columns
+  columns-pos = omega (arith, column-lt g p h)
+
+  row-in : p / g .columns < g .rows
+  row-in = div-lt-iff-lt-mul columns-pos .1 h
+
+  -- the cell at a place is on the grid
+  pub cell-at-lt : cellAt g p < size g
+  cell-at-lt = index-lt g (p / g .columns) (p % g .columns) row-in (mod-lt p columns-pos)
+
+  -- its value stands there
+  pub cell-at-place : rowOf g (cellAt g p) * g .columns + columnOf g (cellAt g p) ≡ p
+  cell-at-place =
+      (λ j. index-row g (p / g .columns) (p % g .columns) row-in j * g .columns + index-column g (p / g .columns) (p % g .columns) row-in j)
+      ∙ div-add-mod' p (g .columns)
+
+  pub mine-at-place : mine g (cellAt g p) ≡ isMine (getD (g .values) p (pos 0))
+  unfolding mine
+  mine-at-place = ap (λ (k : ℕ). isMine (getD (g .values) k (pos 0))) cell-at-place
+
+-- ---- the right values
+
+-- how many values the canonical grid has
+pub length-right : (g : Grid) → length (rightValues g) ≡ size g
+unfolding rightValues
+length-right g = length-map (cells g) (λ p. rightValue g (cellAt g p)) ∙ length-cells g
+
+-- what a run of values made number by number holds at a place
+run-at : (f : ℕ → ℤ) (n a p : ℕ) → p < n → getD (map f (from a n)) p (pos 0) ≡ f (a + p)
+run-at f zero a p h = absurd (omega arith)
+run-at f (suc n) a zero h = ap f (omega arith)
+run-at f (suc n) a (suc p) h = run-at f n (suc a) p (omega arith) ∙ ap f (omega arith)
+
+-- the value at a place of it
+pub right-at : (g : Grid) (p : ℕ) → p < size g → getD (rightValues g) p (pos 0) ≡ rightValue g (cellAt g p)
+unfolding rightValues
+right-at g p h = run-at (λ q. rightValue g (cellAt g q)) (size g - 0) 0 p (omega arith) ∙ ap (λ (q : ℕ). rightValue g (cellAt g q)) (zero-add p)
+
+-- a right value is a mine where the cell is one
+pub right-mine : (g : Grid) (i : ℕ) → isMine (rightValue g i) ≡ mine g i
+unfolding rightValue
+right-mine g i = go (mine g i)
+  where
+    go : (b : Bool) → isMine (cond b (negsuc 0) (pos (number g i))) ≡ b
+    go true = refl
+    go false = refl
+
+-- ---- the canonical grid
+
+-- at any place, past the grid too, both grids have a mine or neither has
+place-mines : (g : Grid) → length (g .values) ≡ size g → (p : ℕ) → isMine (getD (g .values) p (pos 0)) ≡ isMine (getD (rightValues g) p (pos 0))
+place-mines g long p =
+    elim (decLt p (size g)) [
+      | yes h ↦ sym (ap isMine (right-at g p h) ∙ right-mine g (cellAt g p) ∙ mine-at-place g p h)
+      | no h ↦ ap isMine (List·getD-eq-default (g .values) (pos 0) (omega arith) ∙ sym (List·getD-eq-default (rightValues g) (pos 0) (omega (arith, length-right g))))
+    ]
+
+-- the canonical grid has the same mines
+pub canonical-mines : (g : Grid) → 1 ≤ g .rows → 1 ≤ g .columns → length (g .values) ≡ size g → (i : ℕ) → mine g i ≡ mine (canonical g) i
+unfolding mine
+canonical-mines g some-rows some-columns long i = place-mines g long (rowOf g i * g .columns + columnOf g i)
+
+-- two grids of the same sides with the same mines are the same once canonical
+pub canonical-same : (g : Grid) (vs : List ℤ) → ((i : ℕ) → mine g i ≡ mine (revalued g vs) i) → canonical g ≡ canonical (revalued g vs)
+canonical-same g vs same = λ j. revalued g (right-same g vs same j)
+
+-- ---- the calls
+
+-- neither SHAPE nor BOARD is given
+neither : (a b : Bool) → firstGiven (record { given = a; refusal = shape } ∷ record { given = b; refusal = board } ∷ []) ≡ none → (a ≡ false) × (b ≡ false)
+neither true b e = absurd (Option·some-ne-none shape e)
+neither false true e = absurd (Option·some-ne-none board e)
+neither false false e = (refl, refl)
+
+-- every call comes to the same on a grid that passes SHAPE and BOARD and on its canonical grid
+pub canonical-calls : (g : Grid) → firstGiven (boardChecks g) ≡ none → SameCalls g (canonical g)
+canonical-calls g e =
+    let passed = neither (shapeCheck g .given) (boardCheck g .given) e in
+    let sides = or-no (sideOut (g .rows)) (sideOut (g .columns)) (passed .0) in
+    let long = eqb-true (length (g .values)) (size g) (not-false (eqb (length (g .values)) (size g)) (passed .1)) in
+    calls-same g (rightValues g) (canonical-mines g (side-in (g .rows) (sides .0) .0) (side-in (g .columns) (sides .1) .0) long) (long ∙ sym (length-right g))
