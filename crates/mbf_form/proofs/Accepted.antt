@@ -1,25 +1,25 @@
 -- What holds of a file that passes, and a file of which it holds passes: the tests one by one. Assumes nothing.
-use Prim.Native.Nat.{ℕ, _+_, _*_, _-_, _<_, _≤_}
+use Prim.Native.Nat.{ℕ, _+_, _*_, _<_, _≤_}
 use native.Mathlib.Omega.{arith}
 use mathlib.Core.Path.{_≡_, ap, refl, subst, _∙_}
 use mathlib.Core.Logic.{⊎-elim}
-use mathlib.Core.Bool.{Bool, _&&_, _||_, false, not, true}
+use mathlib.Core.Bool.{Bool, _||_, false, not, true}
 use mathlib.Core.List.{List, [], _++_, _∷_}
 use mathlib.Core.Option.{Option, Option·some-ne-none, none, some}
 use lib.Arith.{digits-lt}
 use lib.Dec.{T, eqb, leb, leb→le, ltb}
 use lib.ListN.{length}
 use borrow.Author.Tests.{eq-eqb, eqb-true, le-ltb, leb-false, ne-eqb, not-false}
-use Rattle.game.specs.Lists.{Each, count, has, range, some-of}
+use Rattle.game.specs.Lists.{Each, has, range, some-of}
 use Rattle.game.specs.Calls.{Check, Refusal, firstGiven, sideOut}
 use Rattle.game.proofs.Checks.{side-in}
-use Rattle.game.proofs.Counts.{Once, count-le, count-once}
-use Rattle.game.proofs.Members.{has-range, length-from, map-has, range-has, some-yes, yes-some}
-use Rattle.game.proofs.Orders.{once-range}
+use Rattle.game.proofs.Counts.{Once}
+use Rattle.game.proofs.Members.{has-range, map-has, range-has, some-yes, yes-some}
 use Rattle.game.proofs.Truth.{no→false, or-cases, or-no}
 use Rattle.lines.proofs.Runs.{length-cells}
 use Rattle.mbf_form.specs.Form.{fileColumns, fileRows, mineColumn, mineCount, minePlace, minePlaces, mineRow, pastEdge, twice}
 use Rattle.mbf_form.specs.Calls.{fileRefusal, mineChecks, sideChecks}
+use Rattle.mbf_form.proofs.Lists.{pigeonhole}
 
 -- ---- checks
 
@@ -139,17 +139,6 @@ place-in file a p t =
     let w = map-has (minePlace file) p (range 0 (mineCount file)) t in
     let l = has-range 0 (mineCount file) (w .0) (w .1) .1 in
     rw (w .2) (digits-lt (a .rows-inside (w .0) l) (a .columns-inside (w .0) l))
-
--- numbers below n without repeats are at most n
-pub pigeonhole : (n : ℕ) (xs : List ℕ) → Once xs → ((x : ℕ) → T (has x xs) → x < n) → length xs ≤ n
-pigeonhole n xs o h =
-    let c = count-once (λ x. true) xs (range 0 n) o (once-range 0 n) (λ x t. range-has 0 n x (omega arith) (h x t)) in
-    let l = count-le (λ j. has j xs && true) (range 0 n) in
-    omega (arith, count-all xs, length-from (n - 0) 0)
-  where
-    count-all : (ys : List ℕ) → count (λ y. true) ys ≡ length ys
-    count-all [] = refl
-    count-all (y ∷ ys) = omega (arith, count-all ys)
 
 -- no more mines than cells
 pub few-mines : (file : List ℕ) → Accepted file → mineCount file ≤ fileRows file * fileColumns file
