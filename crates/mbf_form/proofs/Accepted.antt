@@ -44,7 +44,7 @@ none-given (c ∷ cs) h =
     ap (λ (b : Bool). elim b [ true ↦ some (c .refusal) | false ↦ firstGiven cs ]) (h .0) ∙ none-given cs (h .1)
 
 -- a side within the limits passes
-pub side-fine : (n : ℕ) → 1 ≤ n → n ≤ 255 → sideOut n ≡ false
+side-fine : (n : ℕ) → 1 ≤ n → n ≤ 255 → sideOut n ≡ false
 side-fine n h k = λ i. ne-eqb n 0 (λ e. omega arith) i || le-ltb 255 n k i
 
 -- ---- none is listed twice
@@ -109,15 +109,16 @@ accepted file e =
       once = twice-once (minePlaces file) (h .1 .1 .1 .1 .0);
     }
 
+-- its sides pass
+pub shaped : (file : List ℕ) → Accepted file → (sideOut (fileRows file) || sideOut (fileColumns file)) ≡ false
+shaped file a = λ i. side-fine (fileRows file) (a .some-rows) (a .few-rows) i || side-fine (fileColumns file) (a .some-columns) (a .few-columns) i
+
 pub accept : (file : List ℕ) → Accepted file → fileRefusal file ≡ none
 unfolding fileRefusal
-accept file a = none-given (sideChecks file ++ mineChecks file) (short, (shaped, (long, (edge, (once-twice (minePlaces file) (a .once), tt)))))
+accept file a = none-given (sideChecks file ++ mineChecks file) (short, (shaped file a, (long, (edge, (once-twice (minePlaces file) (a .once), tt)))))
   where
     short : ltb (length file) 2 ≡ false
     short = le-ltb (length file) 2 (omega arith)
-
-    shaped : (sideOut (fileRows file) || sideOut (fileColumns file)) ≡ false
-    shaped = λ i. side-fine (fileRows file) (a .some-rows) (a .few-rows) i || side-fine (fileColumns file) (a .some-columns) (a .few-columns) i
 
     long : not (eqb (length file) (4 + 2 * mineCount file)) ≡ false
     long = ap not (eq-eqb (length file) (4 + 2 * mineCount file) (a .long))

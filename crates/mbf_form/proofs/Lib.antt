@@ -4,3 +4,4 @@ pub mod Accepted
 pub mod Listed
 pub mod Written
 pub mod Order
+pub mod Round

@@ -3,17 +3,15 @@ use Prim.Native.Nat.{ℕ, _+_, _*_, _/_, _%_, _<_, suc, zero}
 use native.Mathlib.Omega.{arith}
 use native.Mathlib.Decide.{ℕ-discrete}
 use mathlib.Core.Path.{_≡_, ap, ap₂, refl, subst, sym, _∙_}
-use mathlib.Core.Bool.{_||_, false, not}
 use mathlib.Core.List.{List, [], _∷_, map}
 use mathlib.Core.Option.{none}
-use lib.Dec.{T, eqb}
+use lib.Dec.{T}
 use lib.ListN.{getD, length}
 use lib.Seq.{ext-getD}
-use borrow.Author.Tests.{eq-eqb}
 use Rattle.game.specs.Lists.{Each, has, range}
-use Rattle.game.specs.Calls.{boardChecks, firstGiven, sideOut}
+use Rattle.game.specs.Calls.{boardChecks, firstGiven}
 use Rattle.game.specs.Grid.{Grid, canonical, cellAt, cells, columnOf, mine, rowOf, size}
-use Rattle.game.proofs.Canonical.{canonical-mines, length-right}
+use Rattle.game.proofs.Canonical.{canonical-mines}
 use Rattle.game.proofs.Counts.{length-keep}
 use Rattle.game.proofs.Members.{has-keep, has-map, has-range, keep-has, map-has}
 use Rattle.game.proofs.Orders.{Ordered, ordered-keep, ordered-range, ordered-same}
@@ -23,9 +21,9 @@ use Rattle.lines.proofs.Runs.{length-cells}
 use Rattle.mbf_form.specs.Form.{fileColumns, fileGrid, fileOf, fileRows, listedGrid, listedValues, mineCell, mineCells, mineColumn, mineCount, minePlace, minePlaces, mineRow, minesInOrder}
 use Rattle.mbf_form.specs.Calls.{fileRefusal}
 use Rattle.mbf_form.proofs.Lists.{getD-range}
-use Rattle.mbf_form.proofs.Accepted.{Accepted, accepted, none-given, side-fine}
+use Rattle.mbf_form.proofs.Accepted.{Accepted, accepted, shaped}
 use Rattle.mbf_form.proofs.Listed.{cell-back, length-listed, listed-mine, placeOf}
-use Rattle.mbf_form.proofs.Written.{file-column, file-length, file-row, written-cells}
+use Rattle.mbf_form.proofs.Written.{canonical-passes, file-column, file-length, file-row, written-cells}
 
 -- the listed mines stand in cell index order
 abbrev pub InOrder : List ℕ → Type 0
@@ -36,13 +34,7 @@ InOrder file = Ordered _<_ (mineCells file)
 module _ (file : List ℕ) (a : Accepted file) where
   -- the grid of a file passes the board's checks
   pub grid-passes : firstGiven (boardChecks (fileGrid file)) ≡ none
-  grid-passes = none-given (boardChecks (fileGrid file)) (shaped, (whole, tt))
-    where
-      shaped : (sideOut (fileRows file) || sideOut (fileColumns file)) ≡ false
-      shaped = λ i. side-fine (fileRows file) (a .some-rows) (a .few-rows) i || side-fine (fileColumns file) (a .some-columns) (a .few-columns) i
-
-      whole : not (eqb (length (fileGrid file .values)) (size (fileGrid file))) ≡ false
-      whole = ap not (eq-eqb (length (fileGrid file .values)) (size (fileGrid file)) (length-right (listedGrid file)))
+  grid-passes = canonical-passes (listedGrid file) (shaped file a)
 
   -- a cell of the grid is a mine exactly if the file lists its place
   grid-mine : (i : ℕ) → mine (fileGrid file) i ≡ has (placeOf (listedGrid file) i) (minePlaces file)

@@ -4,16 +4,17 @@ use native.Mathlib.Omega.{arith}
 use native.Mathlib.Decide.{decLt}
 use native.Mathlib.Nat.{mul-le-mul-left}
 use mathlib.Core.Path.{_≡_, ap, ap₂, refl, subst, sym, _∙_}
+use mathlib.Core.Bool.{false, not}
 use mathlib.Core.List.{List, _∷_, _++_, map, map-id}
 use mathlib.Core.Option.{none}
 use lib.Dec.{T}
 use lib.IntN.{pos}
 use lib.ListN.{List·getD-eq-default, getD, length}
-use borrow.Author.Tests.{eqb-true, not-false}
+use borrow.Author.Tests.{eq-eqb, eqb-true, not-false}
 use Rattle.game.specs.Lists.{concat-map, count, has}
-use Rattle.game.specs.Calls.{boardChecks, firstGiven, sideOut}
+use Rattle.game.specs.Calls.{boardChecks, firstGiven, shapeCheck, sideOut}
 use Rattle.game.specs.Grid.{Grid, canonical, cellAt, cells, columnOf, isMine, mine, rowOf, size}
-use Rattle.game.proofs.Canonical.{canonical-mines, canonical-same, cell-at-lt, cell-at-place, mine-at-place}
+use Rattle.game.proofs.Canonical.{canonical-mines, canonical-same, cell-at-lt, cell-at-place, length-right, mine-at-place}
 use Rattle.game.proofs.Checks.{side-in}
 use Rattle.game.proofs.Counts.{Once, count-le, length-keep}
 use Rattle.game.proofs.Members.{getD-has, has-keep, has-map, keep-ext, keep-has, map-has}
@@ -24,7 +25,7 @@ use Rattle.hex.specs.Hex.{twoBytes}
 use Rattle.lines.specs.BoardLine.{placeMine}
 use Rattle.mbf_form.specs.Form.{fileGrid, fileOf, listedGrid, listedValues, mineBytes, mineCell, mineCells, mineColumn, mineCount, minePlace, minePlaces, mineRow, minesInOrder}
 use Rattle.mbf_form.specs.Calls.{fileRefusal}
-use Rattle.mbf_form.proofs.Accepted.{Accepted, accept, each-fails}
+use Rattle.mbf_form.proofs.Accepted.{Accepted, accept, each-fails, none-given}
 use Rattle.mbf_form.proofs.Lists.{first-at, length-pairs, map-places, once-map, second-at}
 use Rattle.mbf_form.proofs.Listed.{cell-back, listed-mine, placeOf}
 
@@ -50,6 +51,11 @@ sized g e =
       few-columns = c .1;
       whole = eqb-true (length (g .values)) (size g) (not-false _ (h .1 .0));
     }
+
+-- the canonical grid of a grid whose sides pass
+pub canonical-passes : (g : Grid) → shapeCheck g .given ≡ false → firstGiven (boardChecks (canonical g)) ≡ none
+canonical-passes g e =
+    none-given (boardChecks (canonical g)) (e, (ap not (eq-eqb (length (canonical g .values)) (size g) (length-right g)), tt))
 
 -- ---- the bytes of the mines
 
