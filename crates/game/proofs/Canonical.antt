@@ -5,15 +5,16 @@ use native.Mathlib.Nat.{div-add-mod', div-lt-iff-lt-mul, mod-lt}
 use native.Mathlib.Omega.{arith}
 use mathlib.Core.Path.{_∙_, _≡_, ap, refl, sym}
 use mathlib.Core.Bool.{Bool, cond, false, true}
-use mathlib.Core.List.{List, [], _∷_}
-use mathlib.Core.Option.{Option·some-ne-none, none}
+use mathlib.Core.List.{List}
+use mathlib.Core.Option.{none}
 use borrow.Author.Tests.{eqb-true, not-false}
 use lib.Dec.{eqb}
 use lib.IntN.{negsuc, pos, ℤ}
 use lib.ListN.{List·getD-eq-default, getD, length, length-map}
-use Rattle.game.specs.Calls.{board, boardCheck, boardChecks, firstGiven, shape, shapeCheck}
+use Rattle.game.specs.Calls.{boardChecks, firstGiven}
 use Rattle.game.specs.Grid.{Grid, canonical, cellAt, cells, columnOf, isMine, mine, number, rightValue, rightValues, rowOf, size}
 use Rattle.game.proofs.Alike.{SameCalls, calls-same, revalued, right-same}
+use Rattle.game.proofs.Checks.{each-fails}
 use Rattle.game.proofs.Members.{getD-range}
 use Rattle.game.proofs.Squares.{column-lt, index-column, index-lt, index-row, length-cells}
 
@@ -82,15 +83,9 @@ canonical-same g vs same = λ j. revalued g (right-same g vs same j)
 
 -- ---- the calls
 
--- neither SHAPE nor BOARD is given
-neither : (a b : Bool) → firstGiven (record { given = a; refusal = shape } ∷ record { given = b; refusal = board } ∷ []) ≡ none → (a ≡ false) × (b ≡ false)
-neither true b e = absurd (Option·some-ne-none shape e)
-neither false true e = absurd (Option·some-ne-none board e)
-neither false false e = (refl, refl)
-
 -- every call comes to the same on a grid that passes SHAPE and BOARD and on its canonical grid
 pub canonical-calls : (g : Grid) → firstGiven (boardChecks g) ≡ none → SameCalls g (canonical g)
 canonical-calls g e =
-    let passed = neither (shapeCheck g .given) (boardCheck g .given) e in
-    let long = eqb-true (length (g .values)) (size g) (not-false (eqb (length (g .values)) (size g)) (passed .1)) in
+    let passed = each-fails (boardChecks g) e in
+    let long = eqb-true (length (g .values)) (size g) (not-false (eqb (length (g .values)) (size g)) (passed .1 .0)) in
     calls-same g (rightValues g) (canonical-mines g long) (long ∙ sym (length-right g))

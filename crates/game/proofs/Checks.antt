@@ -1,10 +1,10 @@
 -- A side that passes lies within the limits; the verdict of some checks after others: the first that is given decides. Assumes nothing.
 use Prim.Native.Nat.{ℕ, _≤_}
 use native.Mathlib.Omega.{arith}
-use mathlib.Core.Path.{_≡_, refl}
+use mathlib.Core.Path.{_∙_, _≡_, ap, refl}
 use mathlib.Core.Bool.{Bool, false, true}
 use mathlib.Core.List.{List, [], _++_, _∷_}
-use mathlib.Core.Option.{Option, none, some}
+use mathlib.Core.Option.{Option, Option·some-ne-none, none, some}
 use borrow.Author.Tests.{eqb-false, ltb-false}
 use lib.Dec.{eqb, ltb}
 use Rattle.game.specs.Calls.{Check, Refusal, firstGiven, sideOut}
@@ -43,3 +43,23 @@ given-each P (c ∷ cs) h = go (c .given) (given-each P cs (h .1))
     go : (b : Bool) → IfSome P (firstGiven cs) → IfSome P (elim b [ true ↦ some (c .refusal) | false ↦ firstGiven cs ])
     go true r = h .0
     go false r = r
+
+-- the test of a check fails
+abbrev pub Fails : Check → Type 0
+Fails c = c .given ≡ false
+
+-- where no refusal is given, each test fails
+pub each-fails : (cs : List Check) → firstGiven cs ≡ none → Each Fails cs
+each-fails [] e = tt
+each-fails (c ∷ cs) e = go (c .given) refl (λ h. each-fails cs h) e
+  where
+    go : (b : Bool) → c .given ≡ b → (firstGiven cs ≡ none → Each Fails cs)
+        → _≡_ {A = Option Refusal} (elim b [ true ↦ some (c .refusal) | false ↦ firstGiven cs ]) none → Each Fails (c ∷ cs)
+    go true q r h = absurd (Option·some-ne-none _ h)
+    go false q r h = (q, r h)
+
+-- where each test fails, no refusal is given
+pub none-given : (cs : List Check) → Each Fails cs → firstGiven cs ≡ none
+none-given [] h = refl
+none-given (c ∷ cs) h =
+    ap (λ (b : Bool). elim b [ true ↦ some (c .refusal) | false ↦ firstGiven cs ]) (h .0) ∙ none-given cs (h .1)

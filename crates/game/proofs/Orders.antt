@@ -1,14 +1,15 @@
--- Lists in an order, each before all that follow it; such a list has no repeats. Assumes nothing.
-use Prim.Native.Nat.{ℕ, _-_, _<_, suc, zero}
+-- Lists in an order, each before all that follow it; such a list has no repeats, and what has none of numbers below n has at most n. Assumes nothing.
+use Prim.Native.Nat.{ℕ, _-_, _<_, _≤_, suc, zero}
 use native.Mathlib.Omega.{arith}
-use mathlib.Core.Path.{_≡_, ap₂, refl, subst, sym}
+use mathlib.Core.Path.{_∙_, _≡_, ap, ap₂, refl, subst, sym}
 use mathlib.Core.Logic.{⊎-elim}
-use mathlib.Core.Bool.{Bool, false, true}
+use mathlib.Core.Bool.{Bool, _&&_, false, true}
 use mathlib.Core.List.{List, [], _++_, _∷_, map}
 use lib.Dec.{T}
-use Rattle.game.specs.Lists.{concat-map, from, has, keep, range}
-use Rattle.game.proofs.Counts.{Once}
-use Rattle.game.proofs.Members.{concat-map-has, first-of, has-append-cases, has-cases, has-from, has-head, has-tail, keep-has, map-has, none-there, rest-of}
+use lib.ListN.{length}
+use Rattle.game.specs.Lists.{concat-map, count, from, has, keep, range}
+use Rattle.game.proofs.Counts.{Once, count-le, count-once}
+use Rattle.game.proofs.Members.{concat-map-has, first-of, has-append-cases, has-cases, has-from, has-head, has-tail, keep-has, length-from, map-has, none-there, range-has, rest-of}
 
 -- each is before all that follow it
 abbrev pub Ordered : (ℕ → ℕ → Type 0) → List ℕ → Type 0
@@ -78,3 +79,26 @@ ordered-concat-map R S f (x ∷ xs) o h d =
     (ordered-concat-map R S f xs (o .1) (rest-of x xs h) (λ y q z w t u. d y q z w (has-tail y x xs t) (has-tail q x xs u)))
     (λ z w t u. let k = concat-map-has f w xs u in
     d x (k .0) z w (has-head x x xs refl) (has-tail (k .0) x xs (k .1)) (o .0 (k .0) (k .1)) t (k .2))
+
+-- ---- no repeats
+
+-- images that lead back have no repeats
+pub once-map : (f back : ℕ → ℕ) (xs : List ℕ) → ((x : ℕ) → T (has x xs) → back (f x) ≡ x) → Once xs → Once (map f xs)
+once-map f back [] h o = tt
+once-map f back (x ∷ xs) h o = (again, once-map f back xs (rest-of x xs h) (o .1))
+  where
+    again : T (has (f x) (map f xs)) → ⊥
+    again t =
+        let w = map-has f (f x) xs t in
+        o .0 (subst (λ (y : ℕ). T (has y xs)) (sym (h (w .0) (has-tail (w .0) x xs (w .1))) ∙ ap back (sym (w .2)) ∙ first-of x xs h) (w .1))
+
+-- numbers below n without repeats are at most n
+pub pigeonhole : (n : ℕ) (xs : List ℕ) → Once xs → ((x : ℕ) → T (has x xs) → x < n) → length xs ≤ n
+pigeonhole n xs o h =
+    let c = count-once (λ x. true) xs (range 0 n) o (once-range 0 n) (λ x t. range-has 0 n x (omega arith) (h x t)) in
+    let l = count-le (λ j. has j xs && true) (range 0 n) in
+    omega (arith, count-all xs, length-from (n - 0) 0)
+  where
+    count-all : (ys : List ℕ) → count (λ y. true) ys ≡ length ys
+    count-all [] = refl
+    count-all (y ∷ ys) = omega (arith, count-all ys)

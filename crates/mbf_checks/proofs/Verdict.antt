@@ -4,15 +4,18 @@ use native.Mathlib.Omega.{arith}
 use mathlib.Core.Path.{_≡_, ap, refl, sym, _∙_}
 use mathlib.Core.Bool.{Bool, true, false, not, true≢false, _||_}
 use mathlib.Core.List.{List, [], _∷_}
-use mathlib.Core.Option.{Option, none, some}
+use mathlib.Core.Option.{Option, Option·some-ne-none, none, some}
 use lib.Dec.{eqb, ltb}
 use lib.ListN.{length}
-use borrow.Author.Tests.{eq-eqb, le-ltb, lt-ltb, ne-eqb}
+use borrow.Author.Tests.{eq-eqb, le-ltb, lt-ltb, ne-eqb, not-false, not-true}
 use Rattle.game.specs.Lists.{range, some-of}
 use Rattle.game.specs.Calls.{Refusal, file-wrong, firstGiven, shape, sideOut}
 use Rattle.lines.proofs.Verdict.{side-fine, side-none}
 use Rattle.mbf_form.specs.Form.{fileColumns, fileRows, mineCount, minePlaces, pastEdge, twice}
 use Rattle.mbf_form.specs.Calls.{mineChecks, sideChecks}
+use Rattle.refusals.specs.declared.Checked.the-variants.{Fine, Refused}
+use Rattle.refusals.specs.declared.Refusal.the-variants.{File}
+use Rattle.mbf_checks.specs.Marks.{CheckedMines, MarkedAll}
 
 -- ---- the sides
 
@@ -50,17 +53,17 @@ mines a b c = firstGiven (record { given = a; refusal = file-wrong } ∷ record 
 
 module _ (file : List ℕ) where
   -- a mine is past the edge or listed twice
-  abbrev pub mineWrong : Bool
+  abbrev mineWrong : Bool
   mineWrong = some-of (pastEdge file) (range 0 (mineCount file)) || twice (minePlaces file)
 
   mines-by : (a : Bool) → not (eqb (length file) (4 + 2 * mineCount file)) ≡ a → mines a (some-of (pastEdge file) (range 0 (mineCount file))) (twice (minePlaces file)) ≡ firstGiven (mineChecks file)
   mines-by a e = sym (λ i. mines (e i) (some-of (pastEdge file) (range 0 (mineCount file))) (twice (minePlaces file)))
 
-  pub other-length : (length file ≡ 4 + 2 * mineCount file → ⊥) → some file-wrong ≡ firstGiven (mineChecks file)
+  other-length : (length file ≡ 4 + 2 * mineCount file → ⊥) → some file-wrong ≡ firstGiven (mineChecks file)
   other-length h = mines-by true (ap not (ne-eqb (length file) (4 + 2 * mineCount file) h))
 
   module _ (long : length file ≡ 4 + 2 * mineCount file) where
-    pub mine-wrong : mineWrong ≡ true → some file-wrong ≡ firstGiven (mineChecks file)
+    mine-wrong : mineWrong ≡ true → some file-wrong ≡ firstGiven (mineChecks file)
     mine-wrong e = go (some-of (pastEdge file) (range 0 (mineCount file))) (twice (minePlaces file)) e ∙ mines-by false (ap not (eq-eqb (length file) (4 + 2 * mineCount file) long))
       where
         go : (b c : Bool) → (b || c) ≡ true → some file-wrong ≡ mines false b c
@@ -68,10 +71,26 @@ module _ (file : List ℕ) where
         go false true e = refl
         go false false e = absurd (true≢false (sym e))
 
-    pub mines-fine : mineWrong ≡ false → none ≡ firstGiven (mineChecks file)
+    mines-fine : mineWrong ≡ false → none ≡ firstGiven (mineChecks file)
     mines-fine e = go (some-of (pastEdge file) (range 0 (mineCount file))) (twice (minePlaces file)) e ∙ mines-by false (ap not (eq-eqb (length file) (4 + 2 * mineCount file) long))
       where
         go : (b c : Bool) → (b || c) ≡ false → none ≡ mines false b c
         go true c e = absurd (true≢false e)
         go false true e = absurd (true≢false e)
         go false false e = refl
+
+-- ---- what check_mines comes to
+
+module _ (file bits : List ℕ) where
+  -- refused for its length
+  pub length-refused : (length file ≡ 4 + 2 * mineCount file → ⊥) → CheckedMines file (Refused File) bits
+  length-refused h = record { verdict = other-length file h; marks = λ e. absurd (Option·some-ne-none _ e) }
+
+  module _ (long : length file ≡ 4 + 2 * mineCount file) (taken : Bool) (all : MarkedAll file taken bits) where
+    -- refused for a mine
+    pub mine-refused : taken ≡ false → CheckedMines file (Refused File) bits
+    mine-refused e = record { verdict = mine-wrong file long (not-false _ (sym (all .answers) ∙ e)); marks = λ q. absurd (Option·some-ne-none _ q) }
+
+    -- not refused
+    pub mines-taken : taken ≡ true → CheckedMines file Fine bits
+    mines-taken e = record { verdict = mines-fine file long (not-true _ (sym (all .answers) ∙ e)); marks = λ q. all .marks e }

@@ -3,45 +3,25 @@ use Prim.Native.Nat.{ℕ, _+_, _*_, _<_, _≤_}
 use native.Mathlib.Omega.{arith}
 use mathlib.Core.Path.{_≡_, ap, refl, subst, _∙_}
 use mathlib.Core.Logic.{⊎-elim}
-use mathlib.Core.Bool.{Bool, _||_, false, not, true}
+use mathlib.Core.Bool.{_||_, false, not}
 use mathlib.Core.List.{List, [], _++_, _∷_}
-use mathlib.Core.Option.{Option, Option·some-ne-none, none, some}
+use mathlib.Core.Option.{none}
 use lib.Arith.{digits-lt}
 use lib.Dec.{T, eqb, leb, leb→le, ltb}
 use lib.ListN.{length}
 use borrow.Author.Tests.{eq-eqb, eqb-true, le-ltb, leb-false, ne-eqb, not-false}
-use Rattle.game.specs.Lists.{Each, has, range, some-of}
-use Rattle.game.specs.Calls.{Check, Refusal, firstGiven, sideOut}
-use Rattle.game.proofs.Checks.{side-in}
+use Rattle.game.specs.Lists.{has, range, some-of}
+use Rattle.game.specs.Calls.{sideOut}
+use Rattle.game.proofs.Checks.{each-fails, none-given, side-in}
 use Rattle.game.proofs.Counts.{Once}
 use Rattle.game.proofs.Members.{has-range, map-has, range-has, some-yes, yes-some}
+use Rattle.game.proofs.Orders.{pigeonhole}
 use Rattle.game.proofs.Truth.{no→false, or-cases, or-no}
 use Rattle.lines.proofs.Runs.{length-cells}
 use Rattle.mbf_form.specs.Form.{fileColumns, fileRows, mineColumn, mineCount, minePlace, minePlaces, mineRow, pastEdge, twice}
 use Rattle.mbf_form.specs.Calls.{fileRefusal, mineChecks, sideChecks}
-use Rattle.mbf_form.proofs.Lists.{pigeonhole}
 
--- ---- checks
-
--- the test of a check fails
-abbrev pub Fails : Check → Type 0
-Fails c = c .given ≡ false
-
--- where no refusal is given, each test fails
-pub each-fails : (cs : List Check) → firstGiven cs ≡ none → Each Fails cs
-each-fails [] e = tt
-each-fails (c ∷ cs) e = go (c .given) refl (λ h. each-fails cs h) e
-  where
-    go : (b : Bool) → c .given ≡ b → (firstGiven cs ≡ none → Each Fails cs)
-        → _≡_ {A = Option Refusal} (elim b [ true ↦ some (c .refusal) | false ↦ firstGiven cs ]) none → Each Fails (c ∷ cs)
-    go true q r h = absurd (Option·some-ne-none _ h)
-    go false q r h = (q, r h)
-
--- where each test fails, no refusal is given
-pub none-given : (cs : List Check) → Each Fails cs → firstGiven cs ≡ none
-none-given [] h = refl
-none-given (c ∷ cs) h =
-    ap (λ (b : Bool). elim b [ true ↦ some (c .refusal) | false ↦ firstGiven cs ]) (h .0) ∙ none-given cs (h .1)
+-- ---- sides
 
 -- a side within the limits passes
 side-fine : (n : ℕ) → 1 ≤ n → n ≤ 255 → sideOut n ≡ false

@@ -10,12 +10,12 @@ use lib.IntN.{pos}
 use lib.ListN.{List·getD-eq-default, length}
 use Rattle.game.specs.Lists.{has}
 use Rattle.game.specs.Grid.{Grid, cellAt, columnOf, index, isMine, mine, rowOf, size}
+use Rattle.game.proofs.Members.{getD-range}
 use Rattle.game.proofs.Squares.{column-lt, index-of}
 use Rattle.game.proofs.Truth.{no→false}
 use Rattle.lines.specs.BoardLine.{placeMine, valueOf}
 use Rattle.lines.proofs.Runs.{length-cells}
 use Rattle.mbf_form.specs.Form.{listedGrid, listedValues, minePlaces}
-use Rattle.mbf_form.proofs.Lists.{getD-range}
 use Rattle.mbf_form.proofs.Accepted.{Accepted, place-in}
 
 -- ---- a cell and its place
@@ -46,7 +46,7 @@ module _ (file : List ℕ) (a : Accepted file) where
   unfolding listedValues
   listed-place p =
       elim (decLt p (size (listedGrid file))) [
-        | yes h ↦ ap isMine (getD-range (λ q. valueOf (has q (minePlaces file))) (size (listedGrid file)) p (pos 0) h) ∙ value-mine (has p (minePlaces file))
+        | yes h ↦ ap isMine (getD-range (λ q. valueOf (has q (minePlaces file))) (pos 0) (size (listedGrid file)) p h) ∙ value-mine (has p (minePlaces file))
         | no h ↦ ap isMine (List·getD-eq-default (listedGrid file .values) (pos 0) (omega (arith, length-listed file)))
             ∙ sym (no→false (has p (minePlaces file)) (λ t. h (place-in file a p t)))
       ]

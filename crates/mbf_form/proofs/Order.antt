@@ -13,14 +13,13 @@ use Rattle.game.specs.Calls.{boardChecks, firstGiven}
 use Rattle.game.specs.Grid.{Grid, canonical, cellAt, cells, columnOf, mine, rowOf, size}
 use Rattle.game.proofs.Canonical.{canonical-mines}
 use Rattle.game.proofs.Counts.{length-keep}
-use Rattle.game.proofs.Members.{has-keep, has-map, has-range, keep-has, map-has}
+use Rattle.game.proofs.Members.{getD-range, has-keep, has-map, has-range, keep-has, map-has}
 use Rattle.game.proofs.Orders.{Ordered, ordered-keep, ordered-range, ordered-same}
 use Rattle.game.proofs.Squares.{cells→, index-column, index-lt, index-row, →cells}
 use Rattle.lines.specs.BoardLine.{valueOf}
 use Rattle.lines.proofs.Runs.{length-cells}
 use Rattle.mbf_form.specs.Form.{fileColumns, fileGrid, fileOf, fileRows, listedGrid, listedValues, mineCell, mineCells, mineColumn, mineCount, minePlace, minePlaces, mineRow, minesInOrder}
 use Rattle.mbf_form.specs.Calls.{fileRefusal}
-use Rattle.mbf_form.proofs.Lists.{getD-range}
 use Rattle.mbf_form.proofs.Accepted.{Accepted, accepted, shaped}
 use Rattle.mbf_form.proofs.Listed.{cell-back, length-listed, listed-mine, placeOf}
 use Rattle.mbf_form.proofs.Written.{canonical-passes, file-column, file-length, file-row, written-cells}
@@ -38,7 +37,7 @@ module _ (file : List ℕ) (a : Accepted file) where
 
   -- a cell of the grid is a mine exactly if the file lists its place
   grid-mine : (i : ℕ) → mine (fileGrid file) i ≡ has (placeOf (listedGrid file) i) (minePlaces file)
-  grid-mine i = sym (canonical-mines (listedGrid file) (a .some-rows) (a .some-columns) (length-listed file) i) ∙ listed-mine file a i
+  grid-mine i = sym (canonical-mines (listedGrid file) (length-listed file) i) ∙ listed-mine file a i
 
   module _ (k : ℕ) (l : k < mineCount file) where
     -- a listed mine's cell and its place
@@ -128,7 +127,7 @@ same-bytes file bytes passes order =
     small k = each-at (λ b. b < 256) file k (omega arith) bytes
 
     nth : (k : ℕ) → k < mineCount file → getD (minesInOrder (fileGrid file)) k 0 ≡ mineCell file k
-    nth k l = ap (λ (is : List ℕ). getD is k 0) same ∙ getD-range (mineCell file) (mineCount file) k 0 l
+    nth k l = ap (λ (is : List ℕ). getD is k 0) same ∙ getD-range (mineCell file) 0 (mineCount file) k l
 
 -- and only there
 pub only-in-order : (file : List ℕ) → fileRefusal file ≡ none → fileOf (fileGrid file) ≡ file → InOrder file

@@ -1,7 +1,7 @@
 -- Reading after writing, at the level of the calls: a call that is given no refusal comes to what it reads or writes. Assumes nothing.
 use Prim.Native.Nat.{ℕ, _*_, _-_, _≤_}
 use native.Mathlib.Omega.{arith}
-use mathlib.Core.Path.{_≡_, ap, refl, sym, _∙_}
+use mathlib.Core.Path.{_≡_, ap, refl, subst, sym, _∙_}
 use mathlib.Core.List.{List, [], _∷_, _++_, map}
 use mathlib.Core.Option.{Option, none, some}
 use lib.Dec.{ltb}
@@ -14,12 +14,13 @@ use Rattle.game.specs.Boards.{Line, twelve}
 use Rattle.game.specs.Calls.{Answer, Check, Refusal, board, boardChecks, firstGiven, gives}
 use Rattle.game.specs.Grid.{Grid, canonical, mine, size}
 use Rattle.game.specs.Lists.{has}
-use Rattle.game.proofs.Checks.{given-append, orElse}
+use Rattle.game.proofs.Alike.{SameCalls}
+use Rattle.game.proofs.Canonical.{canonical-calls}
+use Rattle.game.proofs.Checks.{each-fails, given-append, none-given, orElse}
 use Rattle.lines.specs.BoardLine.{GridOutcome, cellsCheck, unlessRefused}
 use Rattle.lines.specs.Outputs.{RunOutcome, unlessGiven}
 use Rattle.mbf_form.specs.Form.{fileColumns, fileGrid, fileOf, fileRows, listedGrid, minePlaces}
 use Rattle.mbf_form.specs.Calls.{fileRefusal, mineChecks, outputCheck, readFileCall, sideChecks, writeFileCall}
-use Rattle.mbf_form.proofs.Accepted.{each-fails, none-given}
 use Rattle.mbf_form.proofs.Written.{canonical-file, canonical-passes, written-accepted, written-grid}
 use Rattle.mbf_form.proofs.Order.{any-order}
 
@@ -111,6 +112,12 @@ any-order-read file file′ lent e e′ r c h =
     ∙ (λ i. unlessRefused (firstGiven (record { given = ltb (length lent) (r i * c i); refusal = board } ∷ [])) lent
     (record { answer = gives (r i ∷ c i ∷ []); values = begun (any-order file file′ r c h i .values) lent }))
     ∙ sym (read-passed file′ lent e′)
+
+-- ---- every call
+
+-- every call comes to the same on a grid and on what its file reads as
+pub file-calls : (g : Grid) → firstGiven (boardChecks g) ≡ none → SameCalls g (fileGrid (fileOf g))
+file-calls g e = subst (SameCalls g) (sym (written-grid g e)) (canonical-calls g e)
 
 -- ---- P7 and P11 of the rules as bytes
 

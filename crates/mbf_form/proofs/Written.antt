@@ -15,18 +15,18 @@ use Rattle.game.specs.Lists.{concat-map, count, has}
 use Rattle.game.specs.Calls.{boardChecks, firstGiven, shapeCheck, sideOut}
 use Rattle.game.specs.Grid.{Grid, canonical, cellAt, cells, columnOf, isMine, mine, rowOf, size}
 use Rattle.game.proofs.Canonical.{canonical-mines, canonical-same, cell-at-lt, cell-at-place, length-right, mine-at-place}
-use Rattle.game.proofs.Checks.{side-in}
+use Rattle.game.proofs.Checks.{each-fails, none-given, side-in}
 use Rattle.game.proofs.Counts.{Once, count-le, length-keep}
 use Rattle.game.proofs.Members.{getD-has, has-keep, has-map, keep-ext, keep-has, map-has}
-use Rattle.game.proofs.Orders.{once-keep}
+use Rattle.game.proofs.Orders.{once-keep, once-map}
 use Rattle.game.proofs.Squares.{cells→, column-lt, index-of, length-cells, once-cells, row-lt, →cells}
 use Rattle.game.proofs.Truth.{iff, or-no}
 use Rattle.hex.specs.Hex.{twoBytes}
 use Rattle.lines.specs.BoardLine.{placeMine}
 use Rattle.mbf_form.specs.Form.{fileGrid, fileOf, listedGrid, listedValues, mineBytes, mineCell, mineCells, mineColumn, mineCount, minePlace, minePlaces, mineRow, minesInOrder}
 use Rattle.mbf_form.specs.Calls.{fileRefusal}
-use Rattle.mbf_form.proofs.Accepted.{Accepted, accept, each-fails, none-given}
-use Rattle.mbf_form.proofs.Lists.{first-at, length-pairs, map-places, once-map, second-at}
+use Rattle.mbf_form.proofs.Accepted.{Accepted, accept}
+use Rattle.mbf_form.proofs.Lists.{first-at, length-pairs, map-places, second-at}
 use Rattle.mbf_form.proofs.Listed.{cell-back, listed-mine, placeOf}
 
 -- ---- what the board's checks leave of a grid
@@ -176,7 +176,7 @@ module _ (g : Grid) where
     unfolding fileOf
     canonical-file =
         ap (λ (is : List ℕ). headOf is ++ concat-map (mineBytes g) is)
-        (sym (keep-ext (mine g) (mine (canonical g)) (cells g) (λ i t. canonical-mines g (s .some-rows) (s .some-columns) (s .whole) i)))
+        (sym (keep-ext (mine g) (mine (canonical g)) (cells g) (λ i t. canonical-mines g (s .whole) i)))
       where
         headOf : List ℕ → List ℕ
         headOf is = g .columns ∷ g .rows ∷ twoBytes (length is)

@@ -1,83 +1,86 @@
+-- `mbf_checks::mark_mine`: the tests in their order; the place that is computed is the mine's. Assumes nothing.
+use Prim.Native.Nat.{ℕ, _+_, _*_, _<_}
+use native.Mathlib.Omega.{arith}
+use mathlib.Core.Path.{_≡_, ap, sym, _∙_}
+use Rattle.lines.specs.BoardLine.{bitAt}
+use Rattle.mine_bits.specs.Bits.{withBit}
+use Rattle.mbf_form.specs.Form.{minePlace}
+use Rattle.mbf_checks.proofs.Marking.{marked-before, marked-now, past-column, past-row, place-small}
 use borrow.Author.Needs.{needs}
 use Rattle.mbf_checks.proofs.mark_mine.Statement.{statement}
 use Rattle.mbf_checks.proofs.mark_mine.Tie as tie
-use Rattle.mbf_checks.proofs.mark_mine.Reads as reads
-use Rattle.mbf_checks.proofs.mark_mine.Lts as lts
-use Rattle.mbf_checks.proofs.byte.Reads as byte-reads
-use Rattle.mine_bits.proofs.is_set.Reads as is-set-reads
-use Rattle.mine_bits.proofs.set_bit.Reads as set-bit-reads
 
--- src/lib.rt:43:9
+-- the place is the mine's
+place-is : (c : tie.Else2) → c .before .before .byte4 .result * c .before .before .before .before .before .byte .result + c .before .before .before .byte3 .result
+    ≡ minePlace (c .before .before .before .before .before .before .before .before .args .file .now) (c .before .before .before .before .before .before .before .before .args .k)
+place-is c = λ i. c .before .before .byte4 .ensures .0 i * c .before .before .before .before .before .byte .ensures .0 i + c .before .before .before .byte3 .ensures .0 i
+
+small : (c : tie.Else2) → c .before .before .byte4 .result * c .before .before .before .before .before .byte .result + c .before .before .before .byte3 .result < 65536
+small c = place-small (c .before .before .before .before .before .byte .result) (c .before .before .before .byte3 .result) (c .before .before .byte4 .result) (omega arith) (omega arith) (omega arith)
+
+
 byte-requires : tie.Need-byte-requires
 byte-requires c κs = search needs
 
--- src/lib.rt:44:9
 byte-requires-2 : tie.Need-byte-requires-2
 byte-requires-2 c κs = search needs
 
--- src/lib.rt:45:29
 mul-byte : tie.Need-mul-byte
 mul-byte c = search needs
 
--- src/lib.rt:45:29
 add-byte : tie.Need-add-byte
 add-byte c = search needs
 
--- src/lib.rt:45:9
 byte-requires-3 : tie.Need-byte-requires-3
 byte-requires-3 c κs = search needs
 
--- src/lib.rt:46:26
 mul-byte-2 : tie.Need-mul-byte-2
 mul-byte-2 c = search needs
 
--- src/lib.rt:46:26
 add-byte-2 : tie.Need-add-byte-2
 add-byte-2 c = search needs
 
--- src/lib.rt:46:9
 byte-requires-4 : tie.Need-byte-requires-4
 byte-requires-4 c κs = search needs
 
--- src/lib.rt:48:9
 returns : tie.Need-returns
-returns c = ?
+returns c = let a = c .before .before .before .before .before .before .before .args in past-column (a .file .now) (a .k) (a .bits .now) (omega arith)
 
--- src/lib.rt:51:9
 returns-2 : tie.Need-returns-2
-returns-2 c = ?
+returns-2 c = let a = c .before .before .before .before .before .before .before .before .args in past-row (a .file .now) (a .k) (a .bits .now) (omega arith) (omega arith)
 
--- src/lib.rt:53:17
 mul-place : tie.Need-mul-place
-mul-place c = ?
+mul-place c = omega (arith, small c)
 
--- src/lib.rt:53:17
 add-place : tie.Need-add-place
-add-place c = ?
+add-place c = omega (arith, small c)
 
--- src/lib.rt:54:8
 is-set-requires : tie.Need-is-set-requires
-is-set-requires c κs = ?
+is-set-requires c κs = omega (arith, small (c .before))
 
--- src/lib.rt:55:9
 same-length : tie.Need-same-length
 same-length c = search needs
 
--- src/lib.rt:55:9
 returns-3 : tie.Need-returns-3
-returns-3 c = ?
+returns-3 c = 
+    let e = c .before .before .before in
+    let a = c .before .before .before .before .before .before .before .before .before .before .before .args in
+    marked-before (a .file .now) (a .k) (a .bits .now) (omega arith) (omega arith) (sym (ap (bitAt (a .bits .now)) (place-is e)) ∙ sym (c .before .is-set .ensures) ∙ c .if3 .taken)
 
--- src/lib.rt:57:5
 set-bit-requires : tie.Need-set-bit-requires
-set-bit-requires c κs = ?
+set-bit-requires c κs = (omega (arith, small (c .before .before .before .before)), sym (c .before .before .is-set .ensures) ∙ c .before .if3 .left)
 
--- src/lib.rt:39:1
 same-length-2 : tie.Need-same-length-2
 same-length-2 c = search needs
 
--- src/lib.rt:39:1
 returns-4 : tie.Need-returns-4
-returns-4 c = ?
+returns-4 c = 
+    let s = c .before .before in
+    let e = s .before .before .before .before .before in
+    let a = e .before .before .before .before .before .before .before .before .args in
+    marked-now (a .file .now) (a .k) (a .bits .now) (omega arith) (omega arith) (s .set-bit .last .0)
+    (sym (ap (bitAt (a .bits .now)) (place-is e)) ∙ sym (s .before .before .before .is-set .ensures) ∙ s .before .before .if3 .left)
+    (s .set-bit .ensures ∙ ap (withBit (a .bits .now)) (place-is e))
 
 pub mark-mine-spec : {M : Type 1} → statement M
 mark-mine-spec =
