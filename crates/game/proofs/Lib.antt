@@ -40,5 +40,6 @@ pub mod Sane
 pub mod Endings
 pub mod Conservative
 pub mod Reaches
+pub mod Carried
 pub mod Alike
 pub mod Canonical

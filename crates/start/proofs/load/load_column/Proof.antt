@@ -16,7 +16,7 @@ use Rattle.area.specs.Numbers.{gridOf, rowMine}
 use Rattle.area.specs.Stages.{content}
 use Rattle.area.proofs.Cells.{cell-below, cells-few, mine-here}
 use Rattle.start.specs.Passes.{loadAt, loadCell, minesOf}
-use Rattle.start.proofs.Loaded.{length-load, mines-none, mines-row, number-by-rows}
+use Rattle.start.proofs.Loaded.{length-load, mines-none, mines-row, mines-number}
 use Rattle.start.proofs.load.load_column.Statement.{statement}
 use Rattle.start.proofs.load.load_column.Tie as tie
 
@@ -139,7 +139,7 @@ loop-again c =
     let g = gridOf (a .rows) (a .columns) (a .grid .now) in
     let e : min (l .row + 1) (a .rows) ≡ l .row + 1 = omega arith in
     let h : l .here ≡ minesOf g (from .result) (to .result) (l .row) (l .row + 1) = l .inv .4 ∙ ap (minesOf g (from .result) (to .result) (l .row)) e in
-    let n = number-by-rows g (l .row) (a .column) (from .result) (to .result) (l .above) (l .here) (b .result) (omega arith) (from .ensures) (to .ensures) (l .inv .3) h (b .ensures .0) in
+    let n = mines-number g (l .row) (a .column) (from .result) (to .result) (l .above) (l .here) (b .result) (omega arith) (from .ensures) (to .ensures) (l .inv .3) h (b .ensures .0) in
     let m : l .row ≡ l .row + 1 - 1 = omega arith in
     let o : min (l .row + 2) (a .rows) ≡ min (l .row + 1 + 1) (a .rows) = omega arith in (
       omega arith,
