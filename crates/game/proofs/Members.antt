@@ -134,6 +134,16 @@ keep-has f x (y ∷ xs) t =
     ⊎-elim (λ p. has-cases x y (keep f xs) (λ e. (has-head x y xs e, rw e (p .0))) below (p .1)) below
     (if-has (f y) x (y ∷ keep f xs) (keep f xs) t)
 
+-- what is kept of two lists, one after the other
+pub keep-append : (f : ℕ → Bool) (xs ys : List ℕ) → keep f (xs ++ ys) ≡ keep f xs ++ keep f ys
+keep-append f [] ys = refl
+keep-append f (x ∷ xs) ys = go (f x) (keep-append f xs ys)
+  where
+    go : (b : Bool) → keep f (xs ++ ys) ≡ keep f xs ++ keep f ys
+        → _≡_ {A = List ℕ} (elim b [ true ↦ x ∷ keep f (xs ++ ys) | false ↦ keep f (xs ++ ys) ]) (elim b [ true ↦ x ∷ keep f xs | false ↦ keep f xs ] ++ keep f ys)
+    go true e = ap (λ (l : List ℕ). x ∷ l) e
+    go false e = e
+
 -- tests that agree on a list keep the same of it
 pub keep-ext : (f h : ℕ → Bool) (xs : List ℕ) → ((x : ℕ) → T (has x xs) → f x ≡ h x) → keep f xs ≡ keep h xs
 keep-ext f h [] e = refl

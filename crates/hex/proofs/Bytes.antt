@@ -1,11 +1,13 @@
 -- Bytes of two digits: each stands where its digits stand. Assumes nothing.
 use Prim.Native.Nat.{ℕ, zero, suc, _+_, _*_, _/_, _%_, _≤_}
 use native.Mathlib.Omega.{arith}
+use native.Mathlib.Nat.{zero-add}
 use mathlib.Core.Path.{_≡_, ap, refl, sym, _∙_}
 use mathlib.Core.List.{List, [], _∷_, _++_}
-use lib.ListN.{getD, length}
-use lib.Seq.{sets}
+use lib.ListN.{drop, getD, length}
+use lib.Seq.{sets, sets-eq}
 use Rattle.game.specs.Lists.{concat-map}
+use Rattle.game.specs.Area.{begun}
 use Rattle.hex.specs.Hex.{byteDigits, bytesOf, hexValue}
 use Rattle.hex.specs.Hex.{twoBytes}
 
@@ -35,6 +37,10 @@ sets-more l i j [] ws e = ap (λ (k : ℕ). sets l k ws) (e ∙ bare i)
     bare : (i : ℕ) → i + 0 ≡ i
     bare i = omega arith
 sets-more l i j (v ∷ vs) ws e = sets-more _ (suc i) j vs ws (omega arith)
+
+-- digits put at the start of a run
+pub sets-begun : (front old : List ℕ) → length front ≤ length old → sets old 0 front ≡ begun front old
+sets-begun front old h = sets-eq front old 0 (omega arith) ∙ ap (λ (n : ℕ). front ++ drop n old) (zero-add (length front))
 
 -- two bytes' digits put one after the other
 pub two-there : (old a new : List ℕ) (at n high low : ℕ) → a ≡ sets old at (byteDigits high) → new ≡ sets a (at + 2) (byteDigits low) → high ≡ n / 256 % 256 → low ≡ n % 256

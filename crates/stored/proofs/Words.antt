@@ -1,17 +1,16 @@
 -- Moves of four bytes: each stands where its bytes stand, and its digits are as many as eight. Assumes nothing.
 use Prim.Native.Nat.{ℕ, zero, suc, _+_, _*_, _/_, _%_, _<_, _≤_}
 use native.Mathlib.Omega.{arith}
-use native.Mathlib.Nat.{zero-add}
 use native.Mathlib.Numerals.{add-one}
 use mathlib.Core.Path.{_≡_, ap, refl, sym, _∙_}
 use mathlib.Core.List.{List, [], _∷_, _++_}
 use lib.ListN.{drop, getD, length, length-drop, set, take}
-use lib.Seq.{getD-drop, length-take-le, sets, sets-eq, take-suc}
+use lib.Seq.{getD-drop, length-take-le, sets, take-suc}
 use Rattle.game.specs.Lists.{concat-map}
 use Rattle.game.specs.Area.{begun}
 use Rattle.hex.specs.Hex.{byteDigits, bytesOf}
 use Rattle.stored.specs.MoveLine.{moveLine, wordBytes, wordDigits, wordsOf}
-use Rattle.hex.proofs.Bytes.{length-bytes, sets-more}
+use Rattle.hex.proofs.Bytes.{length-bytes, sets-begun, sets-more}
 use Rattle.lines.proofs.Priced.{twoDigits}
 use Rattle.lines.proofs.Runs.{begun-more}
 use Rattle.game.proofs.Members.{concat-map-append}
@@ -94,10 +93,6 @@ digits-more ws k h =
     ap wordDigits (ap (λ (n : ℕ). take n ws) (add-one k) ∙ take-suc ws k 0 h)
     ∙ ap (concat-map byteDigits) (concat-map-append wordBytes (take k ws) (getD ws k 0 ∷ []))
     ∙ concat-map-append byteDigits (concat-map wordBytes (take k ws)) (wordBytes (getD ws k 0))
-
--- digits put at the start of a run
-pub sets-begun : (front old : List ℕ) → length front ≤ length old → sets old 0 front ≡ begun front old
-sets-begun front old h = sets-eq front old 0 (omega arith) ∙ ap (λ (n : ℕ). front ++ drop n old) (zero-add (length front))
 
 -- rows, columns and the moves put one after the other
 pub line-there : (rows columns : ℕ) (ws old a b new : List ℕ) → 8 * length ws + 4 ≤ length old → a ≡ sets old 0 (byteDigits rows) → b ≡ sets a 2 (byteDigits columns) → new ≡ sets b 4 (wordDigits ws)

@@ -1,0 +1,3 @@
+pub mod Mines
+pub mod Files
+pub mod OneAnswer
