@@ -18,7 +18,6 @@ place-is c = λ i. c .before .before .byte4 .ensures .0 i * c .before .before .b
 small : (c : tie.Else2) → c .before .before .byte4 .result * c .before .before .before .before .before .byte .result + c .before .before .before .byte3 .result < 65536
 small c = place-small (c .before .before .before .before .before .byte .result) (c .before .before .before .byte3 .result) (c .before .before .byte4 .result) (omega arith) (omega arith) (omega arith)
 
-
 byte-requires : tie.Need-byte-requires
 byte-requires c κs = search needs
 
@@ -62,7 +61,7 @@ same-length : tie.Need-same-length
 same-length c = search needs
 
 returns-3 : tie.Need-returns-3
-returns-3 c = 
+returns-3 c =
     let e = c .before .before .before in
     let a = c .before .before .before .before .before .before .before .before .before .before .before .args in
     marked-before (a .file .now) (a .k) (a .bits .now) (omega arith) (omega arith) (sym (ap (bitAt (a .bits .now)) (place-is e)) ∙ sym (c .before .is-set .ensures) ∙ c .if3 .taken)
@@ -74,7 +73,7 @@ same-length-2 : tie.Need-same-length-2
 same-length-2 c = search needs
 
 returns-4 : tie.Need-returns-4
-returns-4 c = 
+returns-4 c =
     let s = c .before .before in
     let e = s .before .before .before .before .before in
     let a = e .before .before .before .before .before .before .before .before .args in

@@ -12,7 +12,6 @@ use Rattle.mbf_checks.proofs.Marking.{Midway, all-marked, marked-long, 
 use Rattle.mbf_checks.proofs.mark_mines.Statement.{statement}
 use Rattle.mbf_checks.proofs.mark_mines.Tie as tie
 
-
 abbrev Inv-loop : tie.InvT-loop
 Inv-loop file count bits₀ k₀ bits k = (k ≤ count) × Midway file k bits × ((j : ℕ) → getD bits j 0 < 256)
 
@@ -36,7 +35,7 @@ same-length c =
     marked-long _ (l .k) (l .bits) _ _ (m .mark-mine .ensures) ∙ l .inv .1 .bits-of .long ∙ whole (m .before .before .before .before .before .before)
 
 returns : tie.Need-returns Inv-loop μ-loop
-returns c = 
+returns c =
     let m = c .before .before .before in
     let l = m .before .before .before .loop in
     let a = m .before .before .before .before .before .before .args in
@@ -49,7 +48,7 @@ loop-less : tie.Need-loop-less Inv-loop μ-loop
 loop-less c = omega arith
 
 loop-again : tie.Need-loop-again Inv-loop μ-loop
-loop-again c = 
+loop-again c =
     let m = c .before .before .before in
     let l = m .before .before .before .loop in
     let a = m .before .before .before .before .before .before .args in
@@ -64,7 +63,7 @@ same-length-2 : tie.Need-same-length-2 Inv-loop μ-loop
 same-length-2 c = c .before .loop .inv .1 .bits-of .long ∙ whole (c .before .before .before .before)
 
 returns-2 : tie.Need-returns-2 Inv-loop μ-loop
-returns-2 c = 
+returns-2 c =
     let l = c .before .loop in
     let a = c .before .before .before .before .args in
     let e : l .k ≡ mineCount (a .file .now) = omega arith in
