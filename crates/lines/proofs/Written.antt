@@ -54,7 +54,8 @@ mines-after bs p =
 no-mine : (g : Grid) (p : ℕ) → length (g .values) ≤ p → placeMine g p ≡ false
 no-mine g p h = ap isMine (List·getD-eq-default (g .values) (pos 0) h)
 
-value-mine : (b : Bool) → isMine (valueOf b) ≡ b
+-- -1 is a mine, 0 is none
+pub value-mine : (b : Bool) → isMine (valueOf b) ≡ b
 value-mine true = refl
 value-mine false = refl
 

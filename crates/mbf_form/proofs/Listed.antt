@@ -3,7 +3,6 @@ use Prim.Native.Nat.{ℕ, _+_, _*_, _<_}
 use native.Mathlib.Omega.{arith}
 use native.Mathlib.Decide.{decLt}
 use mathlib.Core.Path.{_≡_, ap, ap₂, refl, sym, _∙_}
-use mathlib.Core.Bool.{Bool, false, true}
 use mathlib.Core.List.{List}
 use lib.Arith.{digits-div, digits-mod}
 use lib.IntN.{pos}
@@ -15,6 +14,7 @@ use Rattle.game.proofs.Squares.{column-lt, index-of}
 use Rattle.game.proofs.Truth.{no→false}
 use Rattle.lines.specs.BoardLine.{placeMine, valueOf}
 use Rattle.lines.proofs.Runs.{length-cells}
+use Rattle.lines.proofs.Written.{value-mine}
 use Rattle.mbf_form.specs.Form.{listedGrid, listedValues, minePlaces}
 use Rattle.mbf_form.proofs.Accepted.{Accepted, place-in}
 
@@ -31,10 +31,6 @@ cell-back g i h =
     ap₂ (index g) (digits-div (rowOf g i) k) (digits-mod (rowOf g i) k) ∙ index-of g i
 
 -- ---- the mines of the grid
-
-value-mine : (b : Bool) → isMine (valueOf b) ≡ b
-value-mine true = refl
-value-mine false = refl
 
 pub length-listed : (file : List ℕ) → length (listedValues file) ≡ size (listedGrid file)
 unfolding listedValues
