@@ -5,7 +5,10 @@ use mathlib.Core.List.{List}
 use lib.IntN.{ℤ}
 use Rattle.game.specs.Calls.{Answer, ListOutcome, Outcome}
 use Rattle.answers.specs.Answers.{Keeps, KeepsList}
-use Rattle.lavgerin.specs.Names.{Returned, ReturnedList, ReturnedListTwo, ReturnedThree, ReturnedTwo, told}
+use Rattle.lines.specs.Answers.{KeepsGrid}
+use Rattle.lines.specs.BoardLine.{GridOutcome}
+use Rattle.lines.specs.Outputs.{KeepsRun, RunOutcome}
+use Rattle.lavgerin.specs.Names.{Returned, ReturnedGrid, ReturnedList, ReturnedListTwo, ReturnedRun, ReturnedThree, ReturnedTwo, told}
 
 -- the answer's number, carried from the answer that came to the one promised
 as-number : {promised came : Answer} {n : ℕ} → came ≡ promised → n ≡ came .number → n ≡ promised .number
@@ -41,6 +44,20 @@ module _ {promise : ListOutcome} {a came : Answer} {work : List ℤ} {list : Lis
   pub returned-list-two : {before2 after2 : ℕ} → after2 ≡ told came 1 before2 → ReturnedListTwo promise n work list before after before2 after2
   returned-list-two {before2} second = record { first = returned-list; second = as-told 1 before2 (sym so ∙ kept .answers) second }
 
+-- a grid and two answers
+pub returned-grid : {promise : GridOutcome} {a came : Answer} {values : List ℤ} → KeepsGrid promise a values → a ≡ came → {n before after before2 after2 : ℕ}
+    → n ≡ came .number → after ≡ told came 0 before → after2 ≡ told came 1 before2 → ReturnedGrid promise n values before after before2 after2
+returned-grid kept so {before} {before2} number first second =
+    let same = sym so ∙ kept .answers in
+    record { answers = as-number same number; leaves = kept .leaves; tells = as-told 0 before same first; tells2 = as-told 1 before2 same second }
+
+-- a run and one answer
+pub returned-run : {promise : RunOutcome} {a came : Answer} {run : List ℕ} → KeepsRun promise a run → a ≡ came → {n before after : ℕ}
+    → n ≡ came .number → after ≡ told came 0 before → ReturnedRun promise n run before after
+returned-run kept so {before} number first =
+    let same = sym so ∙ kept .answers in
+    record { answers = as-number same number; leaves = kept .leaves; tells = as-told 0 before same first }
+
 -- ---- there is only one such answer
 
 pub returned-once : (p : Outcome) (n n′ : ℕ) (w w′ : List ℤ) (b a a′ : ℕ) → Returned p n w b a → Returned p n′ w′ b a′ → (n ≡ n′) × (w ≡ w′) × (a ≡ a′)
@@ -65,3 +82,10 @@ pub list-two-once : (p : ListOutcome) (n n′ : ℕ) (w w′ : List ℤ) (l l′
 list-two-once p n n′ w w′ l l′ b a a′ b2 a2 a2′ k k′ =
     let e = list-once p n n′ w w′ l l′ b a a′ (k .first) (k′ .first) in
     (e .0, e .1, e .2, e .3, k .second ∙ sym (k′ .second))
+
+pub grid-once : (p : GridOutcome) (n n′ : ℕ) (v v′ : List ℤ) (b a a′ b2 a2 a2′ : ℕ) → ReturnedGrid p n v b a b2 a2 → ReturnedGrid p n′ v′ b a′ b2 a2′ → (n ≡ n′) × (v ≡ v′) × (a ≡ a′) × (a2 ≡ a2′)
+grid-once p n n′ v v′ b a a′ b2 a2 a2′ k k′ =
+    (k .answers ∙ sym (k′ .answers), k .leaves ∙ sym (k′ .leaves), k .tells ∙ sym (k′ .tells), k .tells2 ∙ sym (k′ .tells2))
+
+pub run-once : (p : RunOutcome) (n n′ : ℕ) (r r′ : List ℕ) (b a a′ : ℕ) → ReturnedRun p n r b a → ReturnedRun p n′ r′ b a′ → (n ≡ n′) × (r ≡ r′) × (a ≡ a′)
+run-once p n n′ r r′ b a a′ k k′ = (k .answers ∙ sym (k′ .answers), k .leaves ∙ sym (k′ .leaves), k .tells ∙ sym (k′ .tells))

@@ -5,6 +5,8 @@ use mathlib.Core.List.{List}
 use lib.IntN.{ℤ}
 use lib.ListN.{getD}
 use Rattle.game.specs.Calls.{Answer, ListOutcome, Outcome}
+use Rattle.lines.specs.BoardLine.{GridOutcome}
+use Rattle.lines.specs.Outputs.{RunOutcome}
 
 -- what stands behind an answer pointer after a call: the answer's value of that place, or what stood there if it has none
 abbrev pub told : Answer → ℕ → ℕ → ℕ
@@ -37,3 +39,16 @@ pub record ReturnedList (promise : ListOutcome) (number : ℕ) (work : List ℤ)
 pub record ReturnedListTwo (promise : ListOutcome) (number : ℕ) (work : List ℤ) (list : List ℕ) (before after before2 after2 : ℕ) : Type 0 where
   pub first : ReturnedList promise number work list before after
   pub second : after2 ≡ told (promise .answer) 1 before2
+
+-- a call that fills a grid, as C sees it: the number returned, the grid's run and two answers at exit
+pub record ReturnedGrid (promise : GridOutcome) (number : ℕ) (values : List ℤ) (before after before2 after2 : ℕ) : Type 0 where
+  pub answers : number ≡ promise .answer .number
+  pub leaves : values ≡ promise .values
+  pub tells : after ≡ told (promise .answer) 0 before
+  pub tells2 : after2 ≡ told (promise .answer) 1 before2
+
+-- a call that writes into one lent run, as C sees it: the number returned, the run and one answer at exit
+pub record ReturnedRun (promise : RunOutcome) (number : ℕ) (run : List ℕ) (before after : ℕ) : Type 0 where
+  pub answers : number ≡ promise .answer .number
+  pub leaves : run ≡ promise .run
+  pub tells : after ≡ told (promise .answer) 0 before

@@ -1,4 +1,6 @@
 // The calls under C names. Each returns the refusal's number, 0 for success; answers go through pointers, and what stands there is left alone where an answer has no such value.
+use mbf::Board;
+use mbf::FileWritten;
 use refusals::Refusal;
 use refusals::number_of;
 use zini::Counted;
@@ -7,7 +9,8 @@ use zini::Replayed;
 use zini::Rolled;
 ghost use Rattle.game.specs.Calls.{greedyCall, openingsFirstCall, priceCall, randomRoundCall, randomSearchCall, replayCall, threeBVCall};
 ghost use Rattle.area.specs.Numbers.{gridOf};
-ghost use Rattle.lavgerin.specs.Names.{Returned, ReturnedList, ReturnedListTwo, ReturnedThree, ReturnedTwo};
+ghost use Rattle.mbf_form.specs.Calls.{readFileCall, writeFileCall};
+ghost use Rattle.lavgerin.specs.Names.{Returned, ReturnedGrid, ReturnedList, ReturnedListTwo, ReturnedRun, ReturnedThree, ReturnedTwo};
 
 // 3BV of a grid.
 #[no_mangle]
@@ -160,5 +163,47 @@ pub extern "C" fn lavgerin_replay(
             number_of(Refusal::Move)
         }
         Replayed::Refused(refusal) => number_of(refusal),
+    }
+}
+
+// An MBF file read into a lent grid: its rows and columns.
+#[no_mangle]
+pub extern "C" fn lavgerin_read_mbf(
+    file: &[u8],
+    grid: &mut [i32],
+    rows: &mut u64,
+    columns: &mut u64,
+) -> u8
+    ensures { λ r. ⌜ ReturnedGrid (readFileCall (now (file .entry)) (now (grid .entry))) r (now (grid .exit)) (now (rows .entry)) (now (rows .exit)) (now (columns .entry)) (now (columns .exit)) ⌝ }
+{
+    let answer = mbf::read(file, grid);
+    match answer {
+        Board::Cells(height, width) => {
+            *rows = height as u64;
+            *columns = width as u64;
+            0
+        }
+        Board::Refused(refusal) => number_of(refusal),
+    }
+}
+
+// A grid written as an MBF file: how many bytes it has.
+#[no_mangle]
+pub extern "C" fn lavgerin_write_mbf(
+    rows: usize,
+    columns: usize,
+    grid: &[i32],
+    file: &mut [u8],
+    written: &mut u64,
+) -> u8
+    ensures { λ r. ⌜ ReturnedRun (writeFileCall (gridOf rows columns (now (grid .entry))) (now (file .entry))) r (now (file .exit)) (now (written .entry)) (now (written .exit)) ⌝ }
+{
+    let answer = mbf::write(rows, columns, grid, file);
+    match answer {
+        FileWritten::Bytes(count) => {
+            *written = count as u64;
+            0
+        }
+        FileWritten::Refused(refusal) => number_of(refusal),
     }
 }
