@@ -7,10 +7,14 @@
 //   random-round    rows=N columns=N board=RUN work=RUN list=RUN draws=RUN
 //   random-search   rows=N columns=N board=RUN work=RUN draws=RUN rounds=N
 //   replay          rows=N columns=N board=RUN work=RUN list=RUN count=N
+//   read-mbf        file=RUN board=RUN, or rows=N columns=N mines=N again=N board=RUN: the file that lists the first cells so and the last of them again
+//   write-mbf       rows=N columns=N board=RUN file=RUN
 // A run is a pattern, or a pattern, x and a length: the pattern over and over up to that length. A field that is not there is 0, or a run of none.
-// The pattern of a board or a work area is values parted by commas (-1 is a mine), or a picture (* is a mine); of a list words parted by commas, or moves (L3, F4, C3, U4); of draws bytes of two digits, 0 to 9 and A to F.
-// For a case its name is printed with the answer's number and two values, and behind a replay's the ending (0 unfinished, 1 won, 2 lost); then its list, if it has one, kind and index of each word; then its work area.
-// Of a list or a work area of more than 255 numbers two sums are printed: of the numbers above 0, and of the sums up to each. A line that begins with # is printed as it is.
+// The pattern of a board or a work area is values parted by commas (-1 is a mine), or a picture (* is a mine); of a list words parted by commas, or moves (L3, F4, C3, U4); of draws or a file bytes of two digits, 0 to 9 and A to F.
+// For a case its name is printed with the answer's number and two values, and behind a replay's the ending (0 unfinished, 1 won, 2 lost); then its list, if it has one, kind and index of each word; then its work area; of a file that is read the grid, of one that is written its run.
+// Of a run of more than 255 numbers two sums are printed: of the numbers above 0, and of the sums up to each. A line that begins with # is printed as it is.
+mod files; // the cases of MBF files
+
 use trials::fields;
 use trials::plain;
 use trials::plain::Plain;
@@ -116,6 +120,10 @@ fn run_line(line: &[u8]) {
     }
     let colon = fields::until(line, 0, 58);
     io::write_all(1, &line[0..colon]);
+    if files::is_case(&line[colon..]) {
+        files::run_case(&line[colon..]);
+        return;
+    }
     run_case(&line[colon..]);
 }
 
