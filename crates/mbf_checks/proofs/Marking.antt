@@ -14,7 +14,7 @@ use Rattle.game.specs.Lists.{has, range, some-of}
 use Rattle.game.proofs.Members.{has-append-right, has-head, range-has, range-more, range-split, some-append, some-yes}
 use Rattle.game.proofs.Truth.{T→true, or-cases, or-left, or-no, or-right}
 use Rattle.lines.specs.BoardLine.{bitAt}
-use Rattle.mine_bits.specs.Bits.{withBit}
+use Rattle.mine_bits.specs.Bits.{SetNew, withBit}
 use Rattle.mine_bits.proofs.Bits.{bit-set}
 use Rattle.mbf_form.specs.Form.{fileColumns, fileRows, mineColumn, mineRow, minePlace, minePlaces, mineCount, pastEdge, twice}
 use Rattle.mbf_checks.specs.Marks.{BitsOf, MarkedAll, MarkedOne, noBits}
@@ -175,8 +175,9 @@ module _ (file : List ℕ) (k : ℕ) (bits : List ℕ) where
     past-row h = record { answers = by false true _ (lt-leb (fileColumns file) (mineColumn file k) column) (le-leb (fileRows file) (mineRow file k) h) refl; leaves = refl }
 
     module _ (row : mineRow file k < fileRows file) where
-      pub marked-before : bitAt bits (minePlace file k) ≡ true → MarkedOne file k bits false bits
-      marked-before e = record { answers = by false false true (lt-leb (fileColumns file) (mineColumn file k) column) (lt-leb (fileRows file) (mineRow file k) row) e; leaves = refl }
-
-      pub marked-now : (new : List ℕ) → bitAt bits (minePlace file k) ≡ false → new ≡ withBit bits (minePlace file k) → MarkedOne file k bits true new
-      marked-now new e w = record { answers = by false false false (lt-leb (fileColumns file) (mineColumn file k) column) (lt-leb (fileRows file) (mineRow file k) row) e; leaves = w }
+      pub set-or-not : (new : Bool) (after : List ℕ) → SetNew bits (minePlace file k) new after → MarkedOne file k bits new after
+      set-or-not new after s =
+          record {
+            answers = s .answers ∙ by false false _ (lt-leb (fileColumns file) (mineColumn file k) column) (lt-leb (fileRows file) (mineRow file k) row) refl;
+            leaves = s .leaves;
+          }

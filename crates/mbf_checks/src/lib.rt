@@ -50,12 +50,7 @@ fn mark_mine(file: &[u8], k: usize, bits: &mut [u8]) -> bool
     if rows <= row {
         return false;
     }
-    let place = row * columns + column;
-    if mine_bits::is_set(bits, place) {
-        return false;
-    }
-    mine_bits::set_bit(bits, place);
-    true
+    mine_bits::set_new(bits, row * columns + column)
 }
 
 // Sets the bits of all mines, or answers false at the first that is past the edge or listed twice.

@@ -1,11 +1,10 @@
 -- `mbf_checks::mark_mine`: the tests in their order; the place that is computed is the mine's. Assumes nothing.
 use Prim.Native.Nat.{ℕ, _+_, _*_, _<_}
 use native.Mathlib.Omega.{arith}
-use mathlib.Core.Path.{_≡_, ap, sym, _∙_}
-use Rattle.lines.specs.BoardLine.{bitAt}
-use Rattle.mine_bits.specs.Bits.{withBit}
+use mathlib.Core.Path.{_≡_, subst}
+use Rattle.mine_bits.specs.Bits.{SetNew}
 use Rattle.mbf_form.specs.Form.{minePlace}
-use Rattle.mbf_checks.proofs.Marking.{marked-before, marked-now, past-column, past-row, place-small}
+use Rattle.mbf_checks.proofs.Marking.{past-column, past-row, place-small, set-or-not}
 use borrow.Author.Needs.{needs}
 use Rattle.mbf_checks.proofs.mark_mine.Statement.{statement}
 use Rattle.mbf_checks.proofs.mark_mine.Tie as tie
@@ -48,38 +47,25 @@ returns c = let a = c .before .before .before .before .before .before .before .a
 returns-2 : tie.Need-returns-2
 returns-2 c = let a = c .before .before .before .before .before .before .before .before .args in past-row (a .file .now) (a .k) (a .bits .now) (omega arith) (omega arith)
 
-mul-place : tie.Need-mul-place
-mul-place c = omega (arith, small c)
+mul-set-new : tie.Need-mul-set-new
+mul-set-new c = omega (arith, small (c .before))
 
-add-place : tie.Need-add-place
-add-place c = omega (arith, small c)
+add-set-new : tie.Need-add-set-new
+add-set-new c = omega (arith, small (c .before))
 
-is-set-requires : tie.Need-is-set-requires
-is-set-requires c κs = omega (arith, small (c .before))
+set-new-requires : tie.Need-set-new-requires
+set-new-requires c κs = omega (arith, small (c .before))
 
 same-length : tie.Need-same-length
 same-length c = search needs
 
 returns-3 : tie.Need-returns-3
 returns-3 c =
-    let e = c .before .before .before in
-    let a = c .before .before .before .before .before .before .before .before .before .before .before .args in
-    marked-before (a .file .now) (a .k) (a .bits .now) (omega arith) (omega arith) (sym (ap (bitAt (a .bits .now)) (place-is e)) ∙ sym (c .before .is-set .ensures) ∙ c .if3 .taken)
-
-set-bit-requires : tie.Need-set-bit-requires
-set-bit-requires c κs = (omega (arith, small (c .before .before .before .before)), sym (c .before .before .is-set .ensures) ∙ c .before .if3 .left)
-
-same-length-2 : tie.Need-same-length-2
-same-length-2 c = search needs
-
-returns-4 : tie.Need-returns-4
-returns-4 c =
     let s = c .before .before in
-    let e = s .before .before .before .before .before in
+    let e = s .before .before in
     let a = e .before .before .before .before .before .before .before .before .args in
-    marked-now (a .file .now) (a .k) (a .bits .now) (omega arith) (omega arith) (s .set-bit .last .0)
-    (sym (ap (bitAt (a .bits .now)) (place-is e)) ∙ sym (s .before .before .before .is-set .ensures) ∙ s .before .before .if3 .left)
-    (s .set-bit .ensures ∙ ap (withBit (a .bits .now)) (place-is e))
+    set-or-not (a .file .now) (a .k) (a .bits .now) (omega arith) (omega arith) (s .set-new .result) (s .set-new .last .0)
+    (subst (λ (p : ℕ). SetNew (a .bits .now) p (s .set-new .result) (s .set-new .last .0)) (place-is e) (s .set-new .ensures))
 
 pub mark-mine-spec : {M : Type 1} → statement M
 mark-mine-spec =
@@ -95,11 +81,8 @@ mark-mine-spec =
     byte-requires-4
     returns
     returns-2
-    mul-place
-    add-place
-    is-set-requires
+    mul-set-new
+    add-set-new
+    set-new-requires
     same-length
-    returns-3
-    set-bit-requires
-    same-length-2
-    returns-4)
+    returns-3)
