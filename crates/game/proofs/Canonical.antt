@@ -65,7 +65,7 @@ right-mine g i = go (mine g i)
 -- ---- the canonical grid
 
 -- at any place, past the grid too, both grids have a mine or neither has
-place-mines : (g : Grid) → length (g .values) ≡ size g → (p : ℕ) → isMine (getD (g .values) p (pos 0)) ≡ isMine (getD (rightValues g) p (pos 0))
+pub place-mines : (g : Grid) → length (g .values) ≡ size g → (p : ℕ) → isMine (getD (g .values) p (pos 0)) ≡ isMine (getD (rightValues g) p (pos 0))
 place-mines g long p =
     elim (decLt p (size g)) [
       | yes h ↦ sym (ap isMine (right-at g p h) ∙ right-mine g (cellAt g p) ∙ mine-at-place g p h)

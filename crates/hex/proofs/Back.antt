@@ -107,3 +107,8 @@ pub small-drop : (bs : List ℕ) → Each (λ b. b < 256) bs → Each (λ b. b <
 small-drop [] s = tt
 small-drop (a ∷ []) s = tt
 small-drop (a ∷ b ∷ bs) s = s .1 .1
+
+-- two digits a byte
+pub length-digits : (bs : List ℕ) → length (concat-map byteDigits bs) ≡ 2 * length bs
+length-digits [] = refl
+length-digits (b ∷ bs) = let h = length-digits bs in omega arith

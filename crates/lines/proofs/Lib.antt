@@ -4,6 +4,7 @@ pub mod Priced
 pub mod Verdict
 pub mod Outputs
 pub mod Calls
+pub mod LineRead
 pub mod OneAnswer
 pub mod BytesOfBits
 pub mod Written

@@ -18,7 +18,7 @@ use Rattle.game.proofs.Checks.{side-in}
 use Rattle.game.proofs.Members.{getD-range, has-range, range-has, range-same, some-yes, yes-some}
 use Rattle.game.proofs.Truth.{T→true, no→false, or-no}
 use Rattle.hex.specs.Hex.{byteDigits, bytesOf}
-use Rattle.hex.proofs.Back.{bytes-back, bytes-clean, bytes-small, digits-back, small-drop, two-first}
+use Rattle.hex.proofs.Back.{bytes-back, bytes-clean, bytes-small, digits-back, length-digits, small-drop, two-first}
 use Rattle.hex.proofs.Bytes.{length-bytes}
 use Rattle.lines.specs.BoardLine.{bitAt, bitBetween, bitBytes, boardLine, byteOfBits, cellValues, digitsRefused, gridOfBytes, lineGrid, lineRefusal, mineBit, placeMine, valueOf}
 use Rattle.lines.proofs.BytesOfBits.{bits-back, byte-small, run-by-bits}
@@ -30,10 +30,6 @@ use Rattle.lines.proofs.Verdict.{all-fine, cellsOf, columnsByte, digits
 -- the bytes of a board line after rows and columns
 abbrev mineBytes : Grid → List ℕ
 mineBytes g = map (byteOfBits (placeMine g)) (range 0 (bitBytes (size g)))
-
-length-digits : (bs : List ℕ) → length (concat-map byteDigits bs) ≡ 2 * length bs
-length-digits [] = refl
-length-digits (b ∷ bs) = let h = length-digits bs in omega arith
 
 pub length-board-line : (g : Grid) → length (boardLine g) ≡ 4 + 2 * bitBytes (size g)
 unfolding boardLine

@@ -1,17 +1,18 @@
 -- Reading after writing, at the level of the calls: a call that is given no refusal comes to what it reads or writes. Assumes nothing.
-use Prim.Native.Nat.{ℕ, _*_, _-_, _≤_}
+use Prim.Native.Nat.{ℕ, _*_, _-_, _<_, _≤_}
 use native.Mathlib.Omega.{arith}
 use mathlib.Core.Path.{_≡_, ap, refl, subst, sym, _∙_}
+use mathlib.Core.Bool.{Bool}
 use mathlib.Core.List.{List, [], _∷_, _++_, map}
 use mathlib.Core.Option.{Option, none, some}
 use lib.Dec.{ltb}
 use lib.IntN.{ℤ}
 use lib.ListN.{getD, length, take}
 use lib.Seq.{take-at}
-use borrow.Author.Tests.{le-ltb}
+use borrow.Author.Tests.{le-ltb, lt-ltb}
 use Rattle.game.specs.Area.{begun}
 use Rattle.game.specs.Boards.{Line, twelve}
-use Rattle.game.specs.Calls.{Answer, Check, Refusal, board, boardChecks, firstGiven, gives}
+use Rattle.game.specs.Calls.{Answer, Check, Refusal, board, boardChecks, file-wrong, firstGiven, gives, refuses, shapeCheck}
 use Rattle.game.specs.Grid.{Grid, canonical, mine, size}
 use Rattle.game.specs.Lists.{has}
 use Rattle.game.proofs.Alike.{SameCalls}
@@ -49,13 +50,39 @@ read-whole file lent e h =
     read-passed file lent e
     ∙ ap (λ (o : Option Refusal). unlessRefused o lent (fileRead file lent)) (none-given (cellsCheck (listedGrid file) lent ∷ []) (le-ltb (length lent) (size (listedGrid file)) h, tt))
 
+-- ---- refusals
+
+-- a file that is refused is refused before the room is asked for, and leaves the lent run as it is
+pub refused-read : (file : List ℕ) (lent : List ℤ) (f : Refusal) → fileRefusal file ≡ some f → readFileCall file lent ≡ record { answer = refuses f; values = lent }
+unfolding readFileCall fileRefusal orElse
+refused-read file lent f e =
+    ap (λ (o : Option Refusal). unlessRefused o lent (fileRead file lent))
+    (given-append (sideChecks file ++ mineChecks file) (cellsCheck (listedGrid file) lent ∷ []) ∙ ap (λ (o : Option Refusal). orElse o (firstGiven (cellsCheck (listedGrid file) lent ∷ []))) e)
+
+-- under two bytes are FILE, whatever they are
+pub short-refused : (file : List ℕ) → length file < 2 → fileRefusal file ≡ some file-wrong
+unfolding fileRefusal
+short-refused file h = ap (λ (b : Bool). firstGiven (record { given = b; refusal = file-wrong } ∷ shapeCheck (listedGrid file) ∷ mineChecks file)) (lt-ltb (length file) 2 h)
+
+-- a run that is too short for an accepted file is BOARD, and stays as it is
+pub room-refused : (file : List ℕ) (lent : List ℤ) → fileRefusal file ≡ none → length lent < size (listedGrid file) → readFileCall file lent ≡ record { answer = refuses board; values = lent }
+room-refused file lent e h =
+    read-passed file lent e
+    ∙ ap (λ (b : Bool). unlessRefused (firstGiven (record { given = b; refusal = board } ∷ [])) lent (fileRead file lent)) (lt-ltb (length lent) (size (listedGrid file)) h)
+
+-- a grid that is refused leaves the output as it is
+pub refused-write : (g : Grid) (out : List ℕ) (f : Refusal) → firstGiven (boardChecks g ++ outputCheck g out ∷ []) ≡ some f → writeFileCall g out ≡ record { answer = refuses f; run = out }
+unfolding writeFileCall
+refused-write g out f e = ap (λ (o : Option Refusal). unlessGiven o out (record { answer = gives (length (fileOf g) ∷ []); run = begun (fileOf g) out })) e
+
 -- ---- a grid written
 
 -- what a grid that is written comes to
 abbrev gridWritten : Grid → List ℕ → RunOutcome
 gridWritten g out = record { answer = gives (length (fileOf g) ∷ []); run = begun (fileOf g) out }
 
-write-whole : (g : Grid) (out : List ℕ) → firstGiven (boardChecks g) ≡ none → length (fileOf g) ≤ length out → writeFileCall g out ≡ gridWritten g out
+-- a grid that passes is written, where the output has room
+pub write-whole : (g : Grid) (out : List ℕ) → firstGiven (boardChecks g) ≡ none → length (fileOf g) ≤ length out → writeFileCall g out ≡ gridWritten g out
 unfolding writeFileCall
 write-whole g out e h =
     ap (λ (o : Option Refusal). unlessGiven o out (gridWritten g out))

@@ -13,7 +13,8 @@ use Rattle.refusals.specs.Names.{named}
 use Rattle.area.specs.Numbers.{gridOf}
 use Rattle.line_price.specs.Taken.{Taken}
 use Rattle.line_price.specs.Prices.{priceOf, priceOr}
-use Rattle.line_price.proofs.Boards.{enough-values, line-priced, line-refused, line-taken}
+use Rattle.lines.proofs.LineRead.{enough-values}
+use Rattle.line_price.proofs.Boards.{line-priced, line-refused, line-taken}
 use borrow.Author.Needs.{needs}
 use Rattle.line_price.proofs.price.price_line.Statement.{statement}
 use Rattle.line_price.proofs.price.price_line.Tie as tie
