@@ -2,7 +2,7 @@
 use Prim.Native.Nat.{ℕ, _+_, _-_, _≤_, min}
 use mathlib.Core.Path.{_≡_}
 use mathlib.Core.Bool.{Bool, _&&_, _||_, cond, false}
-use mathlib.Core.List.{List}
+use mathlib.Core.List.{List, []}
 use lib.Dec.{T, eqb}
 use lib.IntN.{ℤ}
 use lib.ListN.{length, take}
@@ -60,3 +60,8 @@ pub record Stopped (line : Bool) (held : List ℕ) (count : ℕ) : Type 0 where
 abbrev pub Begun : Bool → List ℕ → Beginning → Type 0
 Begun line held (Beginnings.Bytes n) = Stopped line held n
 Begun line held Beginnings.Unread = Unit {0}
+
+-- the bytes that were read
+abbrev pub bytesRead : List ℕ → Beginning → List ℕ
+bytesRead held (Beginnings.Bytes n) = take n held
+bytesRead held Beginnings.Unread = []
