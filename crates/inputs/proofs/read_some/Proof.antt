@@ -45,8 +45,8 @@ returns c =
     record {
       answer = answer;
       error = error;
-      comes = t .taken .ensures ∙ ap (λ (n : ℕ). gotOf answer error n) (r .read .kept .1 .0 ∙ length-part (s .args .count) (e .end-of .result) (s .args .held .now) (s .pre) (e .end-of .ensures));
       stays = take-put (s .args .count) (e .end-of .result - s .args .count) (s .args .held .now) (r .read .last .1 .0) (s .pre);
+      comes = t .taken .ensures ∙ ap (λ (n : ℕ). gotOf answer error n) (r .read .kept .1 .0 ∙ length-part (s .args .count) (e .end-of .result) (s .args .held .now) (s .pre) (e .end-of .ensures));
     }
 
 pub read-some-spec : {M : Type 1} → statement M
