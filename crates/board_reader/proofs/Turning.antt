@@ -15,9 +15,10 @@ use Rattle.line_prices.specs.Answers.{KeepsDesk}
 use Rattle.line_prices.specs.Sessions.{Fits, KeptOf, joined}
 use Rattle.line_prices.proofs.Desks.{Keeps}
 use Rattle.line_prices.proofs.Sessions.{block-comes, end-comes, kept-keeps, kept-on, kept-room, left, left-passed, passed-not-refused, said-first}
-use Rattle.board_reader.specs.Turns.{Sofar, Turns, cutOn, gotOf, keptAfter, nothingKept, turnOf}
-use Rattle.board_reader.specs.declared.Got.{Got}
-use Rattle.board_reader.specs.declared.Got.the-variants as Reads
+use Rattle.board_reader.specs.Turns.{Sofar, Turns, cutOn, keptAfter, nothingKept, turnOf}
+use Rattle.inputs.specs.Reads.{gotOf}
+use Rattle.inputs.specs.declared.Got.{Got}
+use Rattle.inputs.specs.declared.Got.the-variants as Reads
 use Rattle.board_reader.specs.declared.PartLine.{PartLine}
 use Rattle.board_reader.specs.declared.Turn.{Turn}
 

@@ -1,17 +1,17 @@
 -- The turns of the board reader's program: what is kept from block to block, and what is handed to the write. Assumes nothing.
-use Prim.Native.Nat.{ℕ, min}
+use Prim.Native.Nat.{ℕ}
 use mathlib.Core.Path.{_≡_}
 use mathlib.Core.Bool.{Bool, cond, false, true}
 use mathlib.Core.List.{List, [], _∷_, _++_}
-use lib.Dec.{eqb}
-use lib.IntN.{negsuc, pos, ℤ}
+use lib.IntN.{ℤ}
 use lib.ListN.{length, replicate, take}
 use Rattle.game.specs.Lists.{concat-map}
 use Rattle.line_price.specs.Prices.{answerLine}
 use Rattle.line_prices.specs.Blocks.{Cut, cutFrom, deskAfter, lastLine}
 use Rattle.line_prices.specs.Sessions.{KeptOf, joined}
-use Rattle.board_reader.specs.declared.Got.{Got}
-use Rattle.board_reader.specs.declared.Got.the-variants as Reads
+use Rattle.inputs.specs.Reads.{gotOf}
+use Rattle.inputs.specs.declared.Got.{Got}
+use Rattle.inputs.specs.declared.Got.the-variants as Reads
 use Rattle.board_reader.specs.declared.PartLine.{PartLine}
 use Rattle.board_reader.specs.declared.Turn.{Turn}
 use Rattle.board_reader.specs.declared.Went.{Went}
@@ -42,20 +42,6 @@ nothingKept = record { bytes = replicate 517 0; count = 0 }
 pub record Sofar (kept : PartLine) : Type 0 where
   pub blocks : List (List ℕ)
   pub keeps : KeptOf (joined blocks) (nothingKept .bytes) (kept .bytes) (kept .count)
-
--- errno says that a call was interrupted: EINTR is 4
-abbrev pub interrupted : ℤ → Bool
-interrupted (pos n) = eqb n 4
-interrupted (negsuc n) = false
-
--- a read that failed, by errno
-abbrev pub failedBy : ℤ → Got
-failedBy error = cond (interrupted error) Reads.Interrupted Reads.Failed
-
--- what a read into n bytes came to, by its answer and errno: no bytes are the end of input
-abbrev pub gotOf : ℤ → ℤ → ℕ → Got
-gotOf (pos k) error n = cond (eqb (min k n) 0) Reads.End (Reads.Bytes (min k n))
-gotOf (negsuc k) error n = failedBy error
 
 -- how it goes after answers: by whether the write took them, and whether the input ends
 abbrev pub wentBy : Bool → Bool → Went

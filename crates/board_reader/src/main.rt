@@ -1,4 +1,5 @@
 // The board reader: board lines on standard input, one price line printed for each.
+use inputs::Got;
 use libc::STDERR_FILENO;
 use libc::STDIN_FILENO;
 use libc::STDOUT_FILENO;
@@ -6,17 +7,8 @@ use line_prices::Answered;
 ghost use Prim.Native.Nat.{_*_, _≤_};
 ghost use mathlib.Core.Path.{_≡_};
 ghost use mathlib.Core.Bool.{false, true};
-ghost use lib.Dec.{ltb};
 ghost use lib.ListN.{length};
-ghost use Rattle.board_reader.specs.Turns.{AnsweredBlock, Handed, Sofar, Turns, answersTo, failedBy, goesOn, gotOf, nothingKept, wentBy};
-
-// What a read came to: so many bytes, the end of input, an interruption, or a failure.
-enum Got {
-    Bytes(usize),
-    End,
-    Interrupted,
-    Failed,
-}
+ghost use Rattle.board_reader.specs.Turns.{AnsweredBlock, Handed, Sofar, Turns, answersTo, goesOn, nothingKept, wentBy};
 
 // What is kept of the line that goes on: its first bytes, and how many they are.
 struct PartLine {
@@ -82,30 +74,6 @@ fn answer_some(block: &[u8], kept: PartLine, out: &mut [u8]) -> Turn
     }
 }
 
-// What a read that failed came to, with `error` as errno.
-fn failed(error: i32) -> Got
-    ensures { λ r. ⌜ r ≡ failedBy error ⌝ }
-{
-    if error == libc::EINTR {
-        return Got::Interrupted;
-    }
-    Got::Failed
-}
-
-// What a read into a block came to that answered `got`, with `error` as errno.
-fn taken(got: isize, error: i32, block: &[u8]) -> Got
-    ensures { λ r. ⌜ r ≡ gotOf got error (length (now (block .entry))) ⌝ }
-{
-    if got < 0 {
-        return failed(error);
-    }
-    let count = io::count(got, block);
-    if count == 0 {
-        return Got::End;
-    }
-    Got::Bytes(count)
-}
-
 // Reads once, and answers what came at once.
 fn read_some(block: &mut [u8], kept: PartLine, out: &mut [u8]) -> Turn
     requires { ⌜ Sofar kept ⌝ }
@@ -114,7 +82,7 @@ fn read_some(block: &mut [u8], kept: PartLine, out: &mut [u8]) -> Turn
 {
     let got = libc::read(STDIN_FILENO, block);
     let error = os::errno();
-    let came = taken(got, error, block);
+    let came = inputs::taken(got, error, block);
     match came {
         Got::Bytes(n) => answer_some(&block[..n], kept, out),
         Got::End => Turn {
@@ -198,13 +166,6 @@ fn tell(went: Went) {
     }
 }
 
-// Whether the program was started with more than its own name.
-fn has_arguments(count: usize) -> bool
-    ensures { λ r. ⌜ r ≡ ltb 1 count ⌝ }
-{
-    1 < count
-}
-
 // Reads and answers, with the memory that takes.
 fn answer_input() {
     let mut block = [0u8; 4096];
@@ -213,7 +174,7 @@ fn answer_input() {
 }
 
 fn main() {
-    if has_arguments(os::arg_count()) {
+    if inputs::has_arguments(os::arg_count()) {
         io::write_all(
             STDERR_FILENO,
             b"usage: board_reader < FILE\nboard lines on standard input, a price line on standard output for each; it takes no arguments\n",

@@ -1,17 +1,18 @@
 -- `board_reader::read_some`: by what the read came to; the bytes that came are bytes of the block. Assumes nothing.
 use Prim.Native.Nat.{ℕ, _≤_}
 use native.Mathlib.Omega.{arith}
-use mathlib.Core.Path.{_≡_, ap, sym, _∙_}
+use mathlib.Core.Path.{_≡_, ap, subst, sym, _∙_}
 use mathlib.Core.Bool.{false}
 use lib.ListN.{length, length-take, take}
 use lib.Seq.{length-take-le}
 use mir.Syntax.{w32, w64}
 use mir.Val.{ofZ, toZ}
 use borrow.Author.Needs.{needs}
-use Rattle.board_reader.specs.Turns.{Turns, gotOf, turnOf}
-use Rattle.board_reader.specs.declared.Got.{Got}
-use Rattle.board_reader.specs.declared.Got.the-variants.{Bytes}
-use Rattle.board_reader.proofs.Reading.{bytes-inside}
+use Rattle.board_reader.specs.Turns.{Turns, turnOf}
+use Rattle.inputs.specs.Reads.{bytesIn, gotOf}
+use Rattle.inputs.specs.declared.Got.{Got}
+use Rattle.inputs.specs.declared.Got.the-variants.{Bytes}
+use Rattle.inputs.proofs.Reading.{bytes-inside}
 use Rattle.board_reader.proofs.read_some.Statement.{statement}
 use Rattle.board_reader.proofs.read_some.Tie as tie
 
@@ -36,8 +37,8 @@ came t g e = sym (t .taken .ensures) ∙ e
 inside : (d : tie.After-came) → d .came .given .0 .0 ≤ length (d .before .before .before .before .before .before .before .read .last .1 .0)
 inside d =
     let r = d .before .before .before .before .before .before .before .read in
-    bytes-inside (toZ w64 (ofZ w64 (r .result))) (toZ w32 (ofZ w32 (d .before .before .before .before .errno .result))) (length (r .last .1 .0)) (d .came .given .0 .0)
-    (came (d .before .before) (Bytes (d .came .given .0 .0)) (d .came .given .1))
+    subst (λ (k : ℕ). k ≤ length (r .last .1 .0)) (ap bytesIn (came (d .before .before) (Bytes (d .came .given .0 .0)) (d .came .given .1)))
+    (bytes-inside (toZ w64 (ofZ w64 (r .result))) (toZ w32 (ofZ w32 (d .before .before .before .before .errno .result))) (length (r .last .1 .0)))
 
 -- a turn, by what the read came to
 turned : (t : tie.After-taken) (g : Got) → t .taken .result ≡ g → let k = t .before .before .before .before .before .before .before .before .before .args .kept in let block = t .before .before .before .before .before .read .last .1 .0 in Turns k block (turnOf k g block false)

@@ -12,9 +12,8 @@ use mir.Val.{SFits, ofZ, toZ}
 use mir.Facts.{toZ-ofZ}
 use borrow.Author.Tests.{eq-eqb, ne-eqb}
 use Rattle.io.specs.Counts.{clamped}
-use Rattle.board_reader.specs.Turns.{failedBy, gotOf, interrupted}
-use Rattle.board_reader.specs.declared.Got.{Got}
-use Rattle.board_reader.specs.declared.Got.the-variants.{Bytes, End, Failed, Interrupted}
+use Rattle.inputs.specs.Reads.{bytesIn, failedBy, gotOf, interrupted}
+use Rattle.inputs.specs.declared.Got.the-variants.{Bytes, End, Failed, Interrupted}
 
 -- error == 4
 test-interrupted : (v : ℤ) → SFits w32 v → eqb (ofZ w32 v) 4 ≡ interrupted v
@@ -53,25 +52,18 @@ pub some-got : (got error : ℤ) (n count : ℕ) → SFits w64 got → ltZ (toZ 
 some-got got error n count f e c z =
     ap Bytes c ∙ ap (λ (b : Bool). cond b End (Bytes (clamped got n))) (sym (ne-eqb (clamped got n) 0 (λ q. z (c ∙ q)))) ∙ counted-got got error n f e
 
--- how many bytes came, if any did
-abbrev bytesOf : Got → ℕ
-bytesOf (Bytes n) = n
-bytesOf End = 0
-bytesOf Interrupted = 0
-bytesOf Failed = 0
-
--- they are bytes of the block
-pub bytes-inside : (got error : ℤ) (n k : ℕ) → gotOf got error n ≡ Bytes k → k ≤ n
-bytes-inside got error n k e = subst (λ (m : ℕ). m ≤ n) (ap bytesOf e) (go got)
+-- the bytes that came are bytes of the block
+pub bytes-inside : (got error : ℤ) (n : ℕ) → bytesIn (gotOf got error n) ≤ n
+bytes-inside got error n = go got
   where
-    few : (m : ℕ) (b : Bool) → m ≤ n → bytesOf (cond b End (Bytes m)) ≤ n
+    few : (m : ℕ) (b : Bool) → m ≤ n → bytesIn (cond b End (Bytes m)) ≤ n
     few m true h = omega arith
     few m false h = h
 
-    none-came : (b : Bool) → bytesOf (cond b Interrupted Failed) ≤ n
+    none-came : (b : Bool) → bytesIn (cond b Interrupted Failed) ≤ n
     none-came true = omega arith
     none-came false = omega arith
 
-    go : (v : ℤ) → bytesOf (gotOf v error n) ≤ n
+    go : (v : ℤ) → bytesIn (gotOf v error n) ≤ n
     go (pos m) = few (min m n) (eqb (min m n) 0) (min-le-right m n)
     go (negsuc m) = none-came (interrupted error)

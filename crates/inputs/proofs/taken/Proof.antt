@@ -1,14 +1,14 @@
--- `board_reader::taken`: below 0 the read failed, and no bytes are the end of input. Assumes nothing.
+-- `inputs::taken`: below 0 the read failed, and no bytes are the end of input. Assumes nothing.
 use mathlib.Core.Path.{_≡_, ap, _∙_}
 use lib.IntN.{ℤ}
 use lib.ListN.{length}
 use mir.Facts.{toZ-ofZ}
 use borrow.Author.Needs.{needs}
 use Rattle.io.specs.Counts.{clamped}
-use Rattle.board_reader.specs.Turns.{failedBy}
-use Rattle.board_reader.proofs.Reading.{failed-got, none-got, some-got}
-use Rattle.board_reader.proofs.taken.Statement.{statement}
-use Rattle.board_reader.proofs.taken.Tie as tie
+use Rattle.inputs.specs.Reads.{failedBy}
+use Rattle.inputs.proofs.Reading.{failed-got, none-got, some-got}
+use Rattle.inputs.proofs.taken.Statement.{statement}
+use Rattle.inputs.proofs.taken.Tie as tie
 
 failed-requires : tie.Need-failed-requires
 failed-requires c κs = search needs

@@ -1,7 +1,7 @@
--- `board_reader::failed`: the test on the bits is the test on errno. Assumes nothing.
-use Rattle.board_reader.proofs.Reading.{was-failed, was-interrupted}
-use Rattle.board_reader.proofs.failed.Statement.{statement}
-use Rattle.board_reader.proofs.failed.Tie as tie
+-- `inputs::failed`: the test on the bits is the test on errno. Assumes nothing.
+use Rattle.inputs.proofs.Reading.{was-failed, was-interrupted}
+use Rattle.inputs.proofs.failed.Statement.{statement}
+use Rattle.inputs.proofs.failed.Tie as tie
 
 returns : tie.Need-returns
 returns c = was-interrupted (c .before .args .error) (c .before .fits .error) (c .if1 .taken)

@@ -1,0 +1,3 @@
+-- What reading an input comes to.
+pub mod Reads
+pub mod Beginnings
