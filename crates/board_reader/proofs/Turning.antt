@@ -2,7 +2,6 @@
 use Prim.Native.Nat.{ℕ, _≤_}
 use native.Mathlib.Omega.{arith}
 use mathlib.Core.Path.{_≡_, refl, ap, subst, sym, _∙_}
-use mathlib.Core.Bool.{false, true}
 use mathlib.Core.List.{List, [], _∷_, _++_, append-nil}
 use mathlib.Core.Option.{none}
 use lib.ListN.{drop, length, length-append, length-replicate, take}
@@ -10,7 +9,7 @@ use Rattle.game.specs.Lists.{concat-map}
 use Rattle.game.specs.Calls.{Refusal, gives, refuses}
 use Rattle.game.proofs.Members.{concat-map-append}
 use Rattle.line_price.specs.Prices.{answerLine}
-use Rattle.line_prices.specs.Blocks.{Desk, DeskOutcome, blockCall, cutFrom, deskAfter, endCall, lastLine, unlessDesk}
+use Rattle.line_prices.specs.Blocks.{Desk, blockCall, cutFrom, deskAfter, endCall, lastLine, unlessDesk}
 use Rattle.line_prices.specs.Answers.{KeepsDesk}
 use Rattle.line_prices.specs.Sessions.{Fits, KeptOf, joined}
 use Rattle.line_prices.proofs.Desks.{Keeps}

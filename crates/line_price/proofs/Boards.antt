@@ -8,7 +8,7 @@ use lib.ListN.{length, take}
 use Rattle.game.specs.Grid.{Grid}
 use Rattle.game.specs.Calls.{Refusal, gives, refuses}
 use Rattle.area.specs.Numbers.{gridOf}
-use Rattle.lines.specs.BoardLine.{boardLineCall, lineGrid, lineRefusal}
+use Rattle.lines.specs.BoardLine.{boardLineCall, lineGrid}
 use Rattle.lines.specs.Answers.{KeepsGrid}
 use Rattle.lines.proofs.LineRead.{accepted, refused-so, same-grid}
 use Rattle.lines.proofs.Verdict.{length-values, passed}

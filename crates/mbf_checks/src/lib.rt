@@ -2,7 +2,6 @@
 use refusals::Checked;
 use refusals::Refusal;
 ghost use mathlib.Core.Path.{_≡_};
-ghost use mathlib.Core.Option.{none};
 ghost use Prim.Native.Nat.{_+_, _*_, _<_, _≤_};
 ghost use lib.ListN.{getD, length};
 ghost use Rattle.game.specs.Calls.{firstGiven};
@@ -68,7 +67,7 @@ fn mark_mines(file: &[u8], count: usize, bits: &mut [u8]) -> bool
 
 // FILE for a length that isn't 4 + 2 x the mine count, a mine past the edge or one listed twice; where there is none, the bits of the mines are set.
 pub fn check_mines(file: &[u8], bits: &mut [u8]) -> Checked
-    requires { ⌜ (2 ≤ length (now file)) × (now bits ≡ noBits) ⌝ }
+    requires { ⌜ now bits ≡ noBits ⌝ }
     ensures { λ r. ⌜ CheckedMines (now (file .entry)) r (now (bits .exit)) ⌝ }
 {
     if file.len() < 4 {

@@ -1,7 +1,7 @@
 -- What holds of a file that passes, and a file of which it holds passes: the tests one by one. Assumes nothing.
 use Prim.Native.Nat.{ℕ, _+_, _*_, _<_, _≤_}
 use native.Mathlib.Omega.{arith}
-use mathlib.Core.Path.{_≡_, ap, refl, subst, _∙_}
+use mathlib.Core.Path.{_≡_, ap, refl, subst}
 use mathlib.Core.Logic.{⊎-elim}
 use mathlib.Core.Bool.{_||_, false, not}
 use mathlib.Core.List.{List, [], _++_, _∷_}

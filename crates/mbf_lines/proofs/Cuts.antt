@@ -1,5 +1,5 @@
 -- The first 4,101 bytes of a file decide its line, since a file that long is refused; the first line feed, or 517 bytes, decide a line's file. Assumes nothing.
-use Prim.Native.Nat.{ℕ, _+_, _*_, _≤_}
+use Prim.Native.Nat.{ℕ, _*_, _≤_}
 use native.Mathlib.Omega.{arith}
 use mathlib.Core.Path.{_≡_, ap, refl, subst, sym, _∙_}
 use mathlib.Core.Bool.{Bool, _||_, cond, false, true}

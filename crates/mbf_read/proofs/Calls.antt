@@ -6,12 +6,10 @@ use mathlib.Core.List.{List, [], _∷_, _++_, map}
 use mathlib.Core.Option.{none, some}
 use lib.IntN.{ℤ}
 use lib.ListN.{length}
-use borrow.Author.Tests.{ltb-false}
 use Rattle.game.specs.Area.{begun}
 use Rattle.game.specs.Calls.{Refusal, board, firstGiven, gives, refuses}
 use Rattle.game.specs.Grid.{rightValues}
 use Rattle.game.specs.Lists.{range}
-use Rattle.game.proofs.Checks.{each-fails}
 use Rattle.area.specs.Stages.{Shape}
 use Rattle.checks.proofs.More.{enough, first-stands, last-decides, too-low}
 use Rattle.lines.specs.Answers.{KeepsGrid}
@@ -54,10 +52,6 @@ module _ (file : List ℕ) (lent : List ℤ) where
 pub both-fine : (file : List ℕ) → none ≡ firstGiven (sideChecks file) → none ≡ firstGiven (mineChecks file) → fileRefusal file ≡ none
 unfolding fileRefusal
 both-fine file e f = sym (f ∙ last-decides (sideChecks file) (mineChecks file) e)
-
--- where nothing is refused for its sides, a file has two bytes
-pub two-bytes : (file : List ℕ) → firstGiven (sideChecks file) ≡ none → 2 ≤ length file
-two-bytes file e = ltb-false (length file) 2 (each-fails (sideChecks file) e .0)
 
 -- the shape of an accepted file
 pub shape-of : (file : List ℕ) (rows columns : ℕ) → fileRefusal file ≡ none → rows ≡ fileRows file → columns ≡ fileColumns file → Shape rows columns

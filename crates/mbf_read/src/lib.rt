@@ -4,7 +4,6 @@ use refusals::Checked;
 use refusals::Refusal;
 ghost use mathlib.Core.Path.{_≡_};
 ghost use mathlib.Core.Option.{none};
-ghost use lib.ListN.{length};
 ghost use Rattle.game.specs.Calls.{firstGiven};
 ghost use Rattle.lines.specs.Answers.{KeepsGrid, boardAnswer};
 ghost use Rattle.mbf_form.specs.Form.{minePlaces};

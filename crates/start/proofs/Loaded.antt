@@ -1,5 +1,5 @@
 -- Loaded cell by cell, the work area is that before labelling. Assumes nothing.
-use Prim.Native.Nat.{ℕ, _*_, _+_, _-_, _<_, _≤_, min}
+use Prim.Native.Nat.{ℕ, _*_, _+_, _-_, _<_, min}
 use native.Mathlib.Omega.{arith}
 use native.Mathlib.Numerals.{towards-suc}
 use native.Mathlib.Nat.{mod-eq-of-lt, mul-comm}

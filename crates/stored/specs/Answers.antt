@@ -1,5 +1,5 @@
 -- Each answer of a call on stored move lists by its number and values (RULES 9.4, 9.5). Assumes nothing.
-use mathlib.Core.List.{List, [], _∷_}
+use mathlib.Core.List.{[], _∷_}
 use Rattle.game.specs.Calls.{Answer, gives, refuses}
 use Rattle.refusals.specs.Names.{named}
 use Rattle.stored.specs.declared.MovesRead.{MovesRead}

@@ -3,7 +3,7 @@ use Prim.Native.Nat.{ℕ, _≤_}
 use native.Mathlib.Omega.{arith}
 use mathlib.Core.Path.{_≡_, ap, subst, sym, _∙_}
 use mathlib.Core.Bool.{false}
-use lib.ListN.{length, length-take, take}
+use lib.ListN.{length, length-take}
 use lib.Seq.{length-take-le}
 use mir.Syntax.{w32, w64}
 use mir.Val.{ofZ, toZ}

@@ -1,13 +1,12 @@
 -- `mbf_checks::mark_mines`: after k mines the bits are theirs. Assumes nothing.
-use Prim.Native.Nat.{ℕ, _+_, _-_, _*_, _/_, _<_, _≤_}
+use Prim.Native.Nat.{ℕ, _+_, _-_, _*_, _<_, _≤_}
 use native.Mathlib.Omega.{arith}
 use mathlib.Core.Path.{_≡_, ap, subst, sym, _∙_}
 use mathlib.Core.Bool.{Bool}
-use mathlib.Core.List.{List}
 use lib.ListN.{getD, length, length-replicate}
 use borrow.Author.Tests.{not-false, not-true}
-use Rattle.mbf_form.specs.Form.{mineCount, minePlace}
-use Rattle.mbf_checks.specs.Marks.{MarkedOne, noBits}
+use Rattle.mbf_form.specs.Form.{mineCount}
+use Rattle.mbf_checks.specs.Marks.{MarkedOne}
 use Rattle.mbf_checks.proofs.Marking.{Midway, all-marked, marked-long, none-marked, one-more, place-small, refused-here}
 use Rattle.mbf_checks.proofs.mark_mines.Statement.{statement}
 use Rattle.mbf_checks.proofs.mark_mines.Tie as tie

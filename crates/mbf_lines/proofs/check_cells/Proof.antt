@@ -29,7 +29,7 @@ returns c =
     (many-cells (s .args .file .now) (s .pre .0) (omega (arith, cells (c .before))), λ e. absurd (Option·some-ne-none _ e))
 
 check-mines-requires : tie.Need-check-mines-requires
-check-mines-requires c κs = let s = c .before .before .before .before .before .before in (two-bytes (s .args .file .now) (s .pre .0), s .pre .1)
+check-mines-requires c κs = c .before .before .before .before .before .before .pre .1
 
 same-length : tie.Need-same-length
 same-length c = search needs

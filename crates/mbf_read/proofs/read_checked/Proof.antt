@@ -1,5 +1,5 @@
 -- `mbf_read::read_checked`: BOARD where the run is too short, else the grid of the bits. Assumes nothing.
-use Prim.Native.Nat.{_+_, _*_, _≤_}
+use Prim.Native.Nat.{_*_}
 use native.Mathlib.Omega.{arith}
 use mathlib.Core.Path.{_≡_, ap, _∙_}
 use mathlib.Core.List.{List}

@@ -1,10 +1,8 @@
 -- `mbf_read::read_sided`: refused as its count and mines are, else read. Assumes nothing.
-use native.Mathlib.Omega.{arith}
 use mathlib.Core.Path.{_≡_, ap, refl, sym, _∙_}
 use mathlib.Core.Option.{none}
 use Rattle.refusals.specs.Names.{refusalOf}
-use Rattle.mbf_form.specs.Calls.{fileRefusal}
-use Rattle.mbf_read.proofs.Calls.{both-fine, mines-refused, two-bytes}
+use Rattle.mbf_read.proofs.Calls.{both-fine, mines-refused}
 use borrow.Author.Needs.{needs}
 use Rattle.mbf_read.proofs.read_sided.Statement.{statement}
 use Rattle.mbf_read.proofs.read_sided.Tie as tie
@@ -13,7 +11,7 @@ slice-aggregate-check-mines : tie.Need-slice-aggregate-check-mines
 slice-aggregate-check-mines c = search needs
 
 check-mines-requires : tie.Need-check-mines-requires
-check-mines-requires c κs = (two-bytes (c .before .before .args .file .now) (c .before .before .pre), refl)
+check-mines-requires c κs = refl
 
 enum-known-checked : tie.Need-enum-known-checked
 enum-known-checked c = search needs

@@ -1,5 +1,5 @@
 -- `mbf_read::numbers::mines_right`: the column to the right is counted, if there is one. Assumes nothing.
-use Prim.Native.Nat.{ℕ, _+_, min}
+use Prim.Native.Nat.{_+_, min}
 use native.Mathlib.Omega.{arith}
 use mathlib.Core.Path.{_≡_, ap, sym, _∙_}
 use Rattle.mbf_read.specs.Numbers.{bitGrid, columnMines}

@@ -1,5 +1,5 @@
 -- `mbf_read::numbers::value_of`: -1 where the bit is set, the number where it is not. Assumes nothing.
-use mathlib.Core.Path.{_≡_, ap, sym, _∙_}
+use mathlib.Core.Path.{ap, sym, _∙_}
 use mathlib.Core.Bool.{Bool, cond}
 use native.Mathlib.Omega.{arith}
 use lib.IntN.{negsuc, pos}
