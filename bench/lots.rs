@@ -33,6 +33,11 @@ pub fn largest(percent: usize) -> Lot {
 }
 
 impl Lot {
+    /// The same boards without their mines.
+    pub fn without_mines(self) -> Lot {
+        Lot { mines: 0, ..self }
+    }
+
     pub fn cells(&self) -> usize {
         self.rows * self.columns
     }

@@ -1,10 +1,11 @@
-//! Measures ours and the Rust on the same boards in one run, and our replays, and prints the tables. docs/SPEED.md says what is counted.
+//! Measures ours and the Rust on the same boards in one run, then our replays and our files, and prints the tables. docs/SPEED.md says what is counted.
 //!
-//! With no word it runs all rows, with `replays` the replays alone. `count ROW SIDE` and `replay ROW` are what it runs of itself under callgrind: one call a board.
+//! With no word it runs all rows, with `replays` or `files` these alone. `count ROW SIDE`, `replay ROW` and `file ROW` are what it runs of itself under callgrind: one call a board.
 #[allow(dead_code)]
 #[path = "../oracle/boards.rs"]
 mod boards;
 mod clock;
+mod files;
 mod lists;
 mod lots;
 #[allow(dead_code)]
@@ -22,7 +23,7 @@ use original::safe_board; // where the Rust looks for it
 use rows::Row;
 use sides::{MEASURED, SIDES, Side};
 use std::process::Command;
-use table::{Measures, Replayed};
+use table::{Filed, Measures, Replayed};
 
 /// Prints each answer: both sides must print the same.
 fn count(row: &Row, side: Side) {
@@ -37,6 +38,14 @@ fn replay(row: &replays::Row) {
     let boards = row.lot.make();
     for case in &mut replays::cases(row, &boards) {
         replays::play(case);
+    }
+}
+
+/// Reads each file, or writes each grid; ends if an answer is wrong.
+fn file(row: &files::Row) {
+    let boards = row.lot.make();
+    for case in &mut files::cases(row, &boards) {
+        files::play(case);
     }
 }
 
@@ -110,21 +119,59 @@ fn measure(place: usize, row: &Row) -> Measures {
     }
 }
 
+/// Instructions and microseconds of one call that the Rust has none of, the mean over the cases: by callgrind, which runs such words, and by so many samples.
+fn alone<C>(
+    name: &str,
+    words: &[&str],
+    cases: &mut [C],
+    play: fn(&mut C) -> u64,
+    samples: usize,
+) -> (f64, f64) {
+    eprintln!("measuring {name}");
+    let (total, _) = collected(name, words);
+    let count = cases.len();
+    let mut sample = |_| cases.iter_mut().map(play).sum();
+    let samples = (0..samples).map(&mut sample).collect();
+    (total / count as f64, median(samples, count))
+}
+
 /// A replay measured.
 fn measure_replay(place: usize, row: &replays::Row) -> Replayed {
-    eprintln!("measuring {}", row.file_name());
-    let (total, _) = collected(&row.file_name(), &["replay", &place.to_string()]);
     let boards = row.lot.make();
     let mut cases = replays::cases(row, &boards);
     let moves: u64 = cases.iter().map(|case| case.moves).sum();
-    let mut sample = |_| cases.iter_mut().map(replays::play).sum();
-    let samples = (0..row.samples).map(&mut sample).collect();
-    let count = row.lot.boards;
+    let words = ["replay", &place.to_string()];
+    let (instructions, time) = alone(
+        &row.file_name(),
+        &words,
+        &mut cases,
+        replays::play,
+        row.samples,
+    );
     Replayed {
         row: *row,
-        moves: moves as f64 / count as f64,
-        instructions: total / count as f64,
-        time: median(samples, count),
+        moves: moves as f64 / row.lot.boards as f64,
+        instructions,
+        time,
+    }
+}
+
+/// A read or a write measured.
+fn measure_file(place: usize, row: &files::Row) -> Filed {
+    let boards = row.lot.make();
+    let mut cases = files::cases(row, &boards);
+    let words = ["file", &place.to_string()];
+    let (instructions, time) = alone(
+        &row.file_name(),
+        &words,
+        &mut cases,
+        files::play,
+        row.samples,
+    );
+    Filed {
+        row: *row,
+        instructions,
+        time,
     }
 }
 
@@ -144,6 +191,14 @@ fn print_replays() {
     table::print_replays(&replayed.collect::<Vec<Replayed>>());
 }
 
+/// All files.
+fn print_files() {
+    let rows = files::all();
+    let rows = rows.iter().enumerate();
+    let filed = rows.map(|(place, row)| measure_file(place, row));
+    table::print_files(&filed.collect::<Vec<Filed>>());
+}
+
 fn run() {
     let words: Vec<String> = std::env::args().skip(1).collect();
     let words: Vec<&str> = words.iter().map(String::as_str).collect();
@@ -152,16 +207,21 @@ fn run() {
         [] => {
             print_rows();
             print_replays();
+            print_files();
             table::print_notes();
         }
         ["replays"] => print_replays(),
+        ["files"] => print_files(),
         ["count", place, side] => {
             let side = SIDES.into_iter().find(|one| one.word() == side);
             let side = side.expect("ours or rust");
             count(&rows::all()[place_of(place)], side);
         }
         ["replay", place] => replay(&replays::all()[place_of(place)]),
-        _ => panic!("no words, or: replays, or: count ROW SIDE, or: replay ROW"),
+        ["file", place] => file(&files::all()[place_of(place)]),
+        _ => panic!(
+            "no words, or: replays, or: files, or: count ROW SIDE, or: replay ROW, or: file ROW"
+        ),
     }
 }
 

@@ -1,4 +1,5 @@
-//! What is printed: the ratios, how the cost of a cell grows with the board, the replays, and what was counted.
+//! What is printed: the ratios, how the cost of a cell grows with the board, the replays, the files, and what was counted.
+use crate::files::{self, Work};
 use crate::replays;
 use crate::rows::{ROUNDS, Row, is_league_grown};
 
@@ -13,6 +14,13 @@ pub struct Measures {
 pub struct Replayed {
     pub row: replays::Row,
     pub moves: f64,
+    pub instructions: f64,
+    pub time: f64,
+}
+
+/// One read or write of ours: instructions and microseconds.
+pub struct Filed {
+    pub row: files::Row,
     pub instructions: f64,
     pub time: f64,
 }
@@ -111,6 +119,39 @@ pub fn print_replays(all: &[Replayed]) {
     }
 }
 
+const FILES: &str = "\
+| file | board | boards | mines listed | instructions | a cell | a mine, beyond a board without | µs | samples |
+|---|---|--:|--:|--:|--:|--:|--:|--:|";
+
+/// A read or a write, and what each mine adds to what a board of the same sides takes without mines, but not for a refused file, whose grid isn't filled.
+fn print_file(filed: &Filed, bare: &Filed) {
+    let row = filed.row;
+    let listed = row.listed() as f64;
+    let beyond = (filed.instructions - bare.instructions) / listed;
+    let known = row.work != Work::ReadTwice && listed > 0.0;
+    println!(
+        "| {} | {} | {} | {} | {} | {} | {} | {} | {} |",
+        row.work.name(),
+        row.lot.name(),
+        row.lot.boards,
+        parted(listed),
+        shown(filed.instructions),
+        shown(filed.instructions / row.lot.cells() as f64),
+        if known { shown(beyond) } else { String::new() },
+        shown(filed.time),
+        row.samples
+    );
+}
+
+/// The table of the files.
+pub fn print_files(all: &[Filed]) {
+    println!("\n{FILES}");
+    for filed in all {
+        let bare = |other: &&Filed| other.row.is_bare_of(&filed.row);
+        print_file(filed, all.iter().find(bare).expect("a board without mines"));
+    }
+}
+
 /// The ratios, and how they grow.
 pub fn print(all: &[Measures]) {
     println!("{RATIOS}");
@@ -132,6 +173,7 @@ A random search has {ROUNDS} rounds. There is one board and few samples where a 
 Ours: the archive's names; work area and list are lent once a board, with 7 and 9 in every place, and not cleared before a call or between calls.
 The Rust: cal_zini, cal_hzini and cal_rzini with their copy of the board and their own cells, made anew in each call; its random bytes are lent before the call.
 3BV setup: lavgerin_three_bv, which also counts and hands the work area back, beside build_cells_ref and initboard, without the copy.
-Replays: lavgerin_replay, the moves of a list the mean over the boards; moves made, safe cells still closed and the ending are checked."
+Replays: lavgerin_replay, the moves of a list the mean over the boards; moves made, safe cells still closed and the ending are checked.
+Files: lavgerin_read_mbf and lavgerin_write_mbf, mines in index order; the mines read and the bytes written are checked, and that a refused read leaves the grid."
     );
 }

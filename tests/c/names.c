@@ -1,22 +1,26 @@
 /* Calls the library under its C names: the twelve boards, random rounds and searches, refusals on both sides, replays
- * with wrong flags to each ending, and what is left alone. Exits at the first wrong answer. */
+ * with wrong flags to each ending, MBF files, and what is left alone. Exits at the first wrong answer. */
 #include "lavgerin.h"
 
 #include <stdio.h>
 #include <stdlib.h>
 #include <string.h>
 
-enum { MOST = 255 * 255, MILLION = 1000000, UNTOLD = 77, LENT = 7, LENT_MOVE = 9 };
+enum { MOST = 255 * 255, MILLION = 1000000, UNTOLD = 77, LENT = 7, LENT_MOVE = 9, LENT_BYTE = 11 };
+enum { MOST_BYTES = 4 + 2 * MOST, MOST_LISTED = 65535, RANDOM_GRIDS = 400, SIDE = 12 };
 
 #define L(i) ((uint32_t)LAVGERIN_LEFT * 65536 + (i))
 #define F(i) ((uint32_t)LAVGERIN_FLAG * 65536 + (i))
 #define C(i) ((uint32_t)LAVGERIN_CHORD * 65536 + (i))
 #define U(i) ((uint32_t)LAVGERIN_UNFLAG * 65536 + (i))
 #define MOVES(...) (const uint32_t[]){__VA_ARGS__}, sizeof (const uint32_t[]){__VA_ARGS__} / sizeof(uint32_t)
+#define BYTES(...) (const uint8_t[]){__VA_ARGS__}, sizeof (const uint8_t[]){__VA_ARGS__}
 #define EQUAL(got, want) equal(__LINE__, #got, (uint64_t)(got), (uint64_t)(want))
 
 static int32_t grid[MOST + 1], work[5 * MOST + 1];
+static int32_t values[MOST + 1];
 static uint32_t list[MOST + 1], many[MILLION];
+static uint8_t file[MOST_BYTES + 1], bytes[4 + 2 * MOST_LISTED];
 static uint64_t first, second, third;
 static unsigned long compared;
 
@@ -345,6 +349,266 @@ static void large(void) {
     ran("large");
 }
 
+/* What reading and writing are lent, and the answers, as before any call. */
+static void lend_file(void) {
+    for (size_t k = 0; k < sizeof values / sizeof values[0]; k++) values[k] = LENT;
+    for (size_t k = 0; k < sizeof file; k++) file[k] = LENT_BYTE;
+    first = second = UNTOLD;
+}
+
+/* From these places on, neither the lent grid nor the lent file was changed. */
+static void file_untouched_from(size_t values_from, size_t file_from) {
+    size_t changed = 0;
+    for (size_t k = values_from; k < sizeof values / sizeof values[0]; k++) changed += values[k] != LENT;
+    for (size_t k = file_from; k < sizeof file; k++) changed += file[k] != LENT_BYTE;
+    EQUAL(changed, 0);
+}
+
+/* What stands in a grid for the cell in a row and a column, counted anew: -1 for a mine, else the mines around it. */
+static int32_t right_value(size_t rows, size_t columns, const int32_t *of, size_t row, size_t column) {
+    int32_t mines = 0;
+    for (size_t r = row == 0 ? 0 : row - 1; r <= row + 1 && r < rows; r++)
+        for (size_t c = column == 0 ? 0 : column - 1; c <= column + 1 && c < columns; c++) mines += of[r * columns + c] == -1;
+    return of[row * columns + column] == -1 ? -1 : mines;
+}
+
+/* These bytes are read into a run that just has room: the sides, the mines of this grid and right numbers, nothing past them. */
+static void reads_as(size_t rows, size_t columns, const int32_t *of, const uint8_t *read, size_t length) {
+    lend_file();
+    EQUAL(lavgerin_read_mbf(read, length, values, rows * columns, &first, &second), 0);
+    EQUAL(first, rows);
+    EQUAL(second, columns);
+    for (size_t row = 0; row < rows; row++)
+        for (size_t column = 0; column < columns; column++)
+            EQUAL(values[row * columns + column] == right_value(rows, columns, of, row, column), 1);
+    file_untouched_from(rows * columns, 0);
+}
+
+/* A grid is written into memory that just has room: these bytes, and nothing past them. */
+static void writes_as(size_t rows, size_t columns, const int32_t *of, const uint8_t *written, size_t length) {
+    lend_file();
+    EQUAL(lavgerin_write_mbf(rows, columns, of, rows * columns, file, length, &first), 0);
+    EQUAL(first, length);
+    EQUAL(memcmp(file, written, length), 0);
+    file_untouched_from(0, length);
+}
+
+/* Both, with a board of the table. */
+static void is_file_of(const board *b, const uint8_t *read, size_t length) {
+    reads_as(b->rows, b->columns, b->grid, read, length);
+    writes_as(b->rows, b->columns, b->grid, read, length);
+}
+
+/* A read that is refused: its number, the answers and everything lent as it was. */
+static void unread(uint8_t number, size_t grid_length, const uint8_t *read, size_t length) {
+    lend_file();
+    EQUAL(lavgerin_read_mbf(read, length, values, grid_length, &first, &second), number);
+    EQUAL(first, UNTOLD);
+    EQUAL(second, UNTOLD);
+    file_untouched_from(0, 0);
+}
+
+/* A write that is refused, in the same way. */
+static void unwritten(uint8_t number, size_t rows, size_t columns, const int32_t *of, size_t grid_length, size_t length) {
+    lend_file();
+    EQUAL(lavgerin_write_mbf(rows, columns, of, grid_length, file, length, &first), number);
+    EQUAL(first, UNTOLD);
+    file_untouched_from(0, 0);
+}
+
+/* Boards as files, their mines in cell index order and in others, and any safe value written. */
+static void files_of_boards(void) {
+    static const int32_t corners[6] = {0, 0, -1, -1, 0, -1}, odd[6] = {9, -2, -1, -1, INT32_MIN, -1};
+    static const int32_t last_row[6] = {0, 0, 0, 0, 0, -1};
+    is_file_of(&P[0], BYTES(1, 1, 0, 0));
+    is_file_of(P2, BYTES(1, 1, 0, 1, 0, 0));
+    is_file_of(P7, BYTES(2, 2, 0, 1, 0, 0));
+    is_file_of(P11, BYTES(3, 3, 0, 1, 1, 1));
+    is_file_of(P12, BYTES(3, 3, 0, 2, 0, 2, 2, 0));
+    reads_as(3, 3, P12->grid, BYTES(3, 3, 0, 2, 2, 0, 0, 2));
+    writes_as(2, 3, corners, BYTES(3, 2, 0, 3, 0, 1, 2, 0, 2, 1));
+    writes_as(2, 3, odd, BYTES(3, 2, 0, 3, 0, 1, 2, 0, 2, 1));
+    reads_as(2, 3, corners, BYTES(3, 2, 0, 3, 0, 1, 2, 0, 2, 1));
+    reads_as(2, 3, corners, BYTES(3, 2, 0, 3, 2, 1, 0, 1, 2, 0));
+    reads_as(2, 3, corners, BYTES(3, 2, 0, 3, 2, 0, 2, 1, 0, 1));
+    reads_as(2, 3, last_row, BYTES(3, 2, 0, 1, 2, 1));
+    reads_as(6, 1, last_row, BYTES(1, 6, 0, 1, 0, 5));
+    reads_as(1, 6, last_row, BYTES(6, 1, 0, 1, 5, 0));
+}
+
+/* FILE, SHAPE and BOARD of a read, in their order; where the grid has no room, the file is still what is refused. */
+static void refused_reads(void) {
+    unread(LAVGERIN_FILE, 9, bytes, 0);
+    unread(LAVGERIN_FILE, 9, BYTES(0));
+    unread(LAVGERIN_FILE, 0, BYTES(3));
+    unread(LAVGERIN_SHAPE, 9, BYTES(0, 0));
+    unread(LAVGERIN_SHAPE, 0, BYTES(0, 1));
+    unread(LAVGERIN_SHAPE, 9, BYTES(1, 0, 0));
+    unread(LAVGERIN_SHAPE, 9, BYTES(0, 2, 0, 1, 0, 0));
+    unread(LAVGERIN_SHAPE, 9, BYTES(2, 0, 0, 1, 0, 0));
+    unread(LAVGERIN_FILE, 9, BYTES(1, 1));
+    unread(LAVGERIN_FILE, 0, BYTES(1, 1, 0));
+    unread(LAVGERIN_FILE, 9, BYTES(2, 2, 0, 1, 0));
+    unread(LAVGERIN_FILE, 9, BYTES(2, 2, 0, 1, 0, 0, 1));
+    unread(LAVGERIN_FILE, 9, BYTES(2, 2, 0, 1));
+    unread(LAVGERIN_FILE, 9, BYTES(2, 2, 0, 0, 0, 0));
+    unread(LAVGERIN_FILE, 9, BYTES(2, 2, 1, 0, 0, 0));
+    unread(LAVGERIN_FILE, 9, BYTES(3, 2, 0, 1, 3, 0));
+    unread(LAVGERIN_FILE, 9, BYTES(3, 2, 0, 1, 0, 2));
+    unread(LAVGERIN_FILE, 9, BYTES(3, 2, 0, 2, 2, 1, 2, 2));
+    unread(LAVGERIN_FILE, 9, BYTES(3, 2, 0, 2, 0, 0, 255, 255));
+    unread(LAVGERIN_FILE, 9, BYTES(2, 2, 0, 2, 0, 0, 0, 0));
+    unread(LAVGERIN_FILE, 9, BYTES(2, 2, 0, 3, 1, 0, 0, 1, 1, 0));
+    unread(LAVGERIN_FILE, 0, BYTES(2, 2, 0, 1, 2, 0));
+    unread(LAVGERIN_FILE, 3, BYTES(2, 2, 0, 2, 0, 1, 0, 1));
+    unread(LAVGERIN_BOARD, 3, BYTES(2, 2, 0, 1, 0, 0));
+    unread(LAVGERIN_BOARD, 5, BYTES(3, 2, 0, 0));
+    unread(LAVGERIN_BOARD, 0, BYTES(1, 1, 0, 0));
+}
+
+/* SHAPE and BOARD of a write, in their order; the sides that pass are those of the files above. */
+static void refused_writes(void) {
+    unwritten(LAVGERIN_SHAPE, 0, 3, grid, 0, 0);
+    unwritten(LAVGERIN_SHAPE, 3, 0, grid, 0, 9);
+    unwritten(LAVGERIN_SHAPE, 256, 1, grid, 256, 9);
+    unwritten(LAVGERIN_SHAPE, 1, 256, grid, 256, 9);
+    unwritten(LAVGERIN_SHAPE, SIZE_MAX, SIZE_MAX, grid, 1, 9);
+    unwritten(LAVGERIN_BOARD, 2, 3, grid, 5, 9);
+    unwritten(LAVGERIN_BOARD, 2, 3, grid, 7, 9);
+    unwritten(LAVGERIN_BOARD, 2, 3, grid, 6, 3);
+    unwritten(LAVGERIN_BOARD, 2, 3, grid, 6, 0);
+    unwritten(LAVGERIN_BOARD, 2, 2, P7->grid, 4, 5);
+    unwritten(LAVGERIN_BOARD, 3, 3, P12->grid, 9, 7);
+}
+
+/* More memory than is needed, on both sides: what is past stays. */
+static void files_with_room(void) {
+    lend_file();
+    EQUAL(lavgerin_read_mbf((const uint8_t *)"\3\3\0\1\1\1", 6, values, MOST, &first, &second), 0);
+    EQUAL(first, 3);
+    EQUAL(second, 3);
+    file_untouched_from(9, 0);
+    EQUAL(lavgerin_write_mbf(3, 3, P11->grid, 9, file, sizeof file, &first), 0);
+    EQUAL(first, 6);
+    file_untouched_from(9, 6);
+}
+
+/* Puts the head of a file of 255 by 255 and so many mines among the bytes, and the cells in index order, from 0 again after the last. */
+static size_t whole_file(size_t count) {
+    bytes[0] = bytes[1] = 255;
+    bytes[2] = (uint8_t)(count / 256);
+    bytes[3] = (uint8_t)(count % 256);
+    for (size_t k = 0; k < count; k++) {
+        bytes[4 + 2 * k] = (uint8_t)(k % MOST / 255);
+        bytes[5 + 2 * k] = (uint8_t)(k % 255);
+    }
+    return 4 + 2 * count;
+}
+
+/* Puts a listed mine in the place of another. */
+static void list_again(size_t from, size_t to) {
+    memcpy(&bytes[4 + 2 * to], &bytes[4 + 2 * from], 2);
+}
+
+/* Turns the order of the listed mines around. */
+static void turn_around(size_t count) {
+    for (size_t k = 0; k < count / 2; k++) {
+        uint8_t kept[2];
+        memcpy(kept, &bytes[4 + 2 * k], 2);
+        list_again(count - 1 - k, k);
+        memcpy(&bytes[4 + 2 * (count - 1 - k)], kept, 2);
+    }
+}
+
+/* 255 by 255 with each cell a mine: the longest file, and one listed twice in it or after it. */
+static void largest_file(void) {
+    static int32_t mines[MOST];
+    for (size_t k = 0; k < MOST; k++) mines[k] = -1;
+    EQUAL(whole_file(MOST), 130054);
+    writes_as(255, 255, mines, bytes, MOST_BYTES);
+    unwritten(LAVGERIN_BOARD, 255, 255, mines, MOST, MOST_BYTES - 1);
+    reads_as(255, 255, mines, bytes, MOST_BYTES);
+    EQUAL(lavgerin_write_mbf(255, 255, values, MOST, file, MOST_BYTES, &first), 0);
+    EQUAL(memcmp(file, bytes, MOST_BYTES), 0);
+    unread(LAVGERIN_BOARD, MOST - 1, bytes, MOST_BYTES);
+    turn_around(MOST);
+    reads_as(255, 255, mines, bytes, MOST_BYTES);
+    whole_file(MOST);
+    list_again(MOST - 2, MOST - 1);
+    unread(LAVGERIN_FILE, MOST, bytes, MOST_BYTES);
+    whole_file(MOST);
+    list_again(0, MOST - 1);
+    unread(LAVGERIN_FILE, MOST, bytes, MOST_BYTES);
+    EQUAL(whole_file(MOST + 1), MOST_BYTES + 2);
+    list_again(MOST - 1, MOST);
+    unread(LAVGERIN_FILE, MOST, bytes, MOST_BYTES + 2);
+    unread(LAVGERIN_FILE, MOST, bytes, whole_file(MOST_LISTED));
+    writes_as(255, 255, grid, BYTES(255, 255, 0, 0));
+    reads_as(255, 255, grid, BYTES(255, 255, 0, 0));
+}
+
+/* A number below n, the same in every run. */
+static size_t below(size_t n) {
+    static uint64_t state = 13;
+    state = state * 6364136223846793005u + 1442695040888963407u;
+    return (size_t)(state >> 33) % n;
+}
+
+/* A grid of these sides, about so many of a hundred cells mines and any safe values: how many mines it has. */
+static size_t random_grid(size_t cells, size_t percent, int32_t *of) {
+    size_t mines = 0;
+    for (size_t k = 0; k < cells; k++) {
+        of[k] = below(100) < percent ? -1 : (int32_t)below(12) - 13 * (int32_t)below(2);
+        mines += of[k] == -1;
+    }
+    return mines;
+}
+
+/* Three calls on a grid and on another come to the same: answers, and the moves of greedy and openings-first. */
+static void priced_alike(size_t rows, size_t columns, const int32_t *of, const int32_t *other) {
+    uint32_t moves[SIDE * SIDE];
+    size_t cells = rows * columns;
+    EQUAL(lavgerin_three_bv(rows, columns, of, cells, work, 5 * cells, &first), 0);
+    EQUAL(lavgerin_three_bv(rows, columns, other, cells, work, 5 * cells, &second), 0);
+    EQUAL(first, second);
+    EQUAL(lavgerin_greedy(rows, columns, of, cells, work, 5 * cells, moves, cells, &first), 0);
+    EQUAL(lavgerin_greedy(rows, columns, other, cells, work, 5 * cells, list, cells, &second), 0);
+    EQUAL(first, second);
+    EQUAL(memcmp(moves, list, first * sizeof moves[0]), 0);
+    EQUAL(lavgerin_openings_first(rows, columns, of, cells, work, 5 * cells, moves, cells, &first), 0);
+    EQUAL(lavgerin_openings_first(rows, columns, other, cells, work, 5 * cells, list, cells, &second), 0);
+    EQUAL(first, second);
+    EQUAL(memcmp(moves, list, first * sizeof moves[0]), 0);
+}
+
+/* A random grid written, read in two orders, and written again; what was read is priced as the grid is. */
+static void random_file(void) {
+    int32_t of[SIDE * SIDE];
+    size_t rows = 1 + below(SIDE), columns = 1 + below(SIDE);
+    size_t mines = random_grid(rows * columns, below(101), of);
+    size_t length = 4 + 2 * mines;
+    EQUAL(lavgerin_write_mbf(rows, columns, of, rows * columns, bytes, sizeof bytes, &first), 0);
+    EQUAL(first, length);
+    reads_as(rows, columns, of, bytes, length);
+    priced_alike(rows, columns, of, values);
+    EQUAL(lavgerin_write_mbf(rows, columns, values, rows * columns, file, sizeof file, &first), 0);
+    EQUAL(first, length);
+    EQUAL(memcmp(file, bytes, length), 0);
+    turn_around(mines);
+    reads_as(rows, columns, of, bytes, length);
+}
+
+/* MBF files read and written. */
+static void files(void) {
+    files_of_boards();
+    refused_reads();
+    refused_writes();
+    files_with_room();
+    largest_file();
+    for (size_t k = 0; k < RANDOM_GRIDS; k++) random_file();
+    ran("files");
+}
+
 int main(void) {
     boards();
     draws();
@@ -352,6 +616,7 @@ int main(void) {
     stopped();
     endings();
     large();
+    files();
     printf("all as expected\n");
     return 0;
 }

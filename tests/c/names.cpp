@@ -1,7 +1,8 @@
-// The header from C++: two calls on the board of three rows and columns with a mine in the middle.
+// The header from C++: four calls on the board of three rows and columns with a mine in the middle.
 #include "lavgerin.h"
 
 #include <cstdio>
+#include <cstring>
 
 int main() {
     const int32_t grid[9] = {0, 0, 0, 0, -1, 0, 0, 0, 0};
@@ -13,9 +14,22 @@ int main() {
                                LAVGERIN_LEFT * 65536 + 1, LAVGERIN_CHORD * 65536 + 1};
     uint64_t made = 0, closed = 0, ending = 0;
     const int played = lavgerin_replay(3, 3, grid, 9, work, 45, wrong, 5, 5, &made, &closed, &ending);
-    std::printf("from C++: %d %d, %d %d %d %d\n", number, static_cast<int>(clicks), played, static_cast<int>(made),
-                static_cast<int>(closed), static_cast<int>(ending));
+    uint8_t file[7] = {0, 0, 0, 0, 0, 0, 77};
+    uint64_t written = 0;
+    const int wrote = lavgerin_write_mbf(3, 3, grid, 9, file, 7, &written);
+    const uint8_t mine_listed[7] = {3, 3, 0, 1, 1, 1, 77};
+    int32_t values[9];
+    uint64_t rows = 0, columns = 0;
+    const int read = lavgerin_read_mbf(file, 6, values, 9, &rows, &columns);
+    const int longer = lavgerin_read_mbf(file, 7, values, 9, &rows, &columns);
+    std::printf("from C++: %d %d, %d %d %d %d, %d %d, %d %d %d, %d\n", number, static_cast<int>(clicks), played,
+                static_cast<int>(made), static_cast<int>(closed), static_cast<int>(ending), wrote,
+                static_cast<int>(written), read, static_cast<int>(rows), static_cast<int>(columns), longer);
+    const int32_t numbers[9] = {1, 1, 1, 1, -1, 1, 1, 1, 1};
     const bool as_expected = number == LAVGERIN_SUCCESS && clicks == 5 && played == LAVGERIN_SUCCESS && made == 5 &&
                              closed == 4 && ending == LAVGERIN_LOST && work[5 * 4 + 3] == 3;
-    return as_expected ? 0 : 1;
+    const bool files_too = wrote == LAVGERIN_SUCCESS && written == 6 && std::memcmp(file, mine_listed, 7) == 0 &&
+                           read == LAVGERIN_SUCCESS && rows == 3 && columns == 3 &&
+                           std::memcmp(values, numbers, sizeof values) == 0 && longer == LAVGERIN_FILE;
+    return as_expected && files_too ? 0 : 1;
 }
