@@ -6,3 +6,4 @@ pub mod Firsts
 pub mod Boards
 pub mod Cuts
 pub mod Back
+pub mod Starts

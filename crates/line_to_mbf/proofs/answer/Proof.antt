@@ -7,7 +7,7 @@ use lib.ListN.{length, take}
 use lib.Seq.{length-take-le}
 use borrow.Author.Needs.{needs}
 use Rattle.inputs.specs.Beginnings.{Begun}
-use Rattle.inputs.proofs.Starts.{start-inside, start-is}
+use Rattle.mbf_lines.proofs.Starts.{start-inside, start-is}
 use Rattle.mbf_lines.specs.Conversions.{lineFile}
 use Rattle.line_to_mbf.proofs.answer.Statement.{statement}
 use Rattle.line_to_mbf.proofs.answer.Tie as tie
