@@ -9,7 +9,7 @@ use mathlib.Core.Option.{none}
 use lib.Arith.{digits-lt}
 use lib.Dec.{T, eqb, leb, leb→le, ltb}
 use lib.ListN.{length}
-use borrow.Author.Tests.{eq-eqb, eqb-true, le-ltb, leb-false, ne-eqb, not-false}
+use borrow.Author.Tests.{eq-eqb, eqb-true, le-ltb, leb-false, not-false}
 use Rattle.game.specs.Lists.{has, range, some-of}
 use Rattle.game.specs.Calls.{sideOut}
 use Rattle.game.proofs.Checks.{each-fails, none-given, side-in}
@@ -18,14 +18,9 @@ use Rattle.game.proofs.Members.{has-range, map-has, range-has, some-yes, yes-so
 use Rattle.game.proofs.Orders.{pigeonhole}
 use Rattle.game.proofs.Truth.{no→false, or-cases, or-no}
 use Rattle.lines.proofs.Runs.{length-cells}
+use Rattle.lines.proofs.Verdict.{side-fine}
 use Rattle.mbf_form.specs.Form.{fileColumns, fileRows, mineColumn, mineCount, minePlace, minePlaces, mineRow, pastEdge, twice}
 use Rattle.mbf_form.specs.Calls.{fileRefusal, mineChecks, sideChecks}
-
--- ---- sides
-
--- a side within the limits passes
-side-fine : (n : ℕ) → 1 ≤ n → n ≤ 255 → sideOut n ≡ false
-side-fine n h k = λ i. ne-eqb n 0 (λ e. omega arith) i || le-ltb 255 n k i
 
 -- ---- none is listed twice
 
@@ -91,7 +86,7 @@ accepted file e =
 
 -- its sides pass
 pub shaped : (file : List ℕ) → Accepted file → (sideOut (fileRows file) || sideOut (fileColumns file)) ≡ false
-shaped file a = λ i. side-fine (fileRows file) (a .some-rows) (a .few-rows) i || side-fine (fileColumns file) (a .some-columns) (a .few-columns) i
+shaped file a = λ i. side-fine (fileRows file) (λ e. omega arith) (omega arith) i || side-fine (fileColumns file) (λ e. omega arith) (omega arith) i
 
 pub accept : (file : List ℕ) → Accepted file → fileRefusal file ≡ none
 unfolding fileRefusal

@@ -1,7 +1,7 @@
 -- The right value of a cell by the bits of the mines: its number is that of three columns, of which one is new at each cell of a row. Assumes nothing.
 use Prim.Native.Nat.{ℕ, zero, suc, _+_, _-_, _*_, _%_, _<_, _≤_, min}
 use native.Mathlib.Omega.{arith}
-use native.Mathlib.Nat.{mod-eq-of-lt, mul-le-mul-left}
+use native.Mathlib.Nat.{mod-eq-of-lt}
 use native.Mathlib.Numerals.{add-one}
 use mathlib.Core.Path.{_≡_, ap, refl, sym, _∙_}
 use mathlib.Core.Bool.{Bool, cond, false, true}
@@ -36,10 +36,6 @@ number-stored n h = let e : n % 2147483648 ≡ n = mod-eq-of-lt (omega arith) in
 pub value-fits : (b : Bool) (n : ℕ) → n ≤ 9 → SFits w32 (cond b (negsuc 0) (pos n))
 value-fits true n h = record { sfits = omega arith }
 value-fits false n h = record { sfits = omega arith }
-
--- a place of the largest grid is one of 65,536
-pub place-few : (columns row column : ℕ) → columns ≤ 255 → row < 255 → column < columns → row * columns + column < 65536
-place-few columns row column a b c = omega (arith, mul-le-mul-left {m = columns} {n = 255} row a)
 
 module _ (rows columns : ℕ) (bits : List ℕ) where
   -- the grid

@@ -15,7 +15,8 @@ use Rattle.game.specs.Lists.{fold, range}
 use Rattle.game.proofs.Members.{range-none}
 use Rattle.lines.specs.BoardLine.{bitAt}
 use Rattle.mbf_read.specs.Numbers.{bitGrid, columnMines, putRight}
-use Rattle.mbf_read.proofs.Filling.{column-mines, columns-none, columns-number, one-more, place-few, value-fits, value-is}
+use Rattle.mbf_checks.proofs.Marking.{place-small}
+use Rattle.mbf_read.proofs.Filling.{column-mines, columns-none, columns-number, one-more, value-fits, value-is}
 use Rattle.mbf_read.proofs.numbers.fill_row.Statement.{statement}
 use Rattle.mbf_read.proofs.numbers.fill_row.Tie as tie
 
@@ -67,7 +68,7 @@ place c =
 few : (c : tie.In-loop Inv-loop μ-loop) → c .before .before .before .before .before .before .args .row * c .before .before .before .before .before .before .args .columns + c .before .loop .column < 65536
 few c =
     let a = c .before .before .before .before .before .before .args in
-    place-few (a .columns) (a .row) (c .before .loop .column) (omega arith) (omega arith) (omega arith)
+    place-small (a .columns) (c .before .loop .column) (a .row) (omega arith) (omega arith) (omega arith)
 
 mines-right-requires : tie.Need-mines-right-requires Inv-loop μ-loop
 mines-right-requires c κs = search needs

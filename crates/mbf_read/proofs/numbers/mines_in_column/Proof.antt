@@ -6,7 +6,7 @@ use mathlib.Core.Path.{_≡_, ap, _∙_}
 use Rattle.game.specs.Lists.{count, range}
 use Rattle.area.proofs.Tests.{byte-le, count-none-yet, count-one-more}
 use Rattle.mbf_read.specs.Numbers.{bitIn}
-use Rattle.mbf_read.proofs.Filling.{place-few}
+use Rattle.mbf_checks.proofs.Marking.{place-small}
 use Rattle.mbf_read.proofs.numbers.mines_in_column.Statement.{statement}
 use Rattle.mbf_read.proofs.numbers.mines_in_column.Tie as tie
 
@@ -22,7 +22,7 @@ loop-holds c = (omega arith, omega arith, count-none-yet (bitIn (c .before .args
 
 -- the place of a bit
 few : (c : tie.In-loop Inv-loop μ-loop) → c .before .loop .row * c .before .before .before .args .columns + c .before .before .before .args .column < 65536
-few c = let a = c .before .before .before .args in place-few (a .columns) (c .before .loop .row) (a .column) (omega arith) (omega arith) (omega arith)
+few c = let a = c .before .before .before .args in place-small (a .columns) (a .column) (c .before .loop .row) (omega arith) (omega arith) (omega arith)
 
 mul-is-set : tie.Need-mul-is-set Inv-loop μ-loop
 mul-is-set c = omega (arith, few c)
