@@ -1,6 +1,6 @@
-//! Measures ours and the Rust on the same boards in one run, then our replays and our files, and prints the tables. docs/SPEED.md says what is counted.
+//! Measures ours and the Rust on the same boards in one run, then our replays, our files and our strict calls, and prints the tables. docs/SPEED.md says what is counted.
 //!
-//! With no word it runs all rows, with `replays` or `files` these alone. `count ROW SIDE`, `replay ROW` and `file ROW` are what it runs of itself under callgrind: one call a board.
+//! With no word it runs all rows, with `replays`, `files` or `strict` these alone. `count ROW SIDE`, `replay ROW`, `file ROW` and `form ROW` are what it runs of itself under callgrind: one call a board.
 #[allow(dead_code)]
 #[path = "../oracle/boards.rs"]
 mod boards;
@@ -17,13 +17,14 @@ mod ours;
 mod replays;
 mod rows;
 mod sides;
+mod strict;
 mod table;
 
 use original::safe_board; // where the Rust looks for it
 use rows::Row;
 use sides::{MEASURED, SIDES, Side};
 use std::process::Command;
-use table::{Filed, Measures, Replayed};
+use table::{Filed, Formed, Measures, Replayed};
 
 /// Prints each answer: both sides must print the same.
 fn count(row: &Row, side: Side) {
@@ -46,6 +47,14 @@ fn file(row: &files::Row) {
     let boards = row.lot.make();
     for case in &mut files::cases(row, &boards) {
         files::play(case);
+    }
+}
+
+/// Counts each board in a form; ends if an answer is wrong.
+fn form(row: &strict::Row) {
+    let boards = row.lot.make();
+    for case in &mut strict::cases(row, &boards) {
+        strict::play(case);
     }
 }
 
@@ -175,6 +184,25 @@ fn measure_file(place: usize, row: &files::Row) -> Filed {
     }
 }
 
+/// A form of 3BV measured.
+fn measure_form(place: usize, row: &strict::Row) -> Formed {
+    let boards = row.lot.make();
+    let mut cases = strict::cases(row, &boards);
+    let words = ["form", &place.to_string()];
+    let (instructions, time) = alone(
+        &row.file_name(),
+        &words,
+        &mut cases,
+        strict::play,
+        row.samples,
+    );
+    Formed {
+        row: *row,
+        instructions,
+        time,
+    }
+}
+
 /// All rows beside the Rust.
 fn print_rows() {
     let rows = rows::all();
@@ -199,6 +227,14 @@ fn print_files() {
     table::print_files(&filed.collect::<Vec<Filed>>());
 }
 
+/// All forms.
+fn print_forms() {
+    let rows = strict::all();
+    let rows = rows.iter().enumerate();
+    let formed = rows.map(|(place, row)| measure_form(place, row));
+    table::print_forms(&formed.collect::<Vec<Formed>>());
+}
+
 fn run() {
     let words: Vec<String> = std::env::args().skip(1).collect();
     let words: Vec<&str> = words.iter().map(String::as_str).collect();
@@ -208,10 +244,12 @@ fn run() {
             print_rows();
             print_replays();
             print_files();
+            print_forms();
             table::print_notes();
         }
         ["replays"] => print_replays(),
         ["files"] => print_files(),
+        ["strict"] => print_forms(),
         ["count", place, side] => {
             let side = SIDES.into_iter().find(|one| one.word() == side);
             let side = side.expect("ours or rust");
@@ -219,8 +257,9 @@ fn run() {
         }
         ["replay", place] => replay(&replays::all()[place_of(place)]),
         ["file", place] => file(&files::all()[place_of(place)]),
+        ["form", place] => form(&strict::all()[place_of(place)]),
         _ => panic!(
-            "no words, or: replays, or: files, or: count ROW SIDE, or: replay ROW, or: file ROW"
+            "no words, or: replays, or: files, or: strict, or: count ROW SIDE, or: replay ROW, or: file ROW, or: form ROW"
         ),
     }
 }

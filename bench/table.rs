@@ -2,6 +2,7 @@
 use crate::files::{self, Work};
 use crate::replays;
 use crate::rows::{ROUNDS, Row, is_league_grown};
+use crate::strict::{self, Form};
 
 /// Instructions and microseconds of one call: ours, the Rust's.
 pub struct Measures {
@@ -21,6 +22,13 @@ pub struct Replayed {
 /// One read or write of ours: instructions and microseconds.
 pub struct Filed {
     pub row: files::Row,
+    pub instructions: f64,
+    pub time: f64,
+}
+
+/// A form of 3BV measured.
+pub struct Formed {
+    pub row: strict::Row,
     pub instructions: f64,
     pub time: f64,
 }
@@ -152,6 +160,37 @@ pub fn print_files(all: &[Filed]) {
     }
 }
 
+const FORMS: &str = "\
+| call | board | boards | instructions | a cell | a cell, beyond the present form | µs | samples |
+|---|---|--:|--:|--:|--:|--:|--:|";
+
+fn print_form(formed: &Formed, present: &Formed) {
+    let row = formed.row;
+    let cells = row.lot.cells() as f64;
+    let beyond = (formed.instructions - present.instructions) / cells;
+    println!(
+        "| {} | {} | {} | {} | {} | {} | {} | {} |",
+        row.form.name(),
+        row.lot.name(),
+        row.lot.boards,
+        shown(formed.instructions),
+        shown(formed.instructions / cells),
+        if row.form == Form::Strict { shown(beyond) } else { String::new() },
+        shown(formed.time),
+        row.samples
+    );
+}
+
+/// The table of the strict calls.
+pub fn print_forms(all: &[Formed]) {
+    println!("\n{FORMS}");
+    for formed in all {
+        let present =
+            |other: &&Formed| other.row.form == Form::Present && other.row.lot == formed.row.lot;
+        print_form(formed, all.iter().find(present).expect("the present form"));
+    }
+}
+
 /// The ratios, and how they grow.
 pub fn print(all: &[Measures]) {
     println!("{RATIOS}");
@@ -174,6 +213,7 @@ Ours: the archive's names; work area and list are lent once a board, with 7 and 
 The Rust: cal_zini, cal_hzini and cal_rzini with their copy of the board and their own cells, made anew in each call; its random bytes are lent before the call.
 3BV setup: lavgerin_three_bv, which also counts and hands the work area back, beside build_cells_ref and initboard, without the copy.
 Replays: lavgerin_replay, the moves of a list the mean over the boards; moves made, safe cells still closed and the ending are checked.
-Files: lavgerin_read_mbf and lavgerin_write_mbf, mines in index order; the mines read and the bytes written are checked, and that a refused read leaves the grid."
+Files: lavgerin_read_mbf and lavgerin_write_mbf, mines in index order; the mines read and the bytes written are checked, and that a refused read leaves the grid.
+Strict calls: lavgerin_three_bv and lavgerin_strict_three_bv on boards with right numbers; the cell that NUMBER names is checked, and that it leaves the work area."
     );
 }

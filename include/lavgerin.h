@@ -11,7 +11,8 @@
  * length.
  *
  * Each function returns the number of the refusal, 0 for success. Answers go through the pointers; on a refusal what
- * stands there is left alone, except that replay writes the bad move's place to *made on LAVGERIN_MOVE.
+ * stands there is left alone, except that replay writes the bad move's place to *made on LAVGERIN_MOVE, and a strict
+ * function the index of the lowest cell at fault behind its first answer pointer on LAVGERIN_NUMBER.
  * All refusals but LAVGERIN_DRAWS and LAVGERIN_MOVE change nothing lent.
  *
  * Any numbers and lengths may be passed. A length counts elements, not bytes. Every pointer must be valid for its
@@ -47,7 +48,9 @@ enum {
     LAVGERIN_DRAWS = 6,  /* four bytes were needed and fewer were left: the first 5 x cells numbers and cells moves are 0 */
     LAVGERIN_MOVE = 7,   /* replay met a move that isn't legal, as none is after a won or lost game, another kind, or an
                             index past the grid: the position before it is left */
-    LAVGERIN_FILE = 10   /* the file isn't well formed: its length, a mine past the edge, or one listed twice */
+    LAVGERIN_FILE = 10,  /* the file isn't well formed: its length, a mine past the edge, or one listed twice */
+    LAVGERIN_NUMBER = 11 /* of the strict functions, checked after BOARD and before WORK: a safe cell's value isn't its
+                            number */
 };
 
 /* The kinds of moves. */
@@ -131,6 +134,41 @@ uint8_t lavgerin_read_mbf(const uint8_t *file, size_t file_length, int32_t *grid
  * a file_length below 4 + 2 x mines. */
 uint8_t lavgerin_write_mbf(size_t rows, size_t columns, const int32_t *grid, size_t grid_length,
                            uint8_t *file, size_t file_length, uint64_t *written);
+
+/* The strict forms, for grids that were typed: each takes only -1 for a mine and, for a safe cell, exactly its number,
+ * the mines in its square. Any other grid of the right length is LAVGERIN_NUMBER, and the lowest index of a cell whose
+ * value is wrong stands behind the first answer pointer (*units, *clicks, *made or *written); nothing else is changed.
+ * On a grid without a wrong value each does what the function without strict_ does, refusals too. A -1 typed for a
+ * number is a mine like any other, so then a neighbour is named.
+ *
+ * Checked in this order: LAVGERIN_SHAPE, LAVGERIN_BOARD for the grid's length, LAVGERIN_NUMBER, and then the others. */
+uint8_t lavgerin_strict_three_bv(size_t rows, size_t columns, const int32_t *grid, size_t grid_length,
+                                 int32_t *work, size_t work_length, uint64_t *units);
+
+uint8_t lavgerin_strict_greedy(size_t rows, size_t columns, const int32_t *grid, size_t grid_length,
+                               int32_t *work, size_t work_length, uint32_t *list, size_t list_length,
+                               uint64_t *clicks);
+
+uint8_t lavgerin_strict_openings_first(size_t rows, size_t columns, const int32_t *grid, size_t grid_length,
+                                       int32_t *work, size_t work_length, uint32_t *list, size_t list_length,
+                                       uint64_t *clicks);
+
+uint8_t lavgerin_strict_random_round(size_t rows, size_t columns, const int32_t *grid, size_t grid_length,
+                                     int32_t *work, size_t work_length, uint32_t *list, size_t list_length,
+                                     const uint8_t *draws, size_t draws_length,
+                                     uint64_t *clicks, uint64_t *used);
+
+uint8_t lavgerin_strict_random_search(size_t rows, size_t columns, const int32_t *grid, size_t grid_length,
+                                      int32_t *work, size_t work_length,
+                                      const uint8_t *draws, size_t draws_length, size_t rounds,
+                                      uint64_t *clicks, uint64_t *used);
+
+uint8_t lavgerin_strict_replay(size_t rows, size_t columns, const int32_t *grid, size_t grid_length,
+                               int32_t *work, size_t work_length, const uint32_t *list, size_t list_length,
+                               size_t count, uint64_t *made, uint64_t *closed, uint64_t *ending);
+
+uint8_t lavgerin_strict_write_mbf(size_t rows, size_t columns, const int32_t *grid, size_t grid_length,
+                                  uint8_t *file, size_t file_length, uint64_t *written);
 
 #ifdef __cplusplus
 }

@@ -1,5 +1,6 @@
 /* Calls the library under its C names: the twelve boards, random rounds and searches, refusals on both sides, replays
- * with wrong flags to each ending, MBF files, and what is left alone. Exits at the first wrong answer. */
+ * with wrong flags to each ending, MBF files, the strict forms, and what is left alone. Exits at the first wrong
+ * answer. */
 #include "lavgerin.h"
 
 #include <stdio.h>
@@ -609,6 +610,123 @@ static void files(void) {
     ran("files");
 }
 
+/* What a strict call on a board with right numbers and the present call come to: their numbers, answers and everything lent. */
+static void alike(uint8_t number, uint8_t present, size_t cells, const int32_t *before, const uint32_t *moves, const uint64_t *told) {
+    EQUAL(number, present);
+    EQUAL(first, told[0]);
+    EQUAL(second, told[1]);
+    EQUAL(third, told[2]);
+    EQUAL(memcmp(work, before, (5 * cells + 1) * sizeof work[0]), 0);
+    EQUAL(memcmp(list, moves, (cells + 1) * sizeof list[0]), 0);
+}
+
+/* Runs the present and then the strict form of a call, by its number, on a board with these lengths lent; answers the strict one's number. */
+static uint8_t by_form(int strict, int call, const board *b, size_t work_length, size_t list_length, size_t rounds) {
+    static const uint8_t noughts[96] = {0};
+    size_t r = b->rows, c = b->columns, n = r * c;
+    switch (call) {
+    case 0: return (strict ? lavgerin_strict_three_bv : lavgerin_three_bv)(r, c, b->grid, n, work, work_length, &first);
+    case 1: return (strict ? lavgerin_strict_greedy : lavgerin_greedy)(r, c, b->grid, n, work, work_length, list, list_length, &first);
+    case 2: return (strict ? lavgerin_strict_openings_first : lavgerin_openings_first)(r, c, b->grid, n, work, work_length, list, list_length, &first);
+    case 3: return (strict ? lavgerin_strict_random_round : lavgerin_random_round)(r, c, b->grid, n, work, work_length, list, list_length, noughts, 32, &first, &second);
+    case 4: return (strict ? lavgerin_strict_random_search : lavgerin_random_search)(r, c, b->grid, n, work, work_length, noughts, 96, rounds, &first, &second);
+    default: return (strict ? lavgerin_strict_replay : lavgerin_replay)(r, c, b->grid, n, work, work_length, b->moves, 5, b->greedy, &first, &second, &third);
+    }
+}
+
+/* A board with the right number in each safe cell. */
+static board right(const board *b) {
+    board made = *b;
+    for (size_t row = 0; row < b->rows; row++)
+        for (size_t column = 0; column < b->columns; column++) {
+            int32_t near = 0;
+            for (size_t y = 0; y < b->rows; y++)
+                for (size_t x = 0; x < b->columns; x++)
+                    near += b->grid[y * b->columns + x] == -1 && y + 1 >= row && y <= row + 1 && x + 1 >= column && x <= column + 1;
+            if (b->grid[row * b->columns + column] != -1) made.grid[row * b->columns + column] = near;
+        }
+    return made;
+}
+
+/* Each strict call does on a board with right numbers what the present one does, with lengths that pass and that don't. */
+static void same_forms(const board *b, size_t work_length, size_t list_length, size_t rounds) {
+    static int32_t before[46];
+    static uint32_t moves[10];
+    for (int call = 0; call < 6; call++) {
+        lend();
+        uint8_t present = by_form(0, call, b, work_length, list_length, rounds);
+        uint64_t told[3] = {first, second, third};
+        memcpy(before, work, sizeof before);
+        memcpy(moves, list, sizeof moves);
+        lend();
+        alike(by_form(1, call, b, work_length, list_length, rounds), present, b->rows * b->columns, before, moves, told);
+    }
+}
+
+/* Each strict call is NUMBER with a cell behind the first pointer, and nothing else is changed, whatever the lengths and rounds. */
+static void faulty(const board *b, uint64_t cell) {
+    size_t cells = b->rows * b->columns;
+    for (int call = 0; call < 6; call++)
+        for (size_t less = 0; less < 2; less++) {
+            lend();
+            EQUAL(by_form(1, call, b, 5 * cells - less, cells - less, 1 - less), LAVGERIN_NUMBER);
+            EQUAL(first, cell);
+            EQUAL(second, UNTOLD);
+            EQUAL(third, UNTOLD);
+            untouched_from(0, 0);
+        }
+    for (size_t k = 0; k < sizeof file; k++) file[k] = LENT_BYTE;
+    first = UNTOLD;
+    EQUAL(lavgerin_strict_write_mbf(b->rows, b->columns, b->grid, cells, file, 3, &first), LAVGERIN_NUMBER);
+    EQUAL(first, cell);
+    for (size_t k = 0; k < 8; k++) EQUAL(file[k], LENT_BYTE);
+}
+
+/* A board with one value changed by so much, by its place in row order: the cell that is then named. */
+static void damaged(const board *b, size_t place, int32_t more, uint64_t cell) {
+    board made = *b;
+    made.grid[place] += more;
+    faulty(&made, cell);
+}
+
+/* The strict forms: right numbers, one too high, one too low, -2, a mine more, two wrong cells, the last of the largest board. */
+static void strict(void) {
+    for (size_t k = 0; k < 12; k++) {
+        board b = right(&P[k]);
+        size_t cells = b.rows * b.columns;
+        same_forms(&b, 5 * cells, cells, 1);
+        same_forms(&b, 5 * cells - 1, cells, 1);
+        same_forms(&b, 5 * cells, cells - 1, 0);
+    }
+    faulty(&P[2], 0);
+    board b = right(P11);
+    for (size_t place = 0; place < 9; place++) {
+        uint64_t cell = place % 3 * 3 + place / 3;
+        if (place == 4) continue;
+        damaged(&b, place, 1, cell);
+        damaged(&b, place, -1, cell);
+        damaged(&b, place, -3, cell);
+    }
+    damaged(&b, 0, -2, 1);
+    damaged(&b, 8, -2, 5);
+    b.grid[1] = b.grid[6] = 2;
+    faulty(&b, 2);
+    memset(grid, 0, sizeof grid);
+    lend();
+    EQUAL(lavgerin_strict_three_bv(255, 255, grid, MOST, work, 5 * MOST, &first), 0);
+    EQUAL(first, 1);
+    grid[MOST - 1] = 1;
+    lend();
+    EQUAL(lavgerin_strict_three_bv(255, 255, grid, MOST, work, 0, &first), LAVGERIN_NUMBER);
+    EQUAL(first, MOST - 1);
+    untouched_from(0, 0);
+    lend();
+    refused(lavgerin_strict_three_bv(256, 1, grid, 256, work, 0, &first), LAVGERIN_SHAPE);
+    refused(lavgerin_strict_three_bv(255, 255, grid, MOST + 1, work, 0, &first), LAVGERIN_BOARD);
+    grid[MOST - 1] = 0;
+    ran("strict");
+}
+
 int main(void) {
     boards();
     draws();
@@ -617,6 +735,7 @@ int main(void) {
     endings();
     large();
     files();
+    strict();
     printf("all as expected\n");
     return 0;
 }

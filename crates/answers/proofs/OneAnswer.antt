@@ -1,11 +1,16 @@
 -- There is only one answer and one end content of each lent run for every call: the promises are functions, and each enum is read back from its number and values. Assumes nothing.
 use Prim.Native.Nat.{ℕ}
-use mathlib.Core.Path.{_≡_, refl}
+use mathlib.Core.Path.{_≡_, ap, refl, _∙_}
+use mathlib.Core.Bool.{Bool, _&&_, cond, false}
 use mathlib.Core.List.{List, [], _∷_}
 use mathlib.Mathlib.Logic.Function.Defs.{LeftInverse·injective}
 use lib.IntN.{ℤ}
-use lib.ListN.{getD}
-use Rattle.game.specs.Calls.{ListOutcome, Outcome}
+use lib.Dec.{eqb}
+use lib.ListN.{getD, length}
+use Rattle.game.specs.Calls.{Answer, ListOutcome, Outcome, namedBy, numberOf, refuses}
+use Rattle.refusals.specs.Names.{named}
+use Rattle.refusals.specs.declared.Refusal.{Refusal}
+use Rattle.refusals.specs.declared.Refusal.the-variants.{Shape, Board, Work, Trace, Rounds, Draws, Move, Frame, Size, File, Number}
 use Rattle.refusals.proofs.ReadBack.{readBack, refused-back}
 use Rattle.answers.specs.Answers.{Keeps, KeepsList, countedAnswer, pricedAnswer, replayedAnswer, rolledAnswer}
 use Rattle.answers.specs.declared.Counted.{Counted}
@@ -19,6 +24,20 @@ use Rattle.answers.specs.declared.Rolled.the-variants as Rolls
 use Rattle.answers.proofs.Promises.{keeps-once, list-once}
 
 -- ---- each enum is read back
+
+-- no refusal of that name has the number of MOVE and a place
+no-place : (f : Refusal) → (eqb (numberOf (named f)) 7 && eqb (length (namedBy (named f))) 1) ≡ false
+no-place Shape = refl
+no-place Board = refl
+no-place Work = refl
+no-place Trace = refl
+no-place Rounds = refl
+no-place Draws = refl
+no-place Move = refl
+no-place Frame = refl
+no-place Size = refl
+no-place File = refl
+no-place (Number cell) = refl
 
 counted-same : (r r′ : Counted) → countedAnswer r ≡ countedAnswer r′ → r ≡ r′
 counted-same = LeftInverse·injective (readBack units Counts.Refused) countedAnswer back
@@ -50,19 +69,21 @@ rolled-same = LeftInverse·injective (readBack clicks Rolls.Refused) rolledAnswe
     back (Rolls.Clicks n k) = refl
     back (Rolls.Refused f) = refused-back clicks Rolls.Refused f
 
--- a replay: success by three values, a bad move by its place alone
+-- a replay: success by its values; of the refusals MOVE alone may have a place besides
 replayed-same : (r r′ : Replayed) → replayedAnswer r ≡ replayedAnswer r′ → r ≡ r′
-replayed-same = LeftInverse·injective (readBack told Replays.Refused) replayedAnswer back
+replayed-same = LeftInverse·injective read replayedAnswer back
   where
-    told : List ℕ → Replayed
-    told (n ∷ k ∷ vs) = Replays.Played n k (getD vs 0 0)
-    told (k ∷ []) = Replays.Move k
-    told [] = Replays.Move 0
+    played : List ℕ → Replayed
+    played vs = Replays.Played (getD vs 0 0) (getD vs 1 0) (getD vs 2 0)
 
-    back : (r : Replayed) → readBack told Replays.Refused (replayedAnswer r) ≡ r
+    read : Answer → Replayed
+    read a = cond (eqb (a .number) 7 && eqb (length (a .values)) 1) (Replays.Move (getD (a .values) 0 0)) (readBack played Replays.Refused a)
+
+    back : (r : Replayed) → read (replayedAnswer r) ≡ r
     back (Replays.Played n k e) = refl
     back (Replays.Move k) = refl
-    back (Replays.Refused f) = refused-back told Replays.Refused f
+    back (Replays.Refused f) =
+        ap (λ (b : Bool). cond b (Replays.Move (getD (namedBy (named f)) 0 0)) (readBack played Replays.Refused (refuses (named f)))) (no-place f) ∙ refused-back played Replays.Refused f
 
 -- ---- one answer and one end of each lent run
 

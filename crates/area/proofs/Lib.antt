@@ -9,3 +9,4 @@ pub mod Held
 pub mod Sides
 pub mod Marks
 pub mod Spans
+pub mod Columns

@@ -14,6 +14,10 @@ gridOf r c vs = record { rows = r; columns = c; values = vs }
 abbrev pub rowMine : List ℤ → ℕ → ℕ → ℕ → Bool
 rowMine vs columns row column = isMine (getD vs (row * columns + column) (pos 0))
 
+-- the same along a column
+abbrev pub columnMine : List ℤ → ℕ → ℕ → ℕ → Bool
+columnMine vs columns column row = rowMine vs columns row column
+
 -- ---- one number
 
 -- a number that is not below 0; 0 in place of one that is

@@ -11,6 +11,9 @@ pub fn is_case(text: &[u8]) -> bool {
     if fields::is(text, 2, b"read-mbf ") {
         return true;
     }
+    if fields::is(text, 2, b"strict write-mbf ") {
+        return true;
+    }
     fields::is(text, 2, b"write-mbf ")
 }
 
@@ -18,7 +21,7 @@ pub fn is_case(text: &[u8]) -> bool {
 fn of_read(answer: Board) -> Plain {
     match answer {
         Board::Cells(rows, columns) => plain::numbers(0, rows as u64, columns as u64),
-        Board::Refused(refusal) => plain::numbers(refusals::number_of(refusal) as u64, 0, 0),
+        Board::Refused(refusal) => plain::of_refusal(refusal),
     }
 }
 
@@ -26,7 +29,7 @@ fn of_read(answer: Board) -> Plain {
 fn of_written(answer: FileWritten) -> Plain {
     match answer {
         FileWritten::Bytes(count) => plain::numbers(0, count as u64, 0),
-        FileWritten::Refused(refusal) => plain::numbers(refusals::number_of(refusal) as u64, 0, 0),
+        FileWritten::Refused(refusal) => plain::of_refusal(refusal),
     }
 }
 
@@ -160,13 +163,21 @@ fn read_case(text: &[u8]) {
     read_in(text, &mut file, &mut grid);
 }
 
-// Fills what is lent to a case, writes its grid into its run of bytes, and prints the answer and the run.
-fn write_on(text: &[u8], grid: &mut [i32], file: &mut [u8]) {
+// Writes a case's grid, strictly where the case says so.
+fn write(text: &[u8], grid: &[i32], file: &mut [u8]) -> FileWritten {
     let rows = fields::number(text, b"rows=");
     let columns = fields::number(text, b"columns=");
+    if fields::is(text, 2, b"strict ") {
+        return mbf::strict_write(rows, columns, grid, file);
+    }
+    mbf::write(rows, columns, grid, file)
+}
+
+// Fills what is lent to a case, writes its grid into its run of bytes, and prints the answer and the run.
+fn write_on(text: &[u8], grid: &mut [i32], file: &mut [u8]) {
     fields::lay_values(text, b"board=", grid);
     fields::lay_bytes(text, b"file=", file);
-    trials::print_answer(of_written(mbf::write(rows, columns, grid, file)));
+    trials::print_answer(of_written(write(text, grid, file)));
     print_bytes(file);
 }
 

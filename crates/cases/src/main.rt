@@ -9,9 +9,10 @@
 //   replay          rows=N columns=N board=RUN work=RUN list=RUN count=N
 //   read-mbf        file=RUN board=RUN, or rows=N columns=N mines=N again=N board=RUN: the file that lists the first cells so and the last of them again
 //   write-mbf       rows=N columns=N board=RUN file=RUN
+// Each of them but read-mbf also with the word strict before it; those on a board also with last=VALUE, the board's last value.
 // A run is a pattern, or a pattern, x and a length: the pattern over and over up to that length. A field that is not there is 0, or a run of none.
 // The pattern of a board or a work area is values parted by commas (-1 is a mine), or a picture (* is a mine); of a list words parted by commas, or moves (L3, F4, C3, U4); of draws or a file bytes of two digits, 0 to 9 and A to F.
-// For a case its name is printed with the answer's number and two values, and behind a replay's the ending (0 unfinished, 1 won, 2 lost); then its list, if it has one, kind and index of each word; then its work area; of a file that is read the grid, of one that is written its run.
+// For a case its name is printed with the answer's number and two values (the first is NUMBER's cell), and behind a replay's the ending (0 unfinished, 1 won, 2 lost); then its list, if it has one, kind and index of each word; then its work area; of a file that is read the grid, of one that is written its run.
 // Of a run of more than 255 numbers two sums are printed: of the numbers above 0, and of the sums up to each. A line that begins with # is printed as it is.
 mod files; // the cases of MBF files
 
@@ -22,11 +23,49 @@ use zini::count;
 use zini::prices;
 use zini::random_calls;
 use zini::replays;
+use zini::strict;
 ghost use Prim.Native.Nat.{_≤_};
 ghost use lib.ListN.{length};
 
+// Runs a case's call in its strict form on what is lent to it.
+fn strict_call(
+    text: &[u8],
+    grid: &[i32],
+    work: &mut [i32],
+    list: &mut [u32],
+    draws: &[u8],
+) -> Plain {
+    let rows = fields::number(text, b"rows=");
+    let columns = fields::number(text, b"columns=");
+    if fields::is(text, 9, b"3bv ") {
+        return plain::of_counted(strict::three_bv(rows, columns, grid, work));
+    }
+    if fields::is(text, 9, b"greedy ") {
+        return plain::of_priced(strict::greedy(rows, columns, grid, work, list));
+    }
+    if fields::is(text, 9, b"openings-first ") {
+        return plain::of_priced(strict::openings_first(rows, columns, grid, work, list));
+    }
+    if fields::is(text, 9, b"random-round ") {
+        return plain::of_rolled(strict::random_round(rows, columns, grid, work, list, draws));
+    }
+    if fields::is(text, 9, b"random-search ") {
+        let rounds = fields::number(text, b"rounds=");
+        return plain::of_rolled(strict::random_search(rows, columns, grid, work, draws, rounds));
+    }
+    if fields::is(text, 9, b"replay ") {
+        let moves = fields::number(text, b"count=");
+        return plain::of_replayed(strict::replay(rows, columns, grid, work, list, moves));
+    }
+    io::write_all(1, b" no such call");
+    plain::numbers(0, 0, 0)
+}
+
 // Runs a case's call on what is lent to it.
 fn call(text: &[u8], grid: &[i32], work: &mut [i32], list: &mut [u32], draws: &[u8]) -> Plain {
+    if fields::is(text, 2, b"strict ") {
+        return strict_call(text, grid, work, list, draws);
+    }
     let rows = fields::number(text, b"rows=");
     let columns = fields::number(text, b"columns=");
     if fields::is(text, 2, b"3bv ") {
@@ -67,9 +106,15 @@ fn print_list(list: &[u32]) {
     }
 }
 
+// A board filled with a case's values.
+fn lay_board(text: &[u8], grid: &mut [i32]) {
+    fields::lay_values(text, b"board=", grid);
+    fields::lay_last(text, b"last=", grid);
+}
+
 // Fills what is lent to a case, runs its call, and prints what was lent.
 fn run_on(text: &[u8], grid: &mut [i32], work: &mut [i32], list: &mut [u32], draws: &mut [u8]) {
-    fields::lay_values(text, b"board=", grid);
+    lay_board(text, grid);
     fields::lay_values(text, b"work=", work);
     fields::lay_words(text, b"list=", list);
     fields::lay_bytes(text, b"draws=", draws);

@@ -9,19 +9,17 @@ use mathlib.Core.Option.{Option, Option·some-ne-none, none, some}
 use lib.Dec.{eqb, ltb}
 use borrow.Author.Tests.{eq-eqb, le-ltb, lt-ltb, ne-eqb}
 use Rattle.game.specs.Calls.{Check, Refusal, firstGiven}
-use Rattle.game.proofs.Checks.{given-append, orElse}
+use Rattle.game.proofs.Checks.{first-decides, others-decide}
 
 -- the check that a value reaches its least
 abbrev pub reaches : ℕ → ℕ → Refusal → List Check
 reaches value least f = record { given = ltb value least; refusal = f } ∷ []
 
 pub first-stands : (cs ds : List Check) (f : Refusal) → some f ≡ firstGiven cs → some f ≡ firstGiven (cs ++ ds)
-unfolding orElse
-first-stands cs ds f e = ap (λ (o : Option Refusal). orElse o (firstGiven ds)) e ∙ sym (given-append cs ds)
+first-stands cs ds f e = sym (first-decides cs ds f (sym e))
 
 pub last-decides : (cs ds : List Check) → none ≡ firstGiven cs → firstGiven ds ≡ firstGiven (cs ++ ds)
-unfolding orElse
-last-decides cs ds e = ap (λ (o : Option Refusal). orElse o (firstGiven ds)) e ∙ sym (given-append cs ds)
+last-decides cs ds e = sym (others-decide cs ds (sym e))
 
 -- the verdict of one check by its test
 abbrev alone : Refusal → Bool → Option Refusal

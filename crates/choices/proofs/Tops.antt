@@ -20,10 +20,10 @@ use Rattle.area.proofs.Cells.{cell-below}
 use Rattle.choices.specs.Picks.{foundFirst}
 use Rattle.choices.specs.Tests.{lookedAt, topAt}
 use Rattle.choices.specs.Tops.{firstOf}
-use Rattle.game.specs.Grid.{Grid, cells, safe, size}
+use Rattle.game.specs.Grid.{Grid, cells, safe, same, size}
 use Rattle.game.specs.Lists.{has, keep, range}
 use Rattle.game.specs.Position.{Position, opened, premium}
-use Rattle.game.specs.Rounds.{highest, leastChosen, looked, same, topCells}
+use Rattle.game.specs.Rounds.{highest, leastChosen, looked, topCells}
 use Rattle.choices.proofs.Columns.{Leading, Led, cell-bound, column-has, led-all, top→looked}
 use Rattle.choices.proofs.Held.{looked→, premium→raised, raised→premium, raised→safe, reaches→, →looked, →reaches}
 use Rattle.choices.proofs.Passing.{first-there, found-at}

@@ -17,7 +17,7 @@ use Rattle.game.specs.Moves.{Move, Replayed, after, allowed, blow, cellO
 use Rattle.game.specs.Openings.{chainedTo, gather, grow, holds, labels, openings, places, threeBV, unlabelled}
 use Rattle.game.specs.Position.{Position, cellUnit, closed, closedSafe, cost, ending, flagged, gain, lost, opened, openingClosed, premium, unflagged, unopened, untouched}
 use Rattle.game.specs.Rounds.{Choice, Round, Searched, Step, before, choice, chords, clickStep, clicks, firstClicks, greedySteps, highest, leastChosen, looked, movesAt, movesOf, openingClicks, openingsFirstSteps, randomFrom, randomRound, randomSearch, roundSteps, searchFrom, stepOf, stepsFrom, topCells, unitCells, width}
-use Rattle.game.specs.Rounds as rounds
+use Rattle.game.specs.Grid as grids
 
 -- the grid with other values
 abbrev pub revalued : Grid → List ℤ → Grid
@@ -207,7 +207,7 @@ module _ (g : Grid) (vs : List ℤ) where
     unfolding topCells
     tops b = λ j s.
         let m = highest (map (premiums j s) (looks b j s)) in
-        keep (λ i. leZ leastChosen m && rounds.same (premiums j s i) m) (looks b j s)
+        keep (λ i. leZ leastChosen m && grids.same (premiums j s i) m) (looks b j s)
 
     unit-cells : unitCells g ≡ unitCells h
     unfolding unitCells

@@ -3,20 +3,22 @@ use Prim.Native.Nat.{ℕ, _*_, _+_, _/_, _%_, _<_}
 use native.Mathlib.Decide.{decLt}
 use native.Mathlib.Nat.{div-add-mod', div-lt-iff-lt-mul, mod-lt}
 use native.Mathlib.Omega.{arith}
-use mathlib.Core.Path.{_∙_, _≡_, ap, refl, sym}
+use mathlib.Core.Path.{_∙_, _≡_, ap, ap₂, refl, sym}
 use mathlib.Core.Bool.{Bool, cond, false, true}
 use mathlib.Core.List.{List}
 use mathlib.Core.Option.{none}
 use borrow.Author.Tests.{eqb-true, not-false}
+use lib.Arith.{digits-div, digits-lt, digits-mod}
 use lib.Dec.{eqb}
 use lib.IntN.{negsuc, pos, ℤ}
 use lib.ListN.{List·getD-eq-default, getD, length, length-map}
+use lib.Seq.{ext-getD}
 use Rattle.game.specs.Calls.{boardChecks, firstGiven}
-use Rattle.game.specs.Grid.{Grid, canonical, cellAt, cells, columnOf, isMine, mine, number, rightValue, rightValues, rowOf, size}
+use Rattle.game.specs.Grid.{Grid, canonical, cellAt, cells, columnOf, index, isMine, mine, number, rightValue, rightValues, rowOf, size, valueAt}
 use Rattle.game.proofs.Alike.{SameCalls, calls-same, revalued, right-same}
 use Rattle.game.proofs.Checks.{each-fails}
 use Rattle.game.proofs.Members.{getD-range}
-use Rattle.game.proofs.Squares.{column-lt, index-column, index-lt, index-row, length-cells}
+use Rattle.game.proofs.Squares.{column-lt, index-column, index-lt, index-of, index-row, length-cells, row-lt}
 
 -- ---- the cell at a place
 
@@ -41,6 +43,12 @@ module _ (g : Grid) (p : ℕ) (h : p < size g) where
   unfolding mine
   mine-at-place = ap (λ (k : ℕ). isMine (getD (g .values) k (pos 0))) cell-at-place
 
+-- the cell at the place of a cell's value
+pub cell-back : (g : Grid) (i : ℕ) → i < size g → cellAt g (rowOf g i * g .columns + columnOf g i) ≡ i
+cell-back g i h =
+    let k = column-lt g i h in
+    ap₂ (index g) (digits-div (rowOf g i) k) (digits-mod (rowOf g i) k) ∙ index-of g i
+
 -- ---- the right values
 
 -- how many values the canonical grid has
@@ -52,6 +60,20 @@ length-right g = length-map (cells g) (λ p. rightValue g (cellAt g p)) ∙ leng
 pub right-at : (g : Grid) (p : ℕ) → p < size g → getD (rightValues g) p (pos 0) ≡ rightValue g (cellAt g p)
 unfolding rightValues
 right-at g p h = getD-range (λ q. rightValue g (cellAt g q)) (pos 0) (size g) p h
+
+-- in the canonical grid each cell has its right value
+pub canonical-value : (g : Grid) (i : ℕ) → i < size g → valueAt (canonical g) i ≡ rightValue g i
+canonical-value g i h =
+    right-at g (rowOf g i * g .columns + columnOf g i) (digits-lt (row-lt g i h) (column-lt g i h)) ∙ ap (rightValue g) (cell-back g i h)
+
+-- a grid in which each cell has its right value is the canonical one
+pub right-canonical : (g : Grid) → length (g .values) ≡ size g → ((i : ℕ) → i < size g → valueAt g i ≡ rightValue g i) → g ≡ canonical g
+right-canonical g long right = λ j. revalued g (ext-getD (pos 0) (g .values) (rightValues g) (long ∙ sym (length-right g)) at-place j)
+  where
+    at-place : (p : ℕ) → p < length (g .values) → getD (g .values) p (pos 0) ≡ getD (rightValues g) p (pos 0)
+    at-place p l =
+        let h : p < size g = omega arith in
+        sym (ap (λ (q : ℕ). getD (g .values) q (pos 0)) (cell-at-place g p h)) ∙ right (cellAt g p) (cell-at-lt g p h) ∙ sym (right-at g p h)
 
 -- a right value is a mine where the cell is one
 pub right-mine : (g : Grid) (i : ℕ) → isMine (rightValue g i) ≡ mine g i

@@ -35,6 +35,16 @@ given-append (c ∷ cs) ds = go (c .given) (given-append cs ds)
     go true r = refl
     go false r = r
 
+-- a refusal of the first checks stands
+pub first-decides : (cs ds : List Check) (f : Refusal) → firstGiven cs ≡ some f → firstGiven (cs ++ ds) ≡ some f
+unfolding orElse
+first-decides cs ds f e = given-append cs ds ∙ ap (λ (o : Option Refusal). orElse o (firstGiven ds)) e
+
+-- after checks that give no refusal the others decide
+pub others-decide : (cs ds : List Check) → firstGiven cs ≡ none → firstGiven (cs ++ ds) ≡ firstGiven ds
+unfolding orElse
+others-decide cs ds e = given-append cs ds ∙ ap (λ (o : Option Refusal). orElse o (firstGiven ds)) e
+
 -- the verdict is the refusal of one of the checks: what holds of each of theirs holds of it
 pub given-each : (P : Refusal → Type 0) (cs : List Check) → Each (λ (c : Check). P (c .refusal)) cs → IfSome P (firstGiven cs)
 given-each P [] h = tt

@@ -8,11 +8,11 @@ use mathlib.Core.List.{List, [], _∷_, map}
 use lib.Dec.{T, leb, leb→le, le→leb, ltb, nleb→lt, nltb→le}
 use lib.IntN.{_-ℤ_, negsuc, pos, ℤ}
 use lib.Signed.{leZ, ≤ℤ-refl}
-use Rattle.game.specs.Grid.{Grid, cells, safe, size, zeroCell}
+use Rattle.game.specs.Grid.{Grid, cells, safe, same, size, zeroCell}
 use Rattle.game.specs.Lists.{has, some-of}
 use Rattle.game.specs.Openings.{holds, openings, unlabelled}
 use Rattle.game.specs.Position.{Position, Tidy, closed, closedSafe, cost, gain, opened, premium, unopened}
-use Rattle.game.specs.Rounds.{Choice, choice, chords, clicks, closedUnitCell, highest, leastChosen, looked, same, topCells, unitCells, width}
+use Rattle.game.specs.Rounds.{Choice, choice, chords, clicks, closedUnitCell, highest, leastChosen, looked, topCells, unitCells, width}
 use Rattle.game.proofs.Counts.{count-find}
 use Rattle.game.proofs.Labels.{labelled→zero}
 use Rattle.game.proofs.Members.{first-of, has-cases, has-keep, has-length, keep-has, rest-of}

@@ -43,3 +43,5 @@ pub mod Reaches
 pub mod Carried
 pub mod Alike
 pub mod Canonical
+pub mod Strict
+pub mod StrictCalls

@@ -1,13 +1,13 @@
 -- The whole promise of each public call: its answer, and each lent run at exit, for all inputs (RULES 6.2, 7, 8). Assumes nothing.
 use Prim.Native.Nat.{ℕ, _*_}
 use mathlib.Core.Bool.{Bool, true, false, not, _||_}
-use mathlib.Core.List.{List, [], _∷_, _++_}
+use mathlib.Core.List.{List, [], _∷_, _++_, map}
 use mathlib.Core.Option.{Option, none, some}
 use lib.IntN.{ℤ}
 use lib.ListN.{length, take}
 use lib.Dec.{eqb, ltb}
 use Rattle.game.specs.Draws.{Source, lent}
-use Rattle.game.specs.Grid.{Grid, size}
+use Rattle.game.specs.Grid.{Grid, cells, size, wrong}
 use Rattle.game.specs.Openings.{threeBV}
 use Rattle.game.specs.Position.{untouched, closedSafe, ending}
 use Rattle.game.specs.Moves.{Move, after, Replayed, whole, stopped, replayFrom}
@@ -16,9 +16,10 @@ use Rattle.game.specs.Area.{areaOf, listOf, clearedArea, clearedList}
 
 -- ---- answers and refusals
 
--- the refusals by name
+-- the refusals by name; NUMBER names a cell
 pub data Refusal : Type 0 where
   shape board work trace rounds draws move frame size-over file-wrong : Refusal
+  number-wrong : ℕ → Refusal
 
 -- the refusals by number
 abbrev pub numberOf : Refusal → ℕ
@@ -32,8 +33,23 @@ numberOf move = 7
 numberOf frame = 8
 numberOf size-over = 9
 numberOf file-wrong = 10
+numberOf (number-wrong cell) = 11
 
--- an answer: 0 and its values, or the refusal's number, to which MOVE adds a place
+-- what a refusal names besides its number: NUMBER the cell at fault
+abbrev pub namedBy : Refusal → List ℕ
+namedBy (number-wrong cell) = cell ∷ []
+namedBy shape = []
+namedBy board = []
+namedBy work = []
+namedBy trace = []
+namedBy rounds = []
+namedBy draws = []
+namedBy move = []
+namedBy frame = []
+namedBy size-over = []
+namedBy file-wrong = []
+
+-- an answer: 0 and its values, or the refusal's number, to which MOVE adds a place and NUMBER a cell
 pub record Answer : Type 0 where
   pub number : ℕ
   pub values : List ℕ
@@ -42,9 +58,9 @@ pub record Answer : Type 0 where
 abbrev pub gives : List ℕ → Answer
 gives vs = record { number = 0; values = vs }
 
--- a refusal answers its number alone
+-- a refusal answers its number, and what it names
 abbrev pub refuses : Refusal → Answer
-refuses f = record { number = numberOf f; values = [] }
+refuses f = record { number = numberOf f; values = namedBy f }
 
 -- what a call without a list comes to: the answer, and the work area at exit
 pub record Outcome : Type 0 where
@@ -113,17 +129,36 @@ boardChecks g = shapeCheck g ∷ boardCheck g ∷ []
 abbrev pub gridChecks : Grid → List ℤ → List Check
 gridChecks g ws = boardChecks g ++ workCheck g ws ∷ []
 
+-- NUMBER: the value of a cell is wrong
+abbrev pub numberCheck : Grid → ℕ → Check
+numberCheck g i = record { given = wrong g i; refusal = number-wrong i }
+
+-- the first checks of every strict call, in their order: the board's, then each cell's, the lowest first
+abbrev pub strictChecks : Grid → List Check
+strictChecks g = boardChecks g ++ map (numberCheck g) (cells g)
+
 -- ---- the calls
+
+-- where a refusal is given, what it leaves; otherwise the call comes to an outcome
+abbrev pub decided : {A : Type 0} → Option Refusal → (Refusal → A) → A → A
+decided (some f) leaves o = leaves f
+decided none leaves o = o
+
+-- a refusal changes nothing lent
+abbrev pub kept : List ℤ → Refusal → Outcome
+kept ws f = record { answer = refuses f; work = ws }
+
+-- the same with a list
+abbrev pub keptListed : List ℤ → List ℕ → Refusal → ListOutcome
+keptListed ws ms f = record { answer = refuses f; work = ws; list = ms }
 
 -- a refusal changes nothing lent; otherwise the call comes to an outcome
 abbrev pub unless : Option Refusal → List ℤ → Outcome → Outcome
-unless (some f) ws o = record { answer = refuses f; work = ws }
-unless none ws o = o
+unless given ws o = decided given (kept ws) o
 
 -- the same with a list
 abbrev pub unlessListed : Option Refusal → List ℤ → List ℕ → ListOutcome → ListOutcome
-unlessListed (some f) ws ms o = record { answer = refuses f; work = ws; list = ms }
-unlessListed none ws ms o = o
+unlessListed given ws ms o = decided given (keptListed ws ms) o
 
 -- the 3BV count leaves the position before any move
 unfoldable pub threeBVCall : Grid → List ℤ → Outcome
@@ -200,3 +235,29 @@ replayedList g ws ms n = replayed g n (replayFrom g 0 (untouched g) (take n ms))
 -- replay of the first n moves of a list, which stays as it is
 unfoldable pub replayCall : Grid → List ℤ → List ℕ → ℕ → Outcome
 replayCall g ws ms n = unless (firstGiven (gridChecks g ws ++ countCheck n ms ∷ [])) ws (replayedList g ws ms n)
+
+-- ---- the strict calls
+
+-- a strict call: SHAPE, BOARD and NUMBER leave what a refusal leaves; otherwise it comes to what the present call does
+abbrev pub strictly : {A : Type 0} → (Refusal → A) → Grid → A → A
+strictly leaves g present = decided (firstGiven (strictChecks g)) leaves present
+
+-- the 3BV count, strictly
+abbrev pub strictThreeBVCall : Grid → List ℤ → Outcome
+strictThreeBVCall g ws = strictly (kept ws) g (threeBVCall g ws)
+
+-- greedy, or openings-first, strictly
+abbrev pub strictPriceCall : Bool → Grid → List ℤ → List ℕ → ListOutcome
+strictPriceCall openingsFirst g ws ms = strictly (keptListed ws ms) g (priceCall openingsFirst g ws ms)
+
+-- a single random round, strictly
+abbrev pub strictRandomRoundCall : Grid → List ℤ → List ℕ → List ℕ → ListOutcome
+strictRandomRoundCall g ws ms bytes = strictly (keptListed ws ms) g (randomRoundCall g ws ms bytes)
+
+-- random search, strictly
+abbrev pub strictRandomSearchCall : Grid → List ℤ → List ℕ → ℕ → Outcome
+strictRandomSearchCall g ws bytes n = strictly (kept ws) g (randomSearchCall g ws bytes n)
+
+-- replay, strictly
+abbrev pub strictReplayCall : Grid → List ℤ → List ℕ → ℕ → Outcome
+strictReplayCall g ws ms n = strictly (kept ws) g (replayCall g ws ms n)

@@ -1,8 +1,9 @@
--- The grid, a cell's square and its number (RULES 1, 2.1, 2.2), and the canonical grid (1.4). Assumes nothing.
+-- The grid, a cell's square and its number (RULES 1, 2.1, 2.2), the canonical grid and values that are wrong (1.4, 1.5). Assumes nothing.
 use Prim.Native.Nat.{ℕ, zero, suc, _+_, _-_, _*_, _/_, _%_, min}
-use mathlib.Core.Bool.{Bool, true, false, not, cond}
+use mathlib.Core.Bool.{Bool, true, false, _&&_, not, cond}
 use mathlib.Core.List.{List, map}
 use lib.IntN.{ℤ, pos, negsuc}
+use lib.Signed.{leZ}
 use lib.ListN.{getD}
 use lib.Dec.{eqb}
 use Rattle.game.specs.Lists.{range, count, concat-map}
@@ -18,6 +19,10 @@ abbrev pub isMine : ℤ → Bool
 isMine (pos n) = false
 isMine (negsuc zero) = true
 isMine (negsuc (suc n)) = false
+
+-- two numbers are equal
+abbrev pub same : ℤ → ℤ → Bool
+same a b = leZ a b && leZ b a
 
 -- how many cells the grid has
 abbrev pub size : Grid → ℕ
@@ -39,9 +44,13 @@ rowOf g i = i % g .rows
 abbrev pub columnOf : Grid → ℕ → ℕ
 columnOf g i = i / g .rows
 
+-- the value of a cell: values stand row after row
+abbrev pub valueAt : Grid → ℕ → ℤ
+valueAt g i = getD (g .values) (rowOf g i * g .columns + columnOf g i) (pos 0)
+
 -- the cell is a mine
 unfoldable pub mine : Grid → ℕ → Bool
-mine g i = isMine (getD (g .values) (rowOf g i * g .columns + columnOf g i) (pos 0))
+mine g i = isMine (valueAt g i)
 
 -- the cell is safe
 abbrev pub safe : Grid → ℕ → Bool
@@ -81,3 +90,9 @@ rightValues g = map (λ p. rightValue g (cellAt g p)) (range 0 (size g))
 -- the canonical grid: the same mines, and in each safe cell its number
 abbrev pub canonical : Grid → Grid
 canonical g = record { rows = g .rows; columns = g .columns; values = rightValues g }
+
+-- ---- values that are wrong
+
+-- the value of a cell is wrong: it is another than the right one
+unfoldable pub wrong : Grid → ℕ → Bool
+wrong g i = not (same (valueAt g i) (rightValue g i))

@@ -7,7 +7,7 @@ use lib.IntN.{negsuc, pos, ℤ}
 use lib.Signed.{leZ}
 use lib.ListN.{getD, length}
 use Rattle.game.specs.Draws.{Source}
-use Rattle.game.specs.Grid.{Grid, cells, safe, square, zeroCell}
+use Rattle.game.specs.Grid.{Grid, cells, safe, same, square, zeroCell}
 use Rattle.game.specs.Lists.{concat-map, keep}
 use Rattle.game.specs.Moves.{Move, after, chord, flag, left}
 use Rattle.game.specs.Openings.{threeBV, unlabelled}
@@ -21,10 +21,6 @@ looked openedOnly g s = keep (λ i. safe g i && (opened s i || not openedOnly)) 
 abbrev pub highest : List ℤ → ℤ
 highest [] = negsuc 0
 highest (p ∷ ps) = let m = highest ps in cond (leZ p m) m p
-
--- two numbers are equal
-abbrev pub same : ℤ → ℤ → Bool
-same a b = leZ a b && leZ b a
 
 -- the least premium that is chosen
 abbrev pub leastChosen : ℤ

@@ -1,16 +1,10 @@
 // The calls under C names. Each returns the refusal's number, 0 for success; answers go through pointers, and what stands there is left alone where an answer has no such value.
-use mbf::Board;
-use mbf::FileWritten;
-use refusals::Refusal;
-use refusals::number_of;
-use zini::Counted;
-use zini::Priced;
-use zini::Replayed;
-use zini::Rolled;
 ghost use Rattle.game.specs.Calls.{greedyCall, openingsFirstCall, priceCall, randomRoundCall, randomSearchCall, replayCall, threeBVCall};
 ghost use Rattle.area.specs.Numbers.{gridOf};
 ghost use Rattle.mbf_form.specs.Calls.{readFileCall, writeFileCall};
-ghost use Rattle.lavgerin.specs.Names.{Returned, ReturnedGrid, ReturnedList, ReturnedListTwo, ReturnedRun, ReturnedThree, ReturnedTwo};
+ghost use Rattle.c_answers.specs.Names.{Returned, ReturnedGrid, ReturnedList, ReturnedListTwo, ReturnedRun, ReturnedThree, ReturnedTwo};
+
+pub mod strict; // the strict forms
 
 // 3BV of a grid.
 #[no_mangle]
@@ -24,13 +18,7 @@ pub extern "C" fn lavgerin_three_bv(
     ensures { λ r. ⌜ Returned (threeBVCall (gridOf rows columns (now (grid .entry))) (now (work .entry))) r (now (work .exit)) (now (units .entry)) (now (units .exit)) ⌝ }
 {
     let answer = zini::count::three_bv(rows, columns, grid, work);
-    match answer {
-        Counted::Units(count) => {
-            *units = count as u64;
-            0
-        }
-        Counted::Refused(refusal) => number_of(refusal),
-    }
+    c_answers::tell_units(answer, units)
 }
 
 // Greedy ZiNi, or openings-first: its clicks, and its moves in the list.
@@ -46,13 +34,7 @@ fn price(
     ensures { λ r. ⌜ ReturnedList (priceCall «openings_first» (gridOf rows columns (now (grid .entry))) (now (work .entry)) (now (list .entry))) r (now (work .exit)) (now (list .exit)) (now (clicks .entry)) (now (clicks .exit)) ⌝ }
 {
     let answer = zini::prices::price(rows, columns, grid, work, list, openings_first);
-    match answer {
-        Priced::Clicks(count) => {
-            *clicks = count as u64;
-            0
-        }
-        Priced::Refused(refusal) => number_of(refusal),
-    }
+    c_answers::tell_clicks(answer, clicks)
 }
 
 // Greedy ZiNi: its clicks, and its moves in the list.
@@ -100,14 +82,7 @@ pub extern "C" fn lavgerin_random_round(
     ensures { λ r. ⌜ ReturnedListTwo (randomRoundCall (gridOf rows columns (now (grid .entry))) (now (work .entry)) (now (list .entry)) (now (draws .entry))) r (now (work .exit)) (now (list .exit)) (now (clicks .entry)) (now (clicks .exit)) (now (used .entry)) (now (used .exit)) ⌝ }
 {
     let answer = zini::random_calls::random_round(rows, columns, grid, work, list, draws);
-    match answer {
-        Rolled::Clicks(count, bytes) => {
-            *clicks = count as u64;
-            *used = bytes as u64;
-            0
-        }
-        Rolled::Refused(refusal) => number_of(refusal),
-    }
+    c_answers::tell_roll(answer, clicks, used)
 }
 
 // Random search over so many rounds: the least clicks, and the draw bytes used.
@@ -125,14 +100,7 @@ pub extern "C" fn lavgerin_random_search(
     ensures { λ r. ⌜ ReturnedTwo (randomSearchCall (gridOf rows columns (now (grid .entry))) (now (work .entry)) (now (draws .entry)) rounds) r (now (work .exit)) (now (clicks .entry)) (now (clicks .exit)) (now (used .entry)) (now (used .exit)) ⌝ }
 {
     let answer = zini::random_calls::random_search(rows, columns, grid, work, draws, rounds);
-    match answer {
-        Rolled::Clicks(least, bytes) => {
-            *clicks = least as u64;
-            *used = bytes as u64;
-            0
-        }
-        Rolled::Refused(refusal) => number_of(refusal),
-    }
+    c_answers::tell_roll(answer, clicks, used)
 }
 
 // The first moves of a list are played on a board: how many were made, or the place of the bad one, the safe cells still closed, and the ending (0 unfinished, 1 won, 2 lost).
@@ -151,19 +119,7 @@ pub extern "C" fn lavgerin_replay(
     ensures { λ r. ⌜ ReturnedThree (replayCall (gridOf rows columns (now (grid .entry))) (now (work .entry)) (now (list .entry)) count) r (now (work .exit)) (now (made .entry)) (now (made .exit)) (now (closed .entry)) (now (closed .exit)) (now (ending .entry)) (now (ending .exit)) ⌝ }
 {
     let answer = zini::replays::replay(rows, columns, grid, work, list, count);
-    match answer {
-        Replayed::Played(moves, left, end) => {
-            *made = moves as u64;
-            *closed = left as u64;
-            *ending = end as u64;
-            0
-        }
-        Replayed::Move(place) => {
-            *made = place as u64;
-            number_of(Refusal::Move)
-        }
-        Replayed::Refused(refusal) => number_of(refusal),
-    }
+    c_answers::tell_replay(answer, made, closed, ending)
 }
 
 // An MBF file read into a lent grid: its rows and columns.
@@ -177,14 +133,7 @@ pub extern "C" fn lavgerin_read_mbf(
     ensures { λ r. ⌜ ReturnedGrid (readFileCall (now (file .entry)) (now (grid .entry))) r (now (grid .exit)) (now (rows .entry)) (now (rows .exit)) (now (columns .entry)) (now (columns .exit)) ⌝ }
 {
     let answer = mbf::read(file, grid);
-    match answer {
-        Board::Cells(height, width) => {
-            *rows = height as u64;
-            *columns = width as u64;
-            0
-        }
-        Board::Refused(refusal) => number_of(refusal),
-    }
+    c_answers::tell_board(answer, rows, columns)
 }
 
 // A grid written as an MBF file: how many bytes it has.
@@ -199,11 +148,5 @@ pub extern "C" fn lavgerin_write_mbf(
     ensures { λ r. ⌜ ReturnedRun (writeFileCall (gridOf rows columns (now (grid .entry))) (now (file .entry))) r (now (file .exit)) (now (written .entry)) (now (written .exit)) ⌝ }
 {
     let answer = mbf::write(rows, columns, grid, file);
-    match answer {
-        FileWritten::Bytes(count) => {
-            *written = count as u64;
-            0
-        }
-        FileWritten::Refused(refusal) => number_of(refusal),
-    }
+    c_answers::tell_file(answer, written)
 }

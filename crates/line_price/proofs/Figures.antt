@@ -16,6 +16,7 @@ use Rattle.game.specs.Calls.{Answer, Refusal, firstGiven, gives, gridChecks, li
 use Rattle.checks.proofs.Verdict.{all-fine}
 use Rattle.checks.proofs.More.{enough}
 use Rattle.lines.specs.PriceLine.{Price}
+use Rattle.lines.proofs.LineRead.{no-refusal}
 use Rattle.line_price.specs.Prices.{priceOr}
 use Rattle.line_price.specs.Taken.{Taken}
 
@@ -25,7 +26,7 @@ one-value m n a p e = ap (λ (x : Answer). getD (x .values) 0 0) (p ∙ e)
 
 -- a refusal answers no value
 pub no-value : (n : ℕ) (f : Refusal) (a : Answer) → refuses f ≡ a → a ≡ gives (n ∷ []) → 0 ≡ n
-no-value n f a p e = absurd (let z : 0 ≡ 1 = ap (λ (x : Answer). length (x .values)) (p ∙ e) in omega arith)
+no-value n f a p e = absurd (no-refusal f n [] (p ∙ e))
 
 -- the work area and the list that are lent
 abbrev pub area : List ℤ

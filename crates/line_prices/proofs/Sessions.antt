@@ -9,6 +9,7 @@ use lib.Seq.{drop-at, take-at}
 use Rattle.game.specs.Lists.{Each, concat-map}
 use Rattle.game.specs.Calls.{Answer, Refusal, gives, refuses}
 use Rattle.game.proofs.Members.{concat-map-append}
+use Rattle.lines.proofs.LineRead.{no-refusal}
 use Rattle.line_price.specs.Prices.{answerLine}
 use Rattle.line_prices.specs.Blocks.{Cut, Desk, DeskOutcome, blockCall, cutFrom, deskAfter, endCall, heldAfter, keptOver, lastLine, printed, unlessDesk}
 use Rattle.line_prices.specs.Bytes.{Room, deskOf}
@@ -128,7 +129,7 @@ left-passed held out d o e held′ out′ kept written k =
 
 -- and was not refused
 pub passed-not-refused : (held out : List ℕ) (d : Desk) (o : DeskOutcome) → unlessDesk none held out d ≡ o → (held′ out′ : List ℕ) (f : Refusal) → KeepsDesk o (refuses f) held′ out′ → ⊥
-passed-not-refused held out d o e held′ out′ f k = let z : _≡_ {A = ℕ} 0 2 = ap (λ (a : Answer). length (a .values)) (k .answers ∙ ap (λ (p : DeskOutcome). p .answer) (sym e)) in omega arith
+passed-not-refused held out d o e held′ out′ f k = no-refusal f _ _ (k .answers ∙ ap (λ (p : DeskOutcome). p .answer) (sym e))
 
 -- ---- what is kept from block to block
 

@@ -10,6 +10,7 @@ use lib.Seq.{take-at}
 use Rattle.game.specs.Grid.{Grid, size}
 use Rattle.game.specs.Area.{begun}
 use Rattle.game.specs.Calls.{Answer, Refusal, gives, numberOf, refuses}
+use Rattle.refusals.proofs.ReadBack.{numbered}
 use Rattle.lines.specs.BoardLine.{boardLineCall, lineGrid, lineRefusal}
 use Rattle.lines.specs.Answers.{KeepsGrid}
 use Rattle.lines.proofs.Calls.{board-read, board-refused}
@@ -17,7 +18,7 @@ use Rattle.lines.proofs.Verdict.{length-values, passed}
 
 -- a refusal is no answer with values
 pub no-refusal : (f : Refusal) (n : ℕ) (ns : List ℕ) → refuses f ≡ gives (n ∷ ns) → ⊥
-no-refusal f n ns e = let z : 0 ≡ length (n ∷ ns) = ap (λ (a : Answer). length (a .values)) e in omega arith
+no-refusal f n ns e = omega (arith, numbered f, ap (λ (a : Answer). a .number) e)
 
 module _ (line : List ℕ) (lent : List ℤ) (room : 2048 ≤ length lent) where
   -- a line that no check refuses is read

@@ -2,8 +2,8 @@
 use Prim.Native.Nat.{ℕ}
 use mathlib.Core.Path.{_≡_}
 use mathlib.Core.List.{List}
-use mathlib.Core.Option.{Option, none, some}
-use Rattle.game.specs.Calls.{Answer, Refusal, refuses}
+use mathlib.Core.Option.{Option}
+use Rattle.game.specs.Calls.{Answer, Refusal, decided, refuses}
 
 -- what a call that writes into one lent run comes to
 pub record RunOutcome : Type 0 where
@@ -11,9 +11,12 @@ pub record RunOutcome : Type 0 where
   pub run : List ℕ
 
 -- a refusal changes nothing lent
+abbrev pub keptRun : List ℕ → Refusal → RunOutcome
+keptRun lent f = record { answer = refuses f; run = lent }
+
+-- a refusal changes nothing lent; otherwise the call comes to an outcome
 abbrev pub unlessGiven : Option Refusal → List ℕ → RunOutcome → RunOutcome
-unlessGiven (some f) lent o = record { answer = refuses f; run = lent }
-unlessGiven none lent o = o
+unlessGiven given lent o = decided given (keptRun lent) o
 
 -- such a call keeps its promise
 pub record KeepsRun (promise : RunOutcome) (answer : Answer) (run : List ℕ) : Type 0 where

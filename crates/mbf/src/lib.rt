@@ -2,4 +2,5 @@
 pub use lines::board::Board;
 pub use mbf_read::read;
 pub use mbf_write::FileWritten;
+pub use mbf_write::strict_write;
 pub use mbf_write::write;

@@ -1,16 +1,14 @@
--- A cell and the place of its value determine each other, so the grid of a file has its mines exactly at the listed places. Assumes nothing.
-use Prim.Native.Nat.{ℕ, _+_, _*_, _<_}
+-- The grid of a file has its mines exactly at the listed places. Assumes nothing.
+use Prim.Native.Nat.{ℕ, _+_, _*_}
 use native.Mathlib.Omega.{arith}
 use native.Mathlib.Decide.{decLt}
-use mathlib.Core.Path.{_≡_, ap, ap₂, sym, _∙_}
+use mathlib.Core.Path.{_≡_, ap, sym, _∙_}
 use mathlib.Core.List.{List}
-use lib.Arith.{digits-div, digits-mod}
 use lib.IntN.{pos}
 use lib.ListN.{List·getD-eq-default, length}
 use Rattle.game.specs.Lists.{has}
-use Rattle.game.specs.Grid.{Grid, cellAt, columnOf, index, isMine, mine, rowOf, size}
+use Rattle.game.specs.Grid.{Grid, columnOf, isMine, mine, rowOf, size}
 use Rattle.game.proofs.Members.{getD-range}
-use Rattle.game.proofs.Squares.{column-lt, index-of}
 use Rattle.game.proofs.Truth.{no→false}
 use Rattle.lines.specs.BoardLine.{placeMine, valueOf}
 use Rattle.lines.proofs.Runs.{length-cells}
@@ -18,17 +16,9 @@ use Rattle.lines.proofs.Written.{value-mine}
 use Rattle.mbf_form.specs.Form.{listedGrid, listedValues, minePlaces}
 use Rattle.mbf_form.proofs.Accepted.{Accepted, place-in}
 
--- ---- a cell and its place
-
 -- the place of a cell's value in the run
 abbrev pub placeOf : Grid → ℕ → ℕ
 placeOf g i = rowOf g i * g .columns + columnOf g i
-
--- the cell at that place
-pub cell-back : (g : Grid) (i : ℕ) → i < size g → cellAt g (placeOf g i) ≡ i
-cell-back g i h =
-    let k = column-lt g i h in
-    ap₂ (index g) (digits-div (rowOf g i) k) (digits-mod (rowOf g i) k) ∙ index-of g i
 
 -- ---- the mines of the grid
 

@@ -11,7 +11,7 @@ use lib.Seq.{ext-getD}
 use Rattle.game.specs.Lists.{Each, has, range}
 use Rattle.game.specs.Calls.{boardChecks, firstGiven}
 use Rattle.game.specs.Grid.{Grid, canonical, cellAt, cells, columnOf, mine, rowOf, size}
-use Rattle.game.proofs.Canonical.{canonical-mines}
+use Rattle.game.proofs.Canonical.{canonical-mines, cell-back}
 use Rattle.game.proofs.Counts.{length-keep}
 use Rattle.game.proofs.Members.{getD-range, has-keep, has-map, has-range, keep-has, map-has}
 use Rattle.game.proofs.Orders.{Ordered, ordered-keep, ordered-range, ordered-same}
@@ -21,7 +21,7 @@ use Rattle.lines.proofs.Runs.{length-cells}
 use Rattle.mbf_form.specs.Form.{fileColumns, fileGrid, fileOf, fileRows, listedGrid, listedValues, mineCell, mineCells, mineColumn, mineCount, minePlace, minePlaces, mineRow, minesInOrder}
 use Rattle.mbf_form.specs.Calls.{fileRefusal}
 use Rattle.mbf_form.proofs.Accepted.{Accepted, accepted, shaped}
-use Rattle.mbf_form.proofs.Listed.{cell-back, length-listed, listed-mine, placeOf}
+use Rattle.mbf_form.proofs.Listed.{length-listed, listed-mine, placeOf}
 use Rattle.mbf_form.proofs.Written.{canonical-passes, file-column, file-length, file-row, written-cells}
 
 -- the listed mines stand in cell index order

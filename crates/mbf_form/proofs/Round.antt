@@ -12,25 +12,19 @@ use lib.Seq.{take-at}
 use borrow.Author.Tests.{le-ltb, lt-ltb}
 use Rattle.game.specs.Area.{begun}
 use Rattle.game.specs.Boards.{Line, twelve}
-use Rattle.game.specs.Calls.{Answer, Check, Refusal, board, boardChecks, file-wrong, firstGiven, gives, refuses, shapeCheck}
+use Rattle.game.specs.Calls.{Answer, Refusal, board, boardChecks, file-wrong, firstGiven, gives, refuses, shapeCheck}
 use Rattle.game.specs.Grid.{Grid, canonical, mine, size}
 use Rattle.game.specs.Lists.{has}
 use Rattle.game.proofs.Alike.{SameCalls}
 use Rattle.game.proofs.Canonical.{canonical-calls}
-use Rattle.game.proofs.Checks.{each-fails, given-append, none-given, orElse}
+use Rattle.game.proofs.Checks.{each-fails, first-decides, none-given, others-decide}
 use Rattle.lines.specs.BoardLine.{GridOutcome, cellsCheck, unlessRefused}
 use Rattle.lines.specs.Outputs.{RunOutcome, unlessGiven}
+use Rattle.lines.proofs.LineRead.{no-refusal}
 use Rattle.mbf_form.specs.Form.{fileColumns, fileGrid, fileOf, fileRows, listedGrid, minePlaces}
 use Rattle.mbf_form.specs.Calls.{fileRefusal, mineChecks, outputCheck, readFileCall, sideChecks, writeFileCall}
 use Rattle.mbf_form.proofs.Written.{canonical-file, canonical-passes, written-accepted, written-grid}
 use Rattle.mbf_form.proofs.Order.{any-order}
-
--- ---- checks after others
-
--- after checks that give no refusal the others decide
-others-decide : (cs ds : List Check) → firstGiven cs ≡ none → firstGiven (cs ++ ds) ≡ firstGiven ds
-unfolding orElse
-others-decide cs ds e = given-append cs ds ∙ ap (λ (o : Option Refusal). orElse o (firstGiven ds)) e
 
 -- ---- a file read
 
@@ -54,10 +48,9 @@ read-whole file lent e h =
 
 -- a file that is refused is refused before the room is asked for, and leaves the lent run as it is
 pub refused-read : (file : List ℕ) (lent : List ℤ) (f : Refusal) → fileRefusal file ≡ some f → readFileCall file lent ≡ record { answer = refuses f; values = lent }
-unfolding readFileCall fileRefusal orElse
+unfolding readFileCall fileRefusal
 refused-read file lent f e =
-    ap (λ (o : Option Refusal). unlessRefused o lent (fileRead file lent))
-    (given-append (sideChecks file ++ mineChecks file) (cellsCheck (listedGrid file) lent ∷ []) ∙ ap (λ (o : Option Refusal). orElse o (firstGiven (cellsCheck (listedGrid file) lent ∷ []))) e)
+    ap (λ (o : Option Refusal). unlessRefused o lent (fileRead file lent)) (first-decides (sideChecks file ++ mineChecks file) (cellsCheck (listedGrid file) lent ∷ []) f e)
 
 -- under two bytes are FILE, whatever they are
 pub short-refused : (file : List ℕ) → length file < 2 → fileRefusal file ≡ some file-wrong
@@ -99,7 +92,7 @@ unfolding writeFileCall
 wrote-file g out n = go (firstGiven (boardChecks g ++ outputCheck g out ∷ [])) refl
   where
     go : (o : Option Refusal) → firstGiven (boardChecks g ++ outputCheck g out ∷ []) ≡ o → unlessGiven o out (gridWritten g out) .answer ≡ gives (n ∷ []) → Wrote g out n
-    go (some f) e q = let z : _≡_ {A = ℕ} 0 1 = ap (λ (a : Answer). length (a .values)) q in absurd (omega arith)
+    go (some f) e q = absurd (no-refusal f n [] q)
     go none e q =
         let h = each-fails (boardChecks g ++ outputCheck g out ∷ []) e in
         let l : length (fileOf g) ≡ n = ap (λ (a : Answer). getD (a .values) 0 0) q in

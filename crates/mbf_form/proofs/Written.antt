@@ -14,7 +14,7 @@ use borrow.Author.Tests.{eq-eqb, eqb-true, not-false}
 use Rattle.game.specs.Lists.{concat-map, count, has}
 use Rattle.game.specs.Calls.{boardChecks, firstGiven, shapeCheck, sideOut}
 use Rattle.game.specs.Grid.{Grid, canonical, cellAt, cells, columnOf, isMine, mine, rowOf, size}
-use Rattle.game.proofs.Canonical.{canonical-mines, canonical-same, cell-at-lt, cell-at-place, length-right, mine-at-place}
+use Rattle.game.proofs.Canonical.{canonical-mines, canonical-same, cell-at-lt, cell-at-place, cell-back, length-right, mine-at-place}
 use Rattle.game.proofs.Checks.{each-fails, none-given, side-in}
 use Rattle.game.proofs.Counts.{Once, count-le, length-keep}
 use Rattle.game.proofs.Members.{getD-has, has-keep, has-map, keep-ext, keep-has, map-has}
@@ -27,7 +27,7 @@ use Rattle.mbf_form.specs.Form.{fileGrid, fileOf, listedGrid, listedValu
 use Rattle.mbf_form.specs.Calls.{fileRefusal}
 use Rattle.mbf_form.proofs.Accepted.{Accepted, accept}
 use Rattle.mbf_form.proofs.Lists.{first-at, length-pairs, map-places, second-at}
-use Rattle.mbf_form.proofs.Listed.{cell-back, listed-mine, placeOf}
+use Rattle.mbf_form.proofs.Listed.{listed-mine, placeOf}
 
 -- ---- what the board's checks leave of a grid
 

@@ -9,9 +9,9 @@ use lib.ListN.{length}
 use Rattle.game.specs.Lists.{range, some-of}
 use Rattle.game.specs.Grid.{Grid}
 use Rattle.game.specs.Area.{begun}
-use Rattle.game.specs.Calls.{Check, Refusal, board, boardChecks, file-wrong, firstGiven, gives, shapeCheck}
+use Rattle.game.specs.Calls.{Check, Refusal, board, boardChecks, file-wrong, firstGiven, gives, shapeCheck, strictly}
 use Rattle.lines.specs.BoardLine.{GridOutcome, cellsCheck, unlessRefused}
-use Rattle.lines.specs.Outputs.{RunOutcome, unlessGiven}
+use Rattle.lines.specs.Outputs.{RunOutcome, keptRun, unlessGiven}
 use Rattle.mbf_form.specs.Form.{fileColumns, fileGrid, fileOf, fileRows, listedGrid, mineCount, minePlaces, pastEdge, twice}
 
 -- ---- reading
@@ -61,3 +61,7 @@ unfoldable pub writeFileCall : Grid → List ℕ → RunOutcome
 writeFileCall g lent =
     unlessGiven (firstGiven (boardChecks g ++ outputCheck g lent ∷ [])) lent
     (record { answer = gives (length (fileOf g) ∷ []); run = begun (fileOf g) lent })
+
+-- the same, strictly: NUMBER stands before the output's BOARD
+abbrev pub strictWriteFileCall : Grid → List ℕ → RunOutcome
+strictWriteFileCall g lent = strictly (keptRun lent) g (writeFileCall g lent)

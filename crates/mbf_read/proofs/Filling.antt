@@ -14,17 +14,18 @@ use mir.Val.{SFits, toZ}
 use Rattle.game.specs.Area.{begun}
 use Rattle.game.specs.Grid.{Grid, cellAt, index, isMine, mine, number, rightValue, rightValues, size}
 use Rattle.game.specs.Lists.{count, fold, range}
-use Rattle.game.proofs.Carried.{columnPart, number-by-columns, part-one, parts-none}
-use Rattle.game.proofs.Counts.{count-ext, count-map}
+use Rattle.game.proofs.Counts.{count-ext}
 use Rattle.game.proofs.Members.{fold-append, fold-more, getD-range, has-range, length-fold, range-split}
 use Rattle.game.proofs.Squares.{index-column, index-row, next-column}
 use Rattle.area.specs.Numbers.{gridOf}
+use Rattle.area.specs.Squares.{columnMines}
 use Rattle.area.proofs.Cells.{mine-here}
+use Rattle.area.proofs.Columns.{column-one}
 use Rattle.area.proofs.Signs.{stored}
 use Rattle.lines.specs.BoardLine.{bitAt, valueOf}
 use Rattle.lines.proofs.Runs.{fill-more}
 use Rattle.lines.proofs.Written.{value-mine}
-use Rattle.mbf_read.specs.Numbers.{bitGrid, bitIn, columnMines, putRight}
+use Rattle.mbf_read.specs.Numbers.{bitGrid, bitIn, putRight}
 
 -- ---- one cell
 
@@ -63,26 +64,11 @@ module _ (rows columns : ℕ) (bits : List ℕ) where
       (λ i. cond (sym (bit-mine row column h k) i) (negsuc 0) (pos (e i)))
       ∙ ap (λ (c : ℕ). cond (mine grid c) (negsuc 0) (pos (number grid c))) (sym (cell-here row column k))
 
-  -- ---- three columns
-
-  module _ (first last : ℕ) where
-    pub columns-none : (a : ℕ) → 0 ≡ columnMines grid first last a a
-    unfolding columnMines
-    columns-none a = parts-none (mine grid) (columnPart grid first last) a
-
-    -- the mines of one column, by the bits
-    pub column-mines : (column m : ℕ) → last ≤ rows → column < columns → m ≡ count (bitIn bits columns column) (range first last) → m ≡ columnMines grid first last column (column + 1)
-    unfolding columnMines
-    column-mines column m h k e =
-        e ∙ count-ext (bitIn bits columns column) (λ row. mine grid (index grid row column)) (range first last) (λ row t. sym (bit-mine row column (omega (arith, has-range first last row t .1)) k))
-        ∙ sym (count-map (mine grid) (λ row. index grid row column) (range first last)) ∙ part-one (mine grid) (columnPart grid first last) column
-
-  -- what is counted in the columns to the left, of and to the right of a cell is its number
-  pub columns-number : (row column first last left here right : ℕ) → row < rows → column < columns → first ≡ row - 1 → last ≡ min (row + 2) rows
-      → left ≡ columnMines grid first last (column - 1) column → here ≡ columnMines grid first last column (column + 1)
-      → right ≡ columnMines grid first last (column + 1) (min (column + 2) columns) → left + here + right ≡ number grid (column * rows + row)
-  unfolding columnMines
-  columns-number = number-by-columns grid
+  -- the mines of one column, by the bits
+  pub column-mines : (first last column m : ℕ) → last ≤ rows → column < columns → m ≡ count (bitIn bits columns column) (range first last) → m ≡ columnMines grid first last column (column + 1)
+  column-mines first last column m h k e =
+      e ∙ count-ext (bitIn bits columns column) (λ row. mine grid (index grid row column)) (range first last) (λ row t. sym (bit-mine row column (omega (arith, has-range first last row t .1)) k))
+      ∙ column-one grid first last column
 
 -- ---- all cells
 

@@ -4,8 +4,8 @@ use mathlib.Core.Bool.{Bool}
 use mathlib.Core.List.{List, map}
 use lib.IntN.{ℤ}
 use lib.ListN.{set}
-use Rattle.game.specs.Lists.{concat-map, count, range}
-use Rattle.game.specs.Grid.{Grid, cellAt, index, mine, rightValue}
+use Rattle.game.specs.Lists.{range}
+use Rattle.game.specs.Grid.{Grid, cellAt, rightValue}
 use Rattle.lines.specs.BoardLine.{bitAt, valueOf}
 
 -- the grid whose mines are the bits that are set
@@ -16,10 +16,6 @@ bitGrid rows columns bits =
 -- the bit of the cell in a row and a column is set
 abbrev pub bitIn : List ℕ → ℕ → ℕ → ℕ → Bool
 bitIn bits columns column row = bitAt bits (row * columns + column)
-
--- the mines of the columns from a on that are below b, in the rows from first on that are below last
-unfoldable pub columnMines : Grid → ℕ → ℕ → ℕ → ℕ → ℕ
-columnMines g first last a b = count (mine g) (concat-map (λ column. map (λ row. index g row column) (range first last)) (range a b))
 
 -- the right value of the cell at a place put there
 abbrev pub putRight : Grid → List ℤ → ℕ → List ℤ

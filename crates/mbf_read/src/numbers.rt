@@ -7,9 +7,10 @@ ghost use lib.ListN.{length};
 ghost use Rattle.game.specs.Lists.{count, fold, range};
 ghost use Rattle.game.specs.Grid.{rightValues};
 ghost use Rattle.game.specs.Area.{begun};
+ghost use Rattle.area.specs.Squares.{columnMines};
 ghost use Rattle.area.specs.Stages.{Shape};
 ghost use Rattle.lines.specs.BoardLine.{bitAt};
-ghost use Rattle.mbf_read.specs.Numbers.{bitGrid, bitIn, columnMines, putRight};
+ghost use Rattle.mbf_read.specs.Numbers.{bitGrid, bitIn, putRight};
 
 // The mines of a column, in the rows from `first` to before `last`.
 fn mines_in_column(bits: &[u8], columns: usize, column: usize, first: usize, last: usize) -> usize

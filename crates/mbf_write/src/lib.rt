@@ -11,7 +11,7 @@ ghost use Rattle.area.specs.Numbers.{gridOf};
 ghost use Rattle.area.specs.Stages.{Shape};
 ghost use Rattle.lines.specs.Outputs.{KeepsRun};
 ghost use Rattle.mbf_form.specs.Form.{fileOf};
-ghost use Rattle.mbf_form.specs.Calls.{writeFileCall};
+ghost use Rattle.mbf_form.specs.Calls.{strictWriteFileCall, writeFileCall};
 ghost use Rattle.mbf_write.specs.Mines.{Listed, RoomFor, bytesFrom, minesFrom};
 ghost use Rattle.mbf_write.specs.Answers.{fileWrittenAnswer};
 
@@ -138,5 +138,16 @@ pub fn write(rows: usize, columns: usize, grid: &[i32], file: &mut [u8]) -> File
             put_file(rows, columns, grid, mines, file);
             FileWritten::Bytes(4 + 2 * mines)
         }
+    }
+}
+
+// The same, strictly: only -1 is taken for a mine and, for a safe cell, exactly its number.
+pub fn strict_write(rows: usize, columns: usize, grid: &[i32], file: &mut [u8]) -> FileWritten
+    ensures { λ r. ⌜ KeepsRun (strictWriteFileCall (gridOf rows columns (now (grid .entry))) (now (file .entry))) (fileWrittenAnswer r) (now (file .exit)) ⌝ }
+{
+    let checked = number_check::check_numbers(rows, columns, grid);
+    match checked {
+        Checked::Refused(refusal) => FileWritten::Refused(refusal),
+        Checked::Fine => write(rows, columns, grid, file),
     }
 }

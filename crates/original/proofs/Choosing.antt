@@ -9,11 +9,11 @@ use lib.Dec.{T, eqb}
 use lib.IntN.{negsuc, pos, ℤ}
 use lib.Signed.{leZ, ltZ}
 use lib.ListN.{length}
-use Rattle.game.specs.Grid.{Grid, cells, safe, size, zeroCell}
+use Rattle.game.specs.Grid.{Grid, cells, safe, same, size, zeroCell}
 use Rattle.game.specs.Lists.{fold, has, keep, range}
 use Rattle.game.specs.Openings.{firstLabel}
 use Rattle.game.specs.Position.{Position, Tidy, closed, closedSafe, opened, premium}
-use Rattle.game.specs.Rounds.{Step, afterStep, choice, chords, clicks, closedUnitCell, highest, leastChosen, looked, same, stepOf, topCells, unitCells, width}
+use Rattle.game.specs.Rounds.{Step, afterStep, choice, chords, clicks, closedUnitCell, highest, leastChosen, looked, stepOf, topCells, unitCells, width}
 use Rattle.original.specs.Cells.{Zcell, at}
 use Rattle.original.specs.Play.{State, click}
 use Rattle.original.specs.Rounds.{Best, apply-zini, better, falls-back, first-fall, play-at}

@@ -12,10 +12,10 @@ use lib.Signed.{leZ, ltZ}
 use lib.ListN.{getD, length, length-append, length-set, set, take}
 use lib.Seq.{getD-take, take-suc-set}
 use Rattle.game.specs.Draws.{Drawn, draw}
-use Rattle.game.specs.Grid.{Grid, cells, mine, safe, size}
+use Rattle.game.specs.Grid.{Grid, cells, mine, safe, same, size}
 use Rattle.game.specs.Lists.{Each, fold, has, keep, range}
 use Rattle.game.specs.Position.{Position, Tidy, closedSafe, opened, premium}
-use Rattle.game.specs.Rounds.{Choice, afterStep, choice, chords, clicks, closedUnitCell, highest, leastChosen, looked, same, stepOf, topCells, unitCells, width}
+use Rattle.game.specs.Rounds.{Choice, afterStep, choice, chords, clicks, closedUnitCell, highest, leastChosen, looked, stepOf, topCells, unitCells, width}
 use Rattle.original.specs.Cells.{Zcell}
 use Rattle.original.specs.Play.{State, click}
 use Rattle.original.specs.Rounds.{Applied, Falls, Stepped, Ties, apply-zini-rng, dry, fallen, nothing, play-at, rand-range, stepped, tied}

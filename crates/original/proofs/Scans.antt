@@ -10,8 +10,8 @@ use lib.Dec.{T, leb→le, le→leb, ltb→lt}
 use lib.IntN.{negsuc, pos, ℤ}
 use lib.Signed.{clashℤ, leZ, ltZ, ltZ-no, ≤ℤ-refl}
 use lib.ListN.{length, length-append}
+use Rattle.game.specs.Grid.{same}
 use Rattle.game.specs.Lists.{fold, has, keep}
-use Rattle.game.specs.Rounds.{same}
 use Rattle.game.proofs.Choices.{leZ-trans}
 use Rattle.game.proofs.Members.{first-of, has-append-cases, has-append-left, has-append-right, has-cases, has-head, has-keep, has-length, has-tail, rest-of}
 use Rattle.game.proofs.Truth.{T→true, and-both, and-left, and-right, no→false}

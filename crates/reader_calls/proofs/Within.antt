@@ -6,14 +6,15 @@ use native.Mathlib.Omega.{arith}
 use mathlib.Core.List.{List, [], _∷_, _++_}
 use mathlib.Core.Option.{Option, none, some}
 use lib.IntN.{ℤ}
-use lib.ListN.{drop, drop-of-length-le, getD, length, length-drop, take}
+use lib.ListN.{List·getD-eq-default, drop, drop-of-length-le, getD, length, length-drop, take}
 use lib.Seq.{take-all}
 use Rattle.game.specs.Draws.{lent}
 use Rattle.game.specs.Grid.{Grid}
 use Rattle.game.specs.Rounds.{Round, Searched, randomRound, randomSearch}
-use Rattle.game.specs.Calls.{Answer, Refusal, drawnRound, drawnSearch, firstGiven, gridChecks, listCheck, randomRoundCall, randomSearchCall, roundsCheck, unless, unlessListed}
+use Rattle.game.specs.Calls.{Answer, Refusal, drawnRound, drawnSearch, firstGiven, gridChecks, listCheck, namedBy, randomRoundCall, randomSearchCall, refuses, roundsCheck, unless, unlessListed}
 use Rattle.game.proofs.Randoms.{random-within}
 use Rattle.game.proofs.Searches.{search-within}
+use Rattle.refusals.proofs.ReadBack.{names-one}
 use Rattle.answers.specs.Answers.{rolledAnswer}
 use Rattle.answers.specs.declared.Rolled.{Rolled}
 use Rattle.answers.specs.declared.Rolled.the-variants as Rolls
@@ -31,12 +32,16 @@ from-place bytes place start h = take-all (length bytes - start) (drop start byt
 abbrev told : Answer → ℕ
 told a = getD (a .values) 1 0
 
+-- a refusal tells of none
+refused-told : (f : Refusal) (n : ℕ) → told (refuses f) ≤ n
+refused-told f n = omega (arith, List·getD-eq-default (namedBy f) 0 {n = 1} (names-one f))
+
 round-told : (g : Grid) (w : List ℤ) (l bytes : List ℕ) → told (randomRoundCall g w l bytes .answer) ≤ length bytes
 unfolding randomRoundCall
 round-told g w l bytes = go (firstGiven (gridChecks g w ++ listCheck g l ∷ [])) (randomRound g (lent bytes) 0) refl
   where
     go : (f : Option Refusal) (o : Option Round) → randomRound g (lent bytes) 0 ≡ o → told (unlessListed f w l (drawnRound g o w l) .answer) ≤ length bytes
-    go (some f) o e = zero-le
+    go (some f) o e = refused-told f (length bytes)
     go none none e = zero-le
     go none (some r) e = random-within g bytes 0 r e zero-le .1
 
@@ -45,7 +50,7 @@ unfolding randomSearchCall
 search-told g w bytes n = go (firstGiven (gridChecks g w ++ roundsCheck n ∷ [])) (randomSearch g (lent bytes) n) refl
   where
     go : (f : Option Refusal) (o : Option Searched) → randomSearch g (lent bytes) n ≡ o → told (unless f w (drawnSearch g o w) .answer) ≤ length bytes
-    go (some f) o e = zero-le
+    go (some f) o e = refused-told f (length bytes)
     go none none e = zero-le
     go none (some r) e = search-within g bytes n r e
 

@@ -1,5 +1,8 @@
--- What stands in a run after a call, replay over records and over words, and the walk of the two calls without draws.
+-- What stands in a run after a call, replay over records and over words, and the walks of the calls, each by its flags.
 pub mod Runs
 pub mod OneAnswer
 pub mod Replays
+mod Pieces
 mod Walk
+mod RandomWalk
+mod ReplayWalk

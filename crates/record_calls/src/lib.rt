@@ -1,4 +1,4 @@
-// The rounds over runs of move records: the flat list that is lent beside the run is written by the covered call, and its words become the run's records.
+// The rounds and the replay over runs of move records, each as it is and in a strict form: in a round the flat list that is lent beside the run is written by the covered call, and its words become the run's records.
 use records::MoveRecord;
 use zini::Priced;
 use zini::Replayed;
@@ -6,7 +6,7 @@ use zini::Rolled;
 ghost use mathlib.Core.Bool.{false, true};
 ghost use Rattle.area.specs.Numbers.{gridOf};
 ghost use Rattle.answers.specs.Answers.{KeepsList, pricedAnswer, replayedAnswer, rolledAnswer};
-ghost use Rattle.record_checks.specs.Promises.{KeepsRecords, priceRecordsCall, randomRecordsCall, replayRecordsCall};
+ghost use Rattle.record_checks.specs.Promises.{KeepsRecords, priceRecordsCall, randomRecordsCall, replayRecordsCall, strictPriceRecordsCall, strictRandomRecordsCall, strictReplayRecordsCall};
 
 // Greedy ZiNi: its clicks, and its moves in the list and as records of the run.
 pub fn greedy_records(
@@ -19,7 +19,16 @@ pub fn greedy_records(
 ) -> Priced
     ensures { λ r. ⌜ KeepsRecords (priceRecordsCall false (gridOf rows columns (now (grid .entry))) (now (work .entry)) (now (list .entry)) (now (run .entry))) (pricedAnswer r) (now (work .exit)) (now (list .exit)) (now (run .exit)) ⌝ }
 {
-    let priced = record_checks::price_within(rows, columns, grid, work, list, run.len(), false);
+    let priced = record_checks::price_in_form(
+        rows,
+        columns,
+        grid,
+        work,
+        list,
+        run.len(),
+        false,
+        false,
+    );
     let count = record_checks::written_by(priced, grid.len());
     records::records_of(run, list, count, rows);
     priced
@@ -36,7 +45,16 @@ pub fn openings_first_records(
 ) -> Priced
     ensures { λ r. ⌜ KeepsRecords (priceRecordsCall true (gridOf rows columns (now (grid .entry))) (now (work .entry)) (now (list .entry)) (now (run .entry))) (pricedAnswer r) (now (work .exit)) (now (list .exit)) (now (run .exit)) ⌝ }
 {
-    let priced = record_checks::price_within(rows, columns, grid, work, list, run.len(), true);
+    let priced = record_checks::price_in_form(
+        rows,
+        columns,
+        grid,
+        work,
+        list,
+        run.len(),
+        true,
+        false,
+    );
     let count = record_checks::written_by(priced, grid.len());
     records::records_of(run, list, count, rows);
     priced
@@ -54,7 +72,16 @@ pub fn random_round_records(
 ) -> Rolled
     ensures { λ r. ⌜ KeepsRecords (randomRecordsCall (gridOf rows columns (now (grid .entry))) (now (work .entry)) (now (list .entry)) (now (run .entry)) (now (draws .entry))) (rolledAnswer r) (now (work .exit)) (now (list .exit)) (now (run .exit)) ⌝ }
 {
-    let rolled = record_checks::random_within(rows, columns, grid, work, list, draws, run.len());
+    let rolled = record_checks::random_in_form(
+        rows,
+        columns,
+        grid,
+        work,
+        list,
+        draws,
+        run.len(),
+        false,
+    );
     let count = record_checks::written_by_roll(rolled, grid.len());
     records::records_of(run, list, count, rows);
     rolled
@@ -72,15 +99,123 @@ pub fn replay_records(
 ) -> Replayed
     ensures { λ r. ⌜ KeepsList (replayRecordsCall (gridOf rows columns (now (grid .entry))) (now (work .entry)) (now (list .entry)) (now (run .entry)) count) (replayedAnswer r) (now (work .exit)) (now (list .exit)) ⌝ }
 {
-    let moves = record_checks::copied(
+    let checked = record_checks::check_replay(
         rows,
         columns,
-        grid.len(),
+        grid,
         work.len(),
         run.len(),
         list.len(),
         count,
+        false,
     );
+    let moves = record_checks::copied(checked, count);
     records::words_of(list, run, moves, rows);
-    record_checks::replay_within(rows, columns, grid, work, list, count, run.len())
+    record_checks::replay_unless(checked, rows, columns, grid, work, list, count)
+}
+
+// `greedy_records`, but a wrong value in the grid is refused by NUMBER, and nothing lent changes.
+pub fn strict_greedy_records(
+    rows: usize,
+    columns: usize,
+    grid: &[i32],
+    work: &mut [i32],
+    list: &mut [u32],
+    run: &mut [MoveRecord],
+) -> Priced
+    ensures { λ r. ⌜ KeepsRecords (strictPriceRecordsCall false (gridOf rows columns (now (grid .entry))) (now (work .entry)) (now (list .entry)) (now (run .entry))) (pricedAnswer r) (now (work .exit)) (now (list .exit)) (now (run .exit)) ⌝ }
+{
+    let priced = record_checks::price_in_form(
+        rows,
+        columns,
+        grid,
+        work,
+        list,
+        run.len(),
+        false,
+        true,
+    );
+    let count = record_checks::written_by(priced, grid.len());
+    records::records_of(run, list, count, rows);
+    priced
+}
+
+// `openings_first_records`, but a wrong value in the grid is refused by NUMBER, and nothing lent changes.
+pub fn strict_openings_first_records(
+    rows: usize,
+    columns: usize,
+    grid: &[i32],
+    work: &mut [i32],
+    list: &mut [u32],
+    run: &mut [MoveRecord],
+) -> Priced
+    ensures { λ r. ⌜ KeepsRecords (strictPriceRecordsCall true (gridOf rows columns (now (grid .entry))) (now (work .entry)) (now (list .entry)) (now (run .entry))) (pricedAnswer r) (now (work .exit)) (now (list .exit)) (now (run .exit)) ⌝ }
+{
+    let priced = record_checks::price_in_form(
+        rows,
+        columns,
+        grid,
+        work,
+        list,
+        run.len(),
+        true,
+        true,
+    );
+    let count = record_checks::written_by(priced, grid.len());
+    records::records_of(run, list, count, rows);
+    priced
+}
+
+// `random_round_records`, but a wrong value in the grid is refused by NUMBER, and nothing lent changes.
+pub fn strict_random_round_records(
+    rows: usize,
+    columns: usize,
+    grid: &[i32],
+    work: &mut [i32],
+    list: &mut [u32],
+    run: &mut [MoveRecord],
+    draws: &[u8],
+) -> Rolled
+    ensures { λ r. ⌜ KeepsRecords (strictRandomRecordsCall (gridOf rows columns (now (grid .entry))) (now (work .entry)) (now (list .entry)) (now (run .entry)) (now (draws .entry))) (rolledAnswer r) (now (work .exit)) (now (list .exit)) (now (run .exit)) ⌝ }
+{
+    let rolled = record_checks::random_in_form(
+        rows,
+        columns,
+        grid,
+        work,
+        list,
+        draws,
+        run.len(),
+        true,
+    );
+    let count = record_checks::written_by_roll(rolled, grid.len());
+    records::records_of(run, list, count, rows);
+    rolled
+}
+
+// `replay_records`, but a wrong value in the grid is refused by NUMBER, and nothing lent changes.
+pub fn strict_replay_records(
+    rows: usize,
+    columns: usize,
+    grid: &[i32],
+    work: &mut [i32],
+    list: &mut [u32],
+    run: &[MoveRecord],
+    count: usize,
+) -> Replayed
+    ensures { λ r. ⌜ KeepsList (strictReplayRecordsCall (gridOf rows columns (now (grid .entry))) (now (work .entry)) (now (list .entry)) (now (run .entry)) count) (replayedAnswer r) (now (work .exit)) (now (list .exit)) ⌝ }
+{
+    let checked = record_checks::check_replay(
+        rows,
+        columns,
+        grid,
+        work.len(),
+        run.len(),
+        list.len(),
+        count,
+        true,
+    );
+    let moves = record_checks::copied(checked, count);
+    records::words_of(list, run, moves, rows);
+    record_checks::replay_unless(checked, rows, columns, grid, work, list, count)
 }

@@ -8,7 +8,7 @@ use lib.IntN.{ℤ}
 use lib.Dec.{eqb}
 use lib.ListN.{getD, length, take}
 use Rattle.game.specs.Grid.{Grid}
-use Rattle.game.specs.Calls.{Answer, Check, ListOutcome, Outcome, Refusal, aboveCheck, draws, firstGiven, gridChecks, numberOf, priceCall, randomRoundCall, replayCall, roomCheck, unless, unlessListed}
+use Rattle.game.specs.Calls.{Answer, Check, ListOutcome, Outcome, Refusal, aboveCheck, draws, firstGiven, gridChecks, keptListed, numberOf, priceCall, randomRoundCall, replayCall, roomCheck, strictly, unless, unlessListed}
 use Rattle.answers.specs.Answers.{KeepsList}
 use Rattle.records.specs.Records.{moveWord, over, recordOf}
 use Rattle.records.specs.declared.MoveRecord.{MoveRecord}
@@ -42,6 +42,18 @@ priceRecordsCall openingsFirst g ws ms run = inRecords g (within g ws ms (length
 abbrev pub randomRecordsCall : Grid → List ℤ → List ℕ → List MoveRecord → List ℕ → RecordsOutcome
 randomRecordsCall g ws ms run bytes = inRecords g (within g ws ms (length run) (randomRoundCall g ws ms bytes)) run
 
+-- a refusal changes nothing lent: the work area, the list and the run stay
+abbrev pub keptRecords : List ℤ → List ℕ → List MoveRecord → Refusal → RecordsOutcome
+keptRecords ws ms run f = record { flat = keptListed ws ms f; run = run }
+
+-- greedy, or openings-first, over a run, strictly
+abbrev pub strictPriceRecordsCall : Bool → Grid → List ℤ → List ℕ → List MoveRecord → RecordsOutcome
+strictPriceRecordsCall openingsFirst g ws ms run = strictly (keptRecords ws ms run) g (priceRecordsCall openingsFirst g ws ms run)
+
+-- a single random round over a run, strictly
+abbrev pub strictRandomRecordsCall : Grid → List ℤ → List ℕ → List MoveRecord → List ℕ → RecordsOutcome
+strictRandomRecordsCall g ws ms run bytes = strictly (keptRecords ws ms run) g (randomRecordsCall g ws ms run bytes)
+
 -- a call over a run keeps its promise: that of the flat call, and the run's
 pub record KeepsRecords (promise : RecordsOutcome) (answer : Answer) (work : List ℤ) (list : List ℕ) (run : List MoveRecord) : Type 0 where
   pub flat : KeepsList (promise .flat) answer work list
@@ -74,3 +86,7 @@ withList o ms = record { answer = o .answer; work = o .work; list = ms }
 abbrev pub replayRecordsCall : Grid → List ℤ → List ℕ → List MoveRecord → ℕ → ListOutcome
 replayRecordsCall g ws ms run n =
     withList (replayWithin g ws (length run) n (replayCall g ws (copiedWords g ws ms run n) n)) (copiedWords g ws ms run n)
+
+-- a replay of the first n records of a run, strictly
+abbrev pub strictReplayRecordsCall : Grid → List ℤ → List ℕ → List MoveRecord → ℕ → ListOutcome
+strictReplayRecordsCall g ws ms run n = strictly (keptListed ws ms) g (replayRecordsCall g ws ms run n)

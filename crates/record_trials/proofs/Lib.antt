@@ -1,3 +1,7 @@
--- A run in a local array, and the walk of greedy and openings-first over one.
+-- A run in a local array, and the walks of the calls over one and by a reader, each by its flags.
 mod Arrays
+mod Pieces
 mod Pricing
+mod Rolling
+mod Replaying
+mod Reading

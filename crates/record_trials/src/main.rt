@@ -1,4 +1,4 @@
-// Runs the calls over move records and by a draw reader on P7 and P11, and their refusals: each prints its answer and what was lent.
+// Runs the calls over move records and by a draw reader on P7 and P11, as they are and in the strict form, and their refusals: each prints its answer and what was lent.
 use draws::Drawn;
 use records::MoveRecord;
 use trials::plain;
@@ -6,10 +6,10 @@ use trials::plain::Plain;
 use zini::Priced;
 use zini::Replayed;
 use zini::Rolled;
-ghost use Rattle.game.specs.Calls.{greedyCall, openingsFirstCall, randomRoundCall};
+ghost use mathlib.Core.Bool.{false, true};
 ghost use Rattle.area.specs.Numbers.{gridOf};
 ghost use Rattle.answers.specs.Answers.{KeepsList, pricedAnswer, replayedAnswer, rolledAnswer};
-ghost use Rattle.record_checks.specs.Promises.{KeepsRecords, inRecords, replayRecordsCall, within};
+ghost use Rattle.record_checks.specs.Promises.{KeepsRecords, priceRecordsCall, randomRecordsCall, replayRecordsCall, strictPriceRecordsCall, strictRandomRecordsCall, strictReplayRecordsCall};
 ghost use Rattle.record_trials.specs.Readings.{Twice};
 
 // What greedy or openings-first answers, and the run that was lent.
@@ -40,7 +40,7 @@ fn greedy_run(
     list: &mut [u32],
     run: [MoveRecord; 9],
 ) -> PricedRun
-    ensures { λ r. ⌜ KeepsRecords (inRecords (gridOf rows columns (now (grid .entry))) (within (gridOf rows columns (now (grid .entry))) (now (work .entry)) (now (list .entry)) 9 (greedyCall (gridOf rows columns (now (grid .entry))) (now (work .entry)) (now (list .entry)))) run) (pricedAnswer (r .answer)) (now (work .exit)) (now (list .exit)) (r .run) ⌝ }
+    ensures { λ r. ⌜ KeepsRecords (priceRecordsCall false (gridOf rows columns (now (grid .entry))) (now (work .entry)) (now (list .entry)) run) (pricedAnswer (r .answer)) (now (work .exit)) (now (list .exit)) (r .run) ⌝ }
 {
     let mut lent = run;
     let answer = record_calls::greedy_records(rows, columns, grid, work, list, &mut lent);
@@ -56,7 +56,7 @@ fn openings_first_run(
     list: &mut [u32],
     run: [MoveRecord; 9],
 ) -> PricedRun
-    ensures { λ r. ⌜ KeepsRecords (inRecords (gridOf rows columns (now (grid .entry))) (within (gridOf rows columns (now (grid .entry))) (now (work .entry)) (now (list .entry)) 9 (openingsFirstCall (gridOf rows columns (now (grid .entry))) (now (work .entry)) (now (list .entry)))) run) (pricedAnswer (r .answer)) (now (work .exit)) (now (list .exit)) (r .run) ⌝ }
+    ensures { λ r. ⌜ KeepsRecords (priceRecordsCall true (gridOf rows columns (now (grid .entry))) (now (work .entry)) (now (list .entry)) run) (pricedAnswer (r .answer)) (now (work .exit)) (now (list .exit)) (r .run) ⌝ }
 {
     let mut lent = run;
     let answer = record_calls::openings_first_records(rows, columns, grid, work, list, &mut lent);
@@ -73,7 +73,7 @@ fn random_run(
     run: [MoveRecord; 9],
     draws: &[u8],
 ) -> RolledRun
-    ensures { λ r. ⌜ KeepsRecords (inRecords (gridOf rows columns (now (grid .entry))) (within (gridOf rows columns (now (grid .entry))) (now (work .entry)) (now (list .entry)) 9 (randomRoundCall (gridOf rows columns (now (grid .entry))) (now (work .entry)) (now (list .entry)) (now (draws .entry)))) run) (rolledAnswer (r .answer)) (now (work .exit)) (now (list .exit)) (r .run) ⌝ }
+    ensures { λ r. ⌜ KeepsRecords (randomRecordsCall (gridOf rows columns (now (grid .entry))) (now (work .entry)) (now (list .entry)) run (now (draws .entry))) (rolledAnswer (r .answer)) (now (work .exit)) (now (list .exit)) (r .run) ⌝ }
 {
     let mut lent = run;
     let answer = record_calls::random_round_records(
@@ -114,7 +114,7 @@ fn read_twice(
     place: usize,
     rounds: usize,
 ) -> ReadTwice
-    ensures { λ r. ⌜ Twice (gridOf rows columns (now (grid .entry))) (now (work .entry)) (now (list .entry)) (now (bytes .entry)) place rounds (r .round) (r .search) (r .place) (now (work .exit)) (now (list .exit)) ⌝ }
+    ensures { λ r. ⌜ Twice false (gridOf rows columns (now (grid .entry))) (now (work .entry)) (now (list .entry)) (now (bytes .entry)) place rounds (r .round) (r .search) (r .place) (now (work .exit)) (now (list .exit)) ⌝ }
 {
     let mut reader = draw_reader::reader(bytes, place);
     let round = reader_calls::random_round(rows, columns, grid, work, list, &mut reader);
@@ -126,9 +126,114 @@ fn read_twice(
     }
 }
 
-// Prints a case's name and its answer.
-fn report(name: &[u8], answer: Plain) {
+// Greedy in the strict form over a run of nine records.
+fn strict_greedy_run(
+    rows: usize,
+    columns: usize,
+    grid: &[i32],
+    work: &mut [i32],
+    list: &mut [u32],
+    run: [MoveRecord; 9],
+) -> PricedRun
+    ensures { λ r. ⌜ KeepsRecords (strictPriceRecordsCall false (gridOf rows columns (now (grid .entry))) (now (work .entry)) (now (list .entry)) run) (pricedAnswer (r .answer)) (now (work .exit)) (now (list .exit)) (r .run) ⌝ }
+{
+    let mut lent = run;
+    let answer = record_calls::strict_greedy_records(rows, columns, grid, work, list, &mut lent);
+    PricedRun { answer, run: lent }
+}
+
+// Openings-first in the strict form over a run of nine records.
+fn strict_openings_first_run(
+    rows: usize,
+    columns: usize,
+    grid: &[i32],
+    work: &mut [i32],
+    list: &mut [u32],
+    run: [MoveRecord; 9],
+) -> PricedRun
+    ensures { λ r. ⌜ KeepsRecords (strictPriceRecordsCall true (gridOf rows columns (now (grid .entry))) (now (work .entry)) (now (list .entry)) run) (pricedAnswer (r .answer)) (now (work .exit)) (now (list .exit)) (r .run) ⌝ }
+{
+    let mut lent = run;
+    let answer = record_calls::strict_openings_first_records(
+        rows,
+        columns,
+        grid,
+        work,
+        list,
+        &mut lent,
+    );
+    PricedRun { answer, run: lent }
+}
+
+// A random round in the strict form over a run of nine records.
+fn strict_random_run(
+    rows: usize,
+    columns: usize,
+    grid: &[i32],
+    work: &mut [i32],
+    list: &mut [u32],
+    run: [MoveRecord; 9],
+    draws: &[u8],
+) -> RolledRun
+    ensures { λ r. ⌜ KeepsRecords (strictRandomRecordsCall (gridOf rows columns (now (grid .entry))) (now (work .entry)) (now (list .entry)) run (now (draws .entry))) (rolledAnswer (r .answer)) (now (work .exit)) (now (list .exit)) (r .run) ⌝ }
+{
+    let mut lent = run;
+    let answer = record_calls::strict_random_round_records(
+        rows,
+        columns,
+        grid,
+        work,
+        list,
+        &mut lent,
+        draws,
+    );
+    RolledRun { answer, run: lent }
+}
+
+// The first records of a run of nine are replayed in the strict form.
+fn strict_replay_run(
+    rows: usize,
+    columns: usize,
+    grid: &[i32],
+    work: &mut [i32],
+    list: &mut [u32],
+    run: [MoveRecord; 9],
+    count: usize,
+) -> Replayed
+    ensures { λ r. ⌜ KeepsList (strictReplayRecordsCall (gridOf rows columns (now (grid .entry))) (now (work .entry)) (now (list .entry)) run count) (replayedAnswer r) (now (work .exit)) (now (list .exit)) ⌝ }
+{
+    record_calls::strict_replay_records(rows, columns, grid, work, list, &run, count)
+}
+
+// A random round and then a random search, both in the strict form, by one reader, which goes on from where the round left it.
+fn strict_read_twice(
+    rows: usize,
+    columns: usize,
+    grid: &[i32],
+    work: &mut [i32],
+    list: &mut [u32],
+    bytes: &[u8],
+    place: usize,
+    rounds: usize,
+) -> ReadTwice
+    ensures { λ r. ⌜ Twice true (gridOf rows columns (now (grid .entry))) (now (work .entry)) (now (list .entry)) (now (bytes .entry)) place rounds (r .round) (r .search) (r .place) (now (work .exit)) (now (list .exit)) ⌝ }
+{
+    let mut reader = draw_reader::reader(bytes, place);
+    let round = reader_calls::strict_random_round(rows, columns, grid, work, list, &mut reader);
+    let search = reader_calls::strict_random_search(rows, columns, grid, work, &mut reader, rounds);
+    ReadTwice {
+        round,
+        search,
+        place: reader.place,
+    }
+}
+
+// Prints a case's name, with its form, and its answer.
+fn report(strict: bool, name: &[u8], answer: Plain) {
     io::write_all(1, name);
+    if strict {
+        io::write_all(1, b", strictly");
+    }
     trials::print_answer(answer);
 }
 
@@ -165,8 +270,118 @@ fn print_lent(run: [MoveRecord; 9], list: &[u32], work: &[i32]) {
     trials::print_area(work);
 }
 
+// Greedy over a run that nothing was written into, in the strict form or as it is.
+fn greedy_in_form(
+    strict: bool,
+    rows: usize,
+    columns: usize,
+    grid: &[i32],
+    work: &mut [i32],
+    list: &mut [u32],
+) -> PricedRun {
+    if strict {
+        return strict_greedy_run(rows, columns, grid, work, list, unwritten());
+    }
+    greedy_run(rows, columns, grid, work, list, unwritten())
+}
+
+// Openings-first over a run that nothing was written into, in the strict form or as it is.
+fn openings_first_in_form(
+    strict: bool,
+    rows: usize,
+    columns: usize,
+    grid: &[i32],
+    work: &mut [i32],
+    list: &mut [u32],
+) -> PricedRun {
+    if strict {
+        return strict_openings_first_run(rows, columns, grid, work, list, unwritten());
+    }
+    openings_first_run(rows, columns, grid, work, list, unwritten())
+}
+
+// A random round over a run that nothing was written into, in the strict form or as it is.
+fn random_in_form(
+    strict: bool,
+    rows: usize,
+    columns: usize,
+    grid: &[i32],
+    work: &mut [i32],
+    list: &mut [u32],
+    draws: &[u8],
+) -> RolledRun {
+    if strict {
+        return strict_random_run(rows, columns, grid, work, list, unwritten(), draws);
+    }
+    random_run(rows, columns, grid, work, list, unwritten(), draws)
+}
+
+// A replay of records, in the strict form or as it is.
+fn replay_in_form(
+    strict: bool,
+    rows: usize,
+    columns: usize,
+    grid: &[i32],
+    work: &mut [i32],
+    list: &mut [u32],
+    run: [MoveRecord; 9],
+    count: usize,
+) -> Replayed {
+    if strict {
+        return strict_replay_run(rows, columns, grid, work, list, run, count);
+    }
+    replay_run(rows, columns, grid, work, list, run, count)
+}
+
+// A round and a search on three rows of three by one reader, in the strict form or as they are.
+fn twice_in_form(
+    strict: bool,
+    grid: &[i32],
+    work: &mut [i32],
+    list: &mut [u32],
+    bytes: &[u8],
+    place: usize,
+    rounds: usize,
+) -> ReadTwice {
+    if strict {
+        return strict_read_twice(3, 3, grid, work, list, bytes, place, rounds);
+    }
+    read_twice(3, 3, grid, work, list, bytes, place, rounds)
+}
+
+// A random round on three rows of three by the bytes from a place on, in the strict form or as it is.
+fn round_in_form(
+    strict: bool,
+    grid: &[i32],
+    work: &mut [i32],
+    list: &mut [u32],
+    bytes: &[u8],
+    place: usize,
+) -> Rolled {
+    if strict {
+        return reader_calls::strict_round_from(3, 3, grid, work, list, bytes, place);
+    }
+    reader_calls::round_from(3, 3, grid, work, list, bytes, place)
+}
+
+// A search on three rows of three by the bytes from a place on, in the strict form or as it is.
+fn search_in_form(
+    strict: bool,
+    grid: &[i32],
+    work: &mut [i32],
+    bytes: &[u8],
+    place: usize,
+    rounds: usize,
+) -> Rolled {
+    if strict {
+        return reader_calls::strict_search_from(3, 3, grid, work, bytes, place, rounds);
+    }
+    reader_calls::search_from(3, 3, grid, work, bytes, place, rounds)
+}
+
 // Greedy over a run: its answer, and what was lent.
 fn greedy(
+    strict: bool,
     name: &[u8],
     rows: usize,
     columns: usize,
@@ -174,15 +389,16 @@ fn greedy(
     work: &mut [i32],
     list: &mut [u32],
 ) {
-    let priced = greedy_run(rows, columns, grid, work, list, unwritten());
+    let priced = greedy_in_form(strict, rows, columns, grid, work, list);
     let answer = priced.answer;
     let run = priced.run;
-    report(name, plain::of_priced(answer));
+    report(strict, name, plain::of_priced(answer));
     print_lent(run, list, work);
 }
 
 // Openings-first over a run: its answer, and what was lent.
 fn openings_first(
+    strict: bool,
     name: &[u8],
     rows: usize,
     columns: usize,
@@ -190,15 +406,16 @@ fn openings_first(
     work: &mut [i32],
     list: &mut [u32],
 ) {
-    let priced = openings_first_run(rows, columns, grid, work, list, unwritten());
+    let priced = openings_first_in_form(strict, rows, columns, grid, work, list);
     let answer = priced.answer;
     let run = priced.run;
-    report(name, plain::of_priced(answer));
+    report(strict, name, plain::of_priced(answer));
     print_lent(run, list, work);
 }
 
 // A random round over a run: its answer, and what was lent.
 fn rolls(
+    strict: bool,
     name: &[u8],
     rows: usize,
     columns: usize,
@@ -207,100 +424,138 @@ fn rolls(
     list: &mut [u32],
     draws: &[u8],
 ) {
-    let rolled = random_run(rows, columns, grid, work, list, unwritten(), draws);
+    let rolled = random_in_form(strict, rows, columns, grid, work, list, draws);
     let answer = rolled.answer;
     let run = rolled.run;
-    report(name, plain::of_rolled(answer));
+    report(strict, name, plain::of_rolled(answer));
     print_lent(run, list, work);
 }
 
-// The first records of a run on P11 are replayed: the answer, and what was lent.
-fn replays(name: &[u8], run: [MoveRecord; 9], count: usize, list: &mut [u32]) {
-    let mut work = [7i32; 46];
-    let grid = [0i32, 0, 0, 0, -1, 0, 0, 0, 0];
-    let answer = replay_run(3, 3, &grid, &mut work, list, run, count);
-    report(name, plain::of_replayed(answer));
-    print_lent(run, list, &work);
+// The first records of a run are replayed: the answer, and what was lent.
+fn replays(
+    strict: bool,
+    name: &[u8],
+    rows: usize,
+    columns: usize,
+    grid: &[i32],
+    work: &mut [i32],
+    list: &mut [u32],
+    run: [MoveRecord; 9],
+    count: usize,
+) {
+    let answer = replay_in_form(strict, rows, columns, grid, work, list, run, count);
+    report(strict, name, plain::of_replayed(answer));
+    print_lent(run, list, work);
+}
+
+// P7, for the strict form with its numbers.
+fn p7(strict: bool) -> [i32; 4] {
+    if strict {
+        return [-1i32, 1, 1, 1];
+    }
+    [-1i32, 0, 0, 0]
+}
+
+// P11, for the strict form with its numbers.
+fn p11(strict: bool) -> [i32; 9] {
+    if strict {
+        return [1i32, 1, 1, 1, -1, 1, 1, 1, 1];
+    }
+    [0i32, 0, 0, 0, -1, 0, 0, 0, 0]
 }
 
 // P7: greedy, openings-first, and a random round.
-fn seven() {
-    let grid = [-1i32, 0, 0, 0];
+fn seven(strict: bool) {
+    let grid = p7(strict);
     let mut w = [7i32; 21];
     let mut l = [4294967295u32; 5];
-    greedy(b"P7", 2, 2, &grid, &mut w, &mut l);
+    greedy(strict, b"P7", 2, 2, &grid, &mut w, &mut l);
     let mut w2 = [7i32; 21];
     let mut l2 = [4294967295u32; 5];
-    openings_first(b"P7 openings-first", 2, 2, &grid, &mut w2, &mut l2);
+    openings_first(strict, b"P7 openings-first", 2, 2, &grid, &mut w2, &mut l2);
     let mut w3 = [7i32; 21];
     let mut l3 = [4294967295u32; 5];
     let draws = [5u8, 0, 0, 0];
-    rolls(b"P7, 05 00 00 00", 2, 2, &grid, &mut w3, &mut l3, &draws);
+    rolls(
+        strict,
+        b"P7, 05 00 00 00",
+        2,
+        2,
+        &grid,
+        &mut w3,
+        &mut l3,
+        &draws,
+    );
 }
 
 // P7's records replayed: its three moves, and then one that is no move.
-fn replayed_7() {
-    let grid = [-1i32, 0, 0, 0];
+fn replayed_7(strict: bool) {
+    let grid = p7(strict);
     let mut run = unwritten();
     run[0] = record(1, 1, 0);
     run[1] = record(2, 0, 0);
     run[2] = record(3, 1, 0);
     let mut w = [7i32; 21];
     let mut l = [4294967295u32; 5];
-    let whole = replay_run(2, 2, &grid, &mut w, &mut l, run, 3);
-    report(b"P7 replayed", plain::of_replayed(whole));
-    print_lent(run, &l, &w);
+    replays(strict, b"P7 replayed", 2, 2, &grid, &mut w, &mut l, run, 3);
     let mut w2 = [7i32; 21];
     let mut l2 = [4294967295u32; 5];
-    let onward = replay_run(2, 2, &grid, &mut w2, &mut l2, run, 4);
-    report(b"P7, a record more", plain::of_replayed(onward));
-    print_lent(run, &l2, &w2);
+    replays(
+        strict,
+        b"P7, a record more",
+        2,
+        2,
+        &grid,
+        &mut w2,
+        &mut l2,
+        run,
+        4,
+    );
 }
 
 // P11: greedy and openings-first.
-fn eleven() {
-    let grid = [0i32, 0, 0, 0, -1, 0, 0, 0, 0];
+fn eleven(strict: bool) {
+    let grid = p11(strict);
     let mut w = [7i32; 46];
     let mut l = [4294967295u32; 10];
-    greedy(b"P11", 3, 3, &grid, &mut w, &mut l);
+    greedy(strict, b"P11", 3, 3, &grid, &mut w, &mut l);
     let mut w2 = [7i32; 46];
     let mut l2 = [4294967295u32; 10];
-    openings_first(b"P11 openings-first", 3, 3, &grid, &mut w2, &mut l2);
+    openings_first(strict, b"P11 openings-first", 3, 3, &grid, &mut w2, &mut l2);
 }
 
 // A random round on P11 over a run.
-fn round_11(name: &[u8], draws: &[u8]) {
-    let grid = [0i32, 0, 0, 0, -1, 0, 0, 0, 0];
+fn round_11(strict: bool, name: &[u8], draws: &[u8]) {
+    let grid = p11(strict);
     let mut work = [7i32; 46];
     let mut list = [4294967295u32; 10];
-    rolls(name, 3, 3, &grid, &mut work, &mut list, draws);
+    rolls(strict, name, 3, 3, &grid, &mut work, &mut list, draws);
 }
 
 // The random rounds of RULES 11.3 on P11, and DRAWS.
-fn rounds_11() {
-    round_11(b"P11, 12 zero bytes", &[0u8; 12]);
-    round_11(b"P11, 11 zero bytes", &[0u8; 11]);
-    round_11(b"P11, 07 and seven 00", &[7u8, 0, 0, 0, 0, 0, 0, 0]);
+fn rounds_11(strict: bool) {
+    round_11(strict, b"P11, 12 zero bytes", &[0u8; 12]);
+    round_11(strict, b"P11, 11 zero bytes", &[0u8; 11]);
+    round_11(strict, b"P11, 07 and seven 00", &[7u8, 0, 0, 0, 0, 0, 0, 0]);
 }
 
-// TRACE: nine records for ten cells.
-fn short_run() {
-    let grid = [0i32; 10];
+// Nine records for ten cells: TRACE, or NUMBER where a value is wrong.
+fn short_run(strict: bool, name: &[u8], grid: &[i32]) {
     let mut w = [7i32; 50];
     let mut l = [4294967295u32; 10];
-    greedy(b"2 by 5, nine records", 2, 5, &grid, &mut w, &mut l);
-    openings_first(b" openings-first", 2, 5, &grid, &mut w, &mut l);
-    rolls(b" random", 2, 5, &grid, &mut w, &mut l, &[0u8; 12]);
+    greedy(strict, name, 2, 5, grid, &mut w, &mut l);
+    openings_first(strict, b" openings-first", 2, 5, grid, &mut w, &mut l);
+    rolls(strict, b" random", 2, 5, grid, &mut w, &mut l, &[0u8; 12]);
 }
 
 // TRACE: a list of eight words for nine cells.
-fn short_list() {
-    let grid = [0i32, 0, 0, 0, -1, 0, 0, 0, 0];
+fn short_list(strict: bool) {
+    let grid = p11(strict);
     let mut w = [7i32; 46];
     let mut l = [4294967295u32; 8];
-    greedy(b"P11, eight words", 3, 3, &grid, &mut w, &mut l);
-    openings_first(b" openings-first", 3, 3, &grid, &mut w, &mut l);
-    rolls(b" random", 3, 3, &grid, &mut w, &mut l, &[0u8; 12]);
+    greedy(strict, b"P11, eight words", 3, 3, &grid, &mut w, &mut l);
+    openings_first(strict, b" openings-first", 3, 3, &grid, &mut w, &mut l);
+    rolls(strict, b" random", 3, 3, &grid, &mut w, &mut l, &[0u8; 12]);
 }
 
 // P11's greedy moves as records, and the rest of the run as it is lent.
@@ -314,73 +569,188 @@ fn moves_11() -> [MoveRecord; 9] {
     run
 }
 
+// The first records of a run are replayed on P11.
+fn replays_11(strict: bool, name: &[u8], run: [MoveRecord; 9], count: usize, list: &mut [u32]) {
+    let grid = p11(strict);
+    let mut work = [7i32; 46];
+    replays(strict, name, 3, 3, &grid, &mut work, list, run, count);
+}
+
 // P11's records replayed: whole, none, with a bad move, with a record of no cell, and TRACE.
-fn replayed_11() {
+fn replayed_11(strict: bool) {
     let run = moves_11();
     let mut list = [4294967295u32; 10];
-    replays(b"P11 replayed", run, 5, &mut list);
+    replays_11(strict, b"P11 replayed", run, 5, &mut list);
     let mut none = [4294967295u32; 10];
-    replays(b"P11, no record", run, 0, &mut none);
+    replays_11(strict, b"P11, no record", run, 0, &mut none);
     let mut bad = run;
     bad[2] = record(3, 0, 1);
     let mut bad_list = [4294967295u32; 10];
-    replays(b"P11, a closed cell", bad, 5, &mut bad_list);
+    replays_11(strict, b"P11, a closed cell", bad, 5, &mut bad_list);
     let mut off = run;
     off[3] = record(3, 3, 0);
     let mut off_list = [4294967295u32; 10];
-    replays(b"P11, a fourth row", off, 5, &mut off_list);
+    replays_11(strict, b"P11, a fourth row", off, 5, &mut off_list);
     let mut over = [4294967295u32; 10];
-    replays(b"P11, ten of nine", run, 10, &mut over);
+    replays_11(strict, b"P11, ten of nine", run, 10, &mut over);
     let mut few = [4294967295u32; 4];
-    replays(b"P11, a list of four", run, 5, &mut few);
+    replays_11(strict, b"P11, a list of four", run, 5, &mut few);
 }
 
-// A random round and then a search on P11 by one reader: both answers, where it stands, and what was lent.
-fn reads_11(name: &[u8], bytes: &[u8], place: usize, rounds: usize) {
-    let grid = [0i32, 0, 0, 0, -1, 0, 0, 0, 0];
-    let mut work = [7i32; 46];
-    let mut list = [4294967295u32; 10];
-    let both = read_twice(3, 3, &grid, &mut work, &mut list, bytes, place, rounds);
+// A random round and then a search by one reader: both answers, where it stands, and what was lent.
+fn reads(
+    strict: bool,
+    name: &[u8],
+    grid: &[i32],
+    work: &mut [i32],
+    list: &mut [u32],
+    bytes: &[u8],
+    place: usize,
+    rounds: usize,
+) {
+    let both = twice_in_form(strict, grid, work, list, bytes, place, rounds);
     let first = both.round;
     let second = both.search;
-    report(name, plain::of_rolled(first));
-    report(b" then a search", plain::of_rolled(second));
+    report(strict, name, plain::of_rolled(first));
+    report(strict, b" then a search", plain::of_rolled(second));
     io::write_all(1, b" stands at");
     trials::print_number(both.place as u64);
     io::write_all(1, b"\n");
-    trials::print_list(&list);
-    trials::print_area(&work);
+    trials::print_list(list);
+    trials::print_area(work);
+}
+
+// Two calls on P11 by one reader.
+fn reads_11(strict: bool, name: &[u8], bytes: &[u8], place: usize, rounds: usize) {
+    let grid = p11(strict);
+    let mut work = [7i32; 46];
+    let mut list = [4294967295u32; 10];
+    reads(
+        strict,
+        name,
+        &grid,
+        &mut work,
+        &mut list,
+        bytes,
+        place,
+        rounds,
+    );
 }
 
 // A reader goes on over two calls, stays where it is after ROUNDS and DRAWS, and may stand past its bytes.
-fn readers() {
+fn readers(strict: bool) {
     let bytes = [7u8, 0, 0, 0, 0, 0, 0, 0, 0, 0, 0, 0, 0, 0, 0, 0, 0, 0, 0, 0];
-    reads_11(b"20 bytes", &bytes, 0, 1);
-    reads_11(b"no rounds", &bytes, 0, 0);
-    reads_11(b"two rounds", &bytes, 0, 2);
-    reads_11(b"from 8", &bytes, 8, 1);
-    reads_11(b"from 21", &bytes, 21, 1);
+    reads_11(strict, b"20 bytes", &bytes, 0, 1);
+    reads_11(strict, b"no rounds", &bytes, 0, 0);
+    reads_11(strict, b"two rounds", &bytes, 0, 2);
+    reads_11(strict, b"from 8", &bytes, 8, 1);
+    reads_11(strict, b"from 21", &bytes, 21, 1);
 }
 
 // The random calls by the bytes from a place on.
-fn from_11(name: &[u8], bytes: &[u8], place: usize) {
-    let grid = [0i32, 0, 0, 0, -1, 0, 0, 0, 0];
-    let mut work = [7i32; 46];
-    let mut list = [4294967295u32; 10];
-    let rolled = reader_calls::round_from(3, 3, &grid, &mut work, &mut list, bytes, place);
-    report(name, plain::of_rolled(rolled));
-    trials::print_list(&list);
-    trials::print_area(&work);
-    let searched = reader_calls::search_from(3, 3, &grid, &mut work, bytes, place, 1);
-    report(b" a search", plain::of_rolled(searched));
-    trials::print_area(&work);
+fn reads_from(
+    strict: bool,
+    name: &[u8],
+    grid: &[i32],
+    work: &mut [i32],
+    list: &mut [u32],
+    bytes: &[u8],
+    place: usize,
+    rounds: usize,
+) {
+    let rolled = round_in_form(strict, grid, work, list, bytes, place);
+    report(strict, name, plain::of_rolled(rolled));
+    trials::print_list(list);
+    trials::print_area(work);
+    let searched = search_in_form(strict, grid, work, bytes, place, rounds);
+    report(strict, b" a search", plain::of_rolled(searched));
+    trials::print_area(work);
 }
 
-// The bytes from 0, from 4 and from past their end on.
-fn froms() {
+// The random calls on P11 by the bytes from a place on.
+fn from_11(strict: bool, name: &[u8], bytes: &[u8], place: usize) {
+    let grid = p11(strict);
+    let mut work = [7i32; 46];
+    let mut list = [4294967295u32; 10];
+    reads_from(strict, name, &grid, &mut work, &mut list, bytes, place, 1);
+}
+
+// The bytes from 4 and from past their end on.
+fn froms(strict: bool) {
     let bytes = [9u8, 9, 9, 9, 7, 0, 0, 0, 0, 0, 0, 0];
-    from_11(b"from 4", &bytes, 4);
-    from_11(b"from 13", &bytes, 13);
+    from_11(strict, b"from 4", &bytes, 4);
+    from_11(strict, b"from 13", &bytes, 13);
+}
+
+// The calls over P7 and P11, each in the strict form or as it is.
+fn calls(strict: bool) {
+    seven(strict);
+    replayed_7(strict);
+    eleven(strict);
+    rounds_11(strict);
+    short_run(strict, b"2 by 5, nine records", &[0i32; 10]);
+    short_list(strict);
+    replayed_11(strict);
+    readers(strict);
+    froms(strict);
+}
+
+// NUMBER: each strict call over a run, on three rows of three.
+fn wrong_runs(name: &[u8], grid: &[i32], work: &mut [i32], list: &mut [u32], count: usize) {
+    greedy(true, name, 3, 3, grid, work, list);
+    openings_first(true, b" openings-first", 3, 3, grid, work, list);
+    rolls(true, b" random", 3, 3, grid, work, list, &[0u8; 12]);
+    replays(
+        true,
+        b" replayed",
+        3,
+        3,
+        grid,
+        work,
+        list,
+        moves_11(),
+        count,
+    );
+}
+
+// NUMBER: each strict call by a reader that stands at 4, and by the bytes from 4 on.
+fn wrong_reads(grid: &[i32], work: &mut [i32], list: &mut [u32], rounds: usize) {
+    let bytes = [0u8; 24];
+    reads(true, b" by a reader", grid, work, list, &bytes, 4, rounds);
+    reads_from(true, b" from 4", grid, work, list, &bytes, 4, rounds);
+}
+
+// P11 with its numbers, but a 2 at row 0, column 1, and one at row 2, column 0: that is cell 2, the lower.
+fn wrong_11(name: &[u8], work: &mut [i32], list: &mut [u32], count: usize, rounds: usize) {
+    let grid = [1i32, 2, 1, 1, -1, 1, 2, 1, 1];
+    wrong_runs(name, &grid, work, list, count);
+    wrong_reads(&grid, work, list, rounds);
+}
+
+// A wrong value is refused before a list, a run or a work area that is too short, 0 rounds, and a count above the run.
+fn wrong() {
+    let mut w = [7i32; 46];
+    let mut l = [4294967295u32; 10];
+    wrong_11(b"P11, two wrong", &mut w, &mut l, 5, 1);
+    wrong_11(
+        b"P11, two wrong, ten of nine, no rounds",
+        &mut w,
+        &mut l,
+        10,
+        0,
+    );
+    let mut few = [4294967295u32; 4];
+    wrong_11(b"P11, two wrong, a list of four", &mut w, &mut few, 5, 1);
+    let mut short = [7i32; 44];
+    wrong_11(
+        b"P11, two wrong, a work area of 44",
+        &mut short,
+        &mut l,
+        5,
+        1,
+    );
+    let grid = [0i32, 0, 0, 0, 1, 0, 0, 0, 1, 0];
+    short_run(true, b"2 by 5, two wrong, nine records", &grid);
 }
 
 // A draw among 8 by a reader at a place: what is taken, and where the next draw reads.
@@ -435,17 +805,11 @@ fn main() {
     ) {
         return;
     }
-    seven();
-    replayed_7();
-    eleven();
-    rounds_11();
-    short_run();
-    short_list();
-    replayed_11();
-    readers();
-    froms();
+    calls(false);
     draws_of(b"12 zero bytes", &[0u8; 12]);
     draws_of(b"11 zero bytes", &[0u8; 11]);
     draws_of(b"07 and seven 00", &[7u8, 0, 0, 0, 0, 0, 0, 0]);
     words();
+    calls(true);
+    wrong();
 }

@@ -1,9 +1,9 @@
 -- The refusals of the code by the rules' names. Assumes nothing.
 use mathlib.Core.Option.{Option, none, some}
-use Rattle.game.specs.Calls.{board, draws, file-wrong, frame, move, rounds, shape, size-over, trace, work}
+use Rattle.game.specs.Calls.{board, draws, file-wrong, frame, move, number-wrong, rounds, shape, size-over, trace, work}
 use Rattle.game.specs.Calls as Game
 use Rattle.refusals.specs.declared.Refusal.{Refusal}
-use Rattle.refusals.specs.declared.Refusal.the-variants.{Shape, Board, Work, Trace, Rounds, Draws, Move, Frame, Size, File}
+use Rattle.refusals.specs.declared.Refusal.the-variants.{Shape, Board, Work, Trace, Rounds, Draws, Move, Frame, Size, File, Number}
 use Rattle.refusals.specs.declared.Checked.{Checked}
 use Rattle.refusals.specs.declared.Checked.the-variants.{Fine, Refused}
 
@@ -19,6 +19,7 @@ named Move = move
 named Frame = frame
 named Size = size-over
 named File = file-wrong
+named (Number cell) = number-wrong cell
 
 -- the refusal that is given, if any
 abbrev pub refusalOf : Checked → Option Game.Refusal

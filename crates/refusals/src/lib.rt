@@ -3,7 +3,7 @@ ghost use mathlib.Core.Path.{_≡_};
 ghost use Rattle.game.specs.Calls.{numberOf};
 ghost use Rattle.refusals.specs.Names.{named};
 
-// A refusal by its name.
+// A refusal by its name; NUMBER names the lowest cell at fault.
 pub enum Refusal {
     Shape,
     Board,
@@ -15,6 +15,7 @@ pub enum Refusal {
     Frame,
     Size,
     File,
+    Number(usize),
 }
 
 // What checks say.
@@ -38,5 +39,6 @@ pub fn number_of(refusal: Refusal) -> u8
         Refusal::Frame => 8,
         Refusal::Size => 9,
         Refusal::File => 10,
+        Refusal::Number(_) => 11,
     }
 }

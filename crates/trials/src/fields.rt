@@ -314,7 +314,21 @@ pub fn lay_values(text: &[u8], name: &[u8], run: &mut [i32]) {
     repeat_values(&text[from..end], run);
 }
 
-// The same for words.
+// The last value of a run, by a field, where there is one.
+pub fn lay_last(text: &[u8], name: &[u8], run: &mut [i32]) {
+    let from = field(text, name);
+    if from >= text.len() {
+        return;
+    }
+    if run.len() == 0 {
+        return;
+    }
+    let last = run.len() - 1;
+    let v = value_from(text, from);
+    run[last] = v;
+}
+
+// A run of words, filled by the pattern of a field.
 pub fn lay_words(text: &[u8], name: &[u8], run: &mut [u32]) {
     let from = field(text, name);
     let end = pattern_end(text, from);

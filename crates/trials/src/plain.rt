@@ -1,4 +1,5 @@
 // What the calls answer, as three numbers, and a replay's as four.
+use refusals::Refusal;
 use zini::Counted;
 use zini::Priced;
 use zini::Replayed;
@@ -35,11 +36,19 @@ fn replay_numbers(number: u64, first: u64, second: u64, ending: u64) -> Plain {
     }
 }
 
+// What a refusal answers: its number, and the cell that NUMBER names.
+pub fn of_refusal(refusal: Refusal) -> Plain {
+    match refusal {
+        Refusal::Number(cell) => numbers(11, cell as u64, 0),
+        _ => numbers(refusals::number_of(refusal) as u64, 0, 0),
+    }
+}
+
 // What the 3BV count answered.
 pub fn of_counted(answer: Counted) -> Plain {
     match answer {
         Counted::Units(units) => numbers(0, units as u64, 0),
-        Counted::Refused(refusal) => numbers(refusals::number_of(refusal) as u64, 0, 0),
+        Counted::Refused(refusal) => of_refusal(refusal),
     }
 }
 
@@ -47,7 +56,7 @@ pub fn of_counted(answer: Counted) -> Plain {
 pub fn of_priced(answer: Priced) -> Plain {
     match answer {
         Priced::Clicks(clicks) => numbers(0, clicks as u64, 0),
-        Priced::Refused(refusal) => numbers(refusals::number_of(refusal) as u64, 0, 0),
+        Priced::Refused(refusal) => of_refusal(refusal),
     }
 }
 
@@ -55,7 +64,7 @@ pub fn of_priced(answer: Priced) -> Plain {
 pub fn of_rolled(answer: Rolled) -> Plain {
     match answer {
         Rolled::Clicks(clicks, used) => numbers(0, clicks as u64, used as u64),
-        Rolled::Refused(refusal) => numbers(refusals::number_of(refusal) as u64, 0, 0),
+        Rolled::Refused(refusal) => of_refusal(refusal),
     }
 }
 
@@ -67,7 +76,8 @@ pub fn of_replayed(answer: Replayed) -> Plain {
         }
         Replayed::Move(place) => replay_numbers(7, place as u64, 0, 0),
         Replayed::Refused(refusal) => {
-            replay_numbers(refusals::number_of(refusal) as u64, 0, 0, 0)
+            let refused = of_refusal(refusal);
+            replay_numbers(refused.number, refused.first, 0, 0)
         }
     }
 }

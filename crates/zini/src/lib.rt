@@ -6,5 +6,6 @@ pub use answers::Rolled;
 pub use count_call::count; // 3BV
 pub use price_calls::prices; // greedy and openings-first rounds
 pub use replay_call::replays; // a stored list played on a board
+pub use strict_calls::strict; // each of them on a grid whose values must be right
 
 pub mod random_calls; // random rounds and searches

@@ -1,22 +1,14 @@
--- `lavgerin::price`, greedy or openings-first: the number and the clicks of the answer that came. Assumes nothing.
+-- `lavgerin::price`, greedy or openings-first: what the call keeps, as its answer tells it. Assumes nothing.
 use borrow.Author.Needs.{needs}
-use mathlib.Core.Path.{ap, refl}
-use Rattle.answers.specs.Answers.{pricedAnswer}
-use Rattle.lavgerin.proofs.Returns.{returned-list}
+use Rattle.c_answers.proofs.Returns.{returned-list}
 use Rattle.lavgerin.proofs.price.Statement.{statement}
 use Rattle.lavgerin.proofs.price.Tie as tie
 
 price-requires : tie.Need-price-requires
 price-requires c κs = search needs
 
-enum-known-answer : tie.Need-enum-known-answer
-enum-known-answer c = search needs
-
-enum-known-answer-2 : tie.Need-enum-known-answer-2
-enum-known-answer-2 c = search needs
-
-number-of-requires : tie.Need-number-of-requires
-number-of-requires c κs = search needs
+tell-clicks-requires : tie.Need-tell-clicks-requires
+tell-clicks-requires c κs = search needs
 
 same-length : tie.Need-same-length
 same-length c = search needs
@@ -25,28 +17,8 @@ same-length-2 : tie.Need-same-length-2
 same-length-2 c = search needs
 
 returns : tie.Need-returns
-returns c = returned-list (c .before .before .before .before .before .before .price .ensures) (ap pricedAnswer (c .before .answer .given .1)) refl refl
-
-same-length-3 : tie.Need-same-length-3
-same-length-3 c = search needs
-
-same-length-4 : tie.Need-same-length-4
-same-length-4 c = search needs
-
-returns-2 : tie.Need-returns-2
-returns-2 c = returned-list (c .before .before .before .before .before .before .before .price .ensures) (ap pricedAnswer (c .before .before .answer2 .given .1)) (c .number-of .ensures) refl
+returns c = returned-list (c .before .before .before .before .before .price .ensures) (c .tell-clicks .ensures)
 
 pub price-spec : {M : Type 1} → statement M
 price-spec =
-    tie.close
-    (tie.spec
-    price-requires
-    enum-known-answer
-    enum-known-answer-2
-    number-of-requires
-    same-length
-    same-length-2
-    returns
-    same-length-3
-    same-length-4
-    returns-2)
+    tie.close (tie.spec price-requires tell-clicks-requires same-length same-length-2 returns)

@@ -1,4 +1,4 @@
--- `record_calls::greedy_records` meets its contract: its MIR is the walked one, with the flag false. Assumes nothing.
+-- `record_calls::greedy_records` meets its contract: its MIR is the walked one, with both flags false. Assumes nothing.
 use mathlib.Core.Bool.{false}
 use Rattle.record_calls.proofs.Walk.{price-records-spec}
 use Rattle.record_calls.proofs.greedy_records.Key.{name}
@@ -8,4 +8,4 @@ use Rattle.record_calls.proofs.greedy_records.Code as code
 pub greedy-records-spec : {M : Type 1} → statement M
 unfolding code.routine
 greedy-records-spec 𝓤 H 𝓜 𝓖 𝓡 =
-    price-records-spec 𝓤 H 𝓜 𝓖 𝓡 false code.env name (code.unfolded 𝓤 H 𝓜 𝓡) code.calls-record-checks·price-within code.calls-record-checks·written-by code.calls-records·records-of
+    price-records-spec 𝓤 H 𝓜 𝓖 𝓡 false false code.env name (code.unfolded 𝓤 H 𝓜 𝓡) code.calls-record-checks·price-in-form code.calls-record-checks·written-by code.calls-records·records-of

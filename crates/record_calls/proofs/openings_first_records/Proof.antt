@@ -1,5 +1,5 @@
--- `record_calls::openings_first_records` meets its contract: its MIR is the walked one, with the flag true. Assumes nothing.
-use mathlib.Core.Bool.{true}
+-- `record_calls::openings_first_records` meets its contract: its MIR is the walked one, with the flags true and false. Assumes nothing.
+use mathlib.Core.Bool.{false, true}
 use Rattle.record_calls.proofs.Walk.{price-records-spec}
 use Rattle.record_calls.proofs.openings_first_records.Key.{name}
 use Rattle.record_calls.proofs.openings_first_records.Statement.{statement}
@@ -8,4 +8,4 @@ use Rattle.record_calls.proofs.openings_first_records.Code as code
 pub openings-first-records-spec : {M : Type 1} → statement M
 unfolding code.routine
 openings-first-records-spec 𝓤 H 𝓜 𝓖 𝓡 =
-    price-records-spec 𝓤 H 𝓜 𝓖 𝓡 true code.env name (code.unfolded 𝓤 H 𝓜 𝓡) code.calls-record-checks·price-within code.calls-record-checks·written-by code.calls-records·records-of
+    price-records-spec 𝓤 H 𝓜 𝓖 𝓡 true false code.env name (code.unfolded 𝓤 H 𝓜 𝓡) code.calls-record-checks·price-in-form code.calls-record-checks·written-by code.calls-records·records-of

@@ -14,9 +14,11 @@ use Rattle.game.specs.Grid.{cellAt, rightValue}
 use Rattle.game.specs.Lists.{fold, range}
 use Rattle.game.proofs.Members.{range-none}
 use Rattle.lines.specs.BoardLine.{bitAt}
-use Rattle.mbf_read.specs.Numbers.{bitGrid, columnMines, putRight}
+use Rattle.area.specs.Squares.{columnMines}
+use Rattle.area.proofs.Columns.{columns-none, columns-number}
+use Rattle.mbf_read.specs.Numbers.{bitGrid, putRight}
 use Rattle.mbf_checks.proofs.Marking.{place-small}
-use Rattle.mbf_read.proofs.Filling.{column-mines, columns-none, columns-number, one-more, value-fits, value-is}
+use Rattle.mbf_read.proofs.Filling.{column-mines, one-more, value-fits, value-is}
 use Rattle.mbf_read.proofs.numbers.fill_row.Statement.{statement}
 use Rattle.mbf_read.proofs.numbers.fill_row.Tie as tie
 
@@ -53,7 +55,7 @@ loop-holds c =
       omega arith,
       sym (ap (fold (putRight g) (a .grid .now)) (ap (range (a .row * a .columns)) n ∙ range-none (a .row * a .columns))),
       refl,
-      columns-none (a .rows) (a .columns) (a .bits .now) first last 0,
+      columns-none g first last 0,
       column-mines (a .rows) (a .columns) (a .bits .now) first last 0 (c .mines-in-column .result) (omega arith) (omega arith) (c .mines-in-column .ensures .0) ∙ ap (columnMines g first last 0) (sym e),
       omega arith,
       omega arith,
@@ -119,7 +121,7 @@ loop-again c =
     let p = a .row * a .columns + l .column in
     let e : min (l .column + 1) (a .columns) ≡ l .column + 1 = omega arith in
     let h : l .here ≡ columnMines g (first .result) (last .result) (l .column) (l .column + 1) = l .inv .4 ∙ ap (columnMines g (first .result) (last .result) (l .column)) e in
-    let n = columns-number (a .rows) (a .columns) (a .bits .now) (a .row) (l .column) (first .result) (last .result) (l .left) (l .here) (b .result) (omega arith) (omega arith) (first .ensures) (last .ensures) (l .inv .3) h (b .ensures .0) in
+    let n = columns-number g (a .row) (l .column) (first .result) (last .result) (l .left) (l .here) (b .result) (omega arith) (omega arith) (first .ensures) (last .ensures) (l .inv .3) h (b .ensures .0) in
     let fit = value-fits (bitAt (a .bits .now) p) (l .left + l .here + b .result) (omega arith) in
     let z : ℤ = toZ w32 (ofZ w32 (v .result)) in
     let right : z ≡ rightValue g (cellAt g p) = toZ-ofZ (subst (SFits w32) (sym (v .ensures)) fit) ∙ v .ensures ∙ value-is (a .rows) (a .columns) (a .bits .now) (a .row) (l .column) (l .left + l .here + b .result) (omega arith) (omega arith) n in

@@ -2,8 +2,10 @@
 use Prim.Native.Nat.{_+_, min}
 use native.Mathlib.Omega.{arith}
 use mathlib.Core.Path.{_≡_, ap, sym, _∙_}
-use Rattle.mbf_read.specs.Numbers.{bitGrid, columnMines}
-use Rattle.mbf_read.proofs.Filling.{column-mines, columns-none}
+use Rattle.area.specs.Squares.{columnMines}
+use Rattle.area.proofs.Columns.{columns-none}
+use Rattle.mbf_read.specs.Numbers.{bitGrid}
+use Rattle.mbf_read.proofs.Filling.{column-mines}
 use borrow.Author.Needs.{needs}
 use Rattle.mbf_read.proofs.numbers.mines_right.Statement.{statement}
 use Rattle.mbf_read.proofs.numbers.mines_right.Tie as tie
@@ -16,7 +18,7 @@ returns c =
     let a = c .before .before .args in
     let g = bitGrid (a .rows) (a .columns) (a .bits .now) in
     let e : min (a .column + 2) (a .columns) ≡ a .column + 1 = omega arith in
-    (columns-none (a .rows) (a .columns) (a .bits .now) (a .first) (a .last) (a .column + 1) ∙ ap (columnMines g (a .first) (a .last) (a .column + 1)) (sym e), omega arith)
+    (columns-none g (a .first) (a .last) (a .column + 1) ∙ ap (columnMines g (a .first) (a .last) (a .column + 1)) (sym e), omega arith)
 
 add-mines-in-column : tie.Need-add-mines-in-column
 add-mines-in-column c = search needs

@@ -1,0 +1,3 @@
+-- What the proofs of answers as C sees them share.
+pub mod Telling
+pub mod Returns

@@ -1,0 +1,114 @@
+// Answers as C sees them: the number that a name returns, 0 for success, and the values behind its answer pointers. What stands behind a pointer is left alone where an answer has no such value.
+use answers::Counted;
+use answers::Priced;
+use answers::Replayed;
+use answers::Rolled;
+use lines::board::Board;
+use mbf_write::FileWritten;
+use refusals::Refusal;
+use refusals::number_of;
+ghost use Rattle.game.specs.Calls.{refuses};
+ghost use Rattle.refusals.specs.Names.{named};
+ghost use Rattle.answers.specs.Answers.{countedAnswer, pricedAnswer, replayedAnswer, rolledAnswer};
+ghost use Rattle.lines.specs.Answers.{boardAnswer};
+ghost use Rattle.mbf_write.specs.Answers.{fileWrittenAnswer};
+ghost use Rattle.c_answers.specs.Names.{Tells, TellsThree, TellsTwo};
+
+// A refusal: its number, and behind the first pointer the cell that NUMBER names.
+fn tell_refusal(refusal: Refusal, first: &mut u64) -> u8
+    ensures { λ r. ⌜ Tells (refuses (named refusal)) r (now (first .entry)) (now (first .exit)) ⌝ }
+{
+    match refusal {
+        Refusal::Number(cell) => {
+            *first = cell as u64;
+            number_of(refusal)
+        }
+        _ => number_of(refusal),
+    }
+}
+
+// 3BV.
+pub fn tell_units(answer: Counted, units: &mut u64) -> u8
+    ensures { λ r. ⌜ Tells (countedAnswer answer) r (now (units .entry)) (now (units .exit)) ⌝ }
+{
+    match answer {
+        Counted::Units(count) => {
+            *units = count as u64;
+            0
+        }
+        Counted::Refused(refusal) => tell_refusal(refusal, units),
+    }
+}
+
+// A greedy or openings-first round's clicks.
+pub fn tell_clicks(answer: Priced, clicks: &mut u64) -> u8
+    ensures { λ r. ⌜ Tells (pricedAnswer answer) r (now (clicks .entry)) (now (clicks .exit)) ⌝ }
+{
+    match answer {
+        Priced::Clicks(count) => {
+            *clicks = count as u64;
+            0
+        }
+        Priced::Refused(refusal) => tell_refusal(refusal, clicks),
+    }
+}
+
+// A random round's or search's clicks, and the draw bytes used.
+pub fn tell_roll(answer: Rolled, clicks: &mut u64, used: &mut u64) -> u8
+    ensures { λ r. ⌜ TellsTwo (rolledAnswer answer) r (now (clicks .entry)) (now (clicks .exit)) (now (used .entry)) (now (used .exit)) ⌝ }
+{
+    match answer {
+        Rolled::Clicks(count, bytes) => {
+            *clicks = count as u64;
+            *used = bytes as u64;
+            0
+        }
+        Rolled::Refused(refusal) => tell_refusal(refusal, clicks),
+    }
+}
+
+// A replay's moves made, or the place of the bad one, the safe cells still closed, and the ending.
+pub fn tell_replay(answer: Replayed, made: &mut u64, closed: &mut u64, ending: &mut u64) -> u8
+    ensures { λ r. ⌜ TellsThree (replayedAnswer answer) r (now (made .entry)) (now (made .exit)) (now (closed .entry)) (now (closed .exit)) (now (ending .entry)) (now (ending .exit)) ⌝ }
+{
+    match answer {
+        Replayed::Played(moves, left, end) => {
+            *made = moves as u64;
+            *closed = left as u64;
+            *ending = end as u64;
+            0
+        }
+        Replayed::Move(place) => {
+            *made = place as u64;
+            number_of(Refusal::Move)
+        }
+        Replayed::Refused(refusal) => tell_refusal(refusal, made),
+    }
+}
+
+// The rows and columns of a file that was read.
+pub fn tell_board(answer: Board, rows: &mut u64, columns: &mut u64) -> u8
+    ensures { λ r. ⌜ TellsTwo (boardAnswer answer) r (now (rows .entry)) (now (rows .exit)) (now (columns .entry)) (now (columns .exit)) ⌝ }
+{
+    match answer {
+        Board::Cells(height, width) => {
+            *rows = height as u64;
+            *columns = width as u64;
+            0
+        }
+        Board::Refused(refusal) => tell_refusal(refusal, rows),
+    }
+}
+
+// The bytes of a file that was written.
+pub fn tell_file(answer: FileWritten, written: &mut u64) -> u8
+    ensures { λ r. ⌜ Tells (fileWrittenAnswer answer) r (now (written .entry)) (now (written .exit)) ⌝ }
+{
+    match answer {
+        FileWritten::Bytes(count) => {
+            *written = count as u64;
+            0
+        }
+        FileWritten::Refused(refusal) => tell_refusal(refusal, written),
+    }
+}

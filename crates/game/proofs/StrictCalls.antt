@@ -1,0 +1,83 @@
+-- The strict calls: what each comes to where SHAPE or BOARD refuses, where every value is right, and where one is at fault. Assumes nothing.
+use Prim.Native.Nat.{ℕ}
+use mathlib.Core.Path.{_∙_, _≡_, ap, refl, sym}
+use mathlib.Core.Bool.{Bool}
+use mathlib.Core.List.{List, [], _++_, _∷_}
+use mathlib.Core.Option.{Option, none, some}
+use lib.IntN.{ℤ}
+use Rattle.game.specs.Calls.{Check, Refusal, boardChecks, countCheck, decided, firstGiven, kept, keptListed, listCheck, number-wrong, priceCall, randomRoundCall, randomSearchCall, replayCall, roundsCheck, strictChecks, strictPriceCall, strictRandomRoundCall, strictRandomSearchCall, strictReplayCall, strictThreeBVCall, strictly, threeBVCall, workCheck}
+use Rattle.game.specs.Grid.{Grid}
+use Rattle.game.proofs.Checks.{first-decides}
+use Rattle.game.proofs.Strict.{AllRight, Fault, verdict-board, verdict-fault, verdict-right}
+
+-- ---- a strict call by its three outcomes
+
+module _ {A : Type 0} (leaves : Refusal → A) (g : Grid) (present : A) where
+  -- the call by the verdict of its checks
+  by-verdict : (o : Option Refusal) → firstGiven (strictChecks g) ≡ o → strictly leaves g present ≡ decided o leaves present
+  by-verdict o e = ap (λ (v : Option Refusal). decided v leaves present) e
+
+  -- what SHAPE or BOARD leaves, whatever the values
+  pub strict-board : (f : Refusal) → firstGiven (boardChecks g) ≡ some f → strictly leaves g present ≡ leaves f
+  strict-board f e = by-verdict (some f) (verdict-board g f e)
+
+  -- what the present call comes to, where every value is right
+  pub strict-right : firstGiven (boardChecks g) ≡ none → AllRight g → strictly leaves g present ≡ present
+  strict-right e r = by-verdict none (verdict-right g e r)
+
+  -- what NUMBER of the lowest cell at fault leaves
+  pub strict-fault : firstGiven (boardChecks g) ≡ none → (f : Fault g) → strictly leaves g present ≡ leaves (number-wrong (f .cell))
+  strict-fault e f = by-verdict (some (number-wrong (f .cell))) (verdict-fault g e f)
+
+-- ---- every value is right
+
+-- every strict call comes to what the present call does
+pub record SameStrictly (g : Grid) : Type 0 where
+  pub three-bv : (ws : List ℤ) → strictThreeBVCall g ws ≡ threeBVCall g ws
+  pub price : (openingsFirst : Bool) (ws : List ℤ) (ms : List ℕ) → strictPriceCall openingsFirst g ws ms ≡ priceCall openingsFirst g ws ms
+  pub random-round : (ws : List ℤ) (ms bytes : List ℕ) → strictRandomRoundCall g ws ms bytes ≡ randomRoundCall g ws ms bytes
+  pub random-search : (ws : List ℤ) (bytes : List ℕ) (n : ℕ) → strictRandomSearchCall g ws bytes n ≡ randomSearchCall g ws bytes n
+  pub replay : (ws : List ℤ) (ms : List ℕ) (n : ℕ) → strictReplayCall g ws ms n ≡ replayCall g ws ms n
+
+-- so a call does whose checks begin with the board's: SHAPE and BOARD leave the same in both forms
+pub same-strictly : {A : Type 0} (leaves : Refusal → A) (g : Grid) (cs : List Check) (o : A) → AllRight g
+    → strictly leaves g (decided (firstGiven (boardChecks g ++ cs)) leaves o) ≡ decided (firstGiven (boardChecks g ++ cs)) leaves o
+same-strictly leaves g cs o r = go (firstGiven (boardChecks g)) refl
+  where
+    go : (v : Option Refusal) → firstGiven (boardChecks g) ≡ v
+        → strictly leaves g (decided (firstGiven (boardChecks g ++ cs)) leaves o) ≡ decided (firstGiven (boardChecks g ++ cs)) leaves o
+    go none e = strict-right leaves g _ e r
+    go (some f) e = strict-board leaves g _ f e ∙ sym (ap (λ (v : Option Refusal). decided v leaves o) (first-decides (boardChecks g) cs f e))
+
+-- where every value is right, also on grids that SHAPE or BOARD refuses
+pub right-calls : (g : Grid) → AllRight g → SameStrictly g
+unfolding threeBVCall priceCall randomRoundCall randomSearchCall replayCall
+right-calls g r =
+    record {
+      three-bv = λ ws. same-strictly (kept ws) g (workCheck g ws ∷ []) _ r;
+      price = λ openingsFirst ws ms. same-strictly (keptListed ws ms) g (workCheck g ws ∷ listCheck g ms ∷ []) _ r;
+      random-round = λ ws ms bytes. same-strictly (keptListed ws ms) g (workCheck g ws ∷ listCheck g ms ∷ []) _ r;
+      random-search = λ ws bytes n. same-strictly (kept ws) g (workCheck g ws ∷ roundsCheck n ∷ []) _ r;
+      replay = λ ws ms n. same-strictly (kept ws) g (workCheck g ws ∷ countCheck n ms ∷ []) _ r;
+    }
+
+-- ---- a value is wrong
+
+-- every strict call is NUMBER of a cell and changes nothing lent, also where the work area or the list is too short, or there are no rounds
+pub record NumberCalls (g : Grid) (cell : ℕ) : Type 0 where
+  pub three-bv : (ws : List ℤ) → strictThreeBVCall g ws ≡ kept ws (number-wrong cell)
+  pub price : (openingsFirst : Bool) (ws : List ℤ) (ms : List ℕ) → strictPriceCall openingsFirst g ws ms ≡ keptListed ws ms (number-wrong cell)
+  pub random-round : (ws : List ℤ) (ms bytes : List ℕ) → strictRandomRoundCall g ws ms bytes ≡ keptListed ws ms (number-wrong cell)
+  pub random-search : (ws : List ℤ) (bytes : List ℕ) (n : ℕ) → strictRandomSearchCall g ws bytes n ≡ kept ws (number-wrong cell)
+  pub replay : (ws : List ℤ) (ms : List ℕ) (n : ℕ) → strictReplayCall g ws ms n ≡ kept ws (number-wrong cell)
+
+-- the lowest cell at fault is named
+pub fault-calls : (g : Grid) → firstGiven (boardChecks g) ≡ none → (f : Fault g) → NumberCalls g (f .cell)
+fault-calls g e f =
+    record {
+      three-bv = λ ws. strict-fault (kept ws) g (threeBVCall g ws) e f;
+      price = λ openingsFirst ws ms. strict-fault (keptListed ws ms) g (priceCall openingsFirst g ws ms) e f;
+      random-round = λ ws ms bytes. strict-fault (keptListed ws ms) g (randomRoundCall g ws ms bytes) e f;
+      random-search = λ ws bytes n. strict-fault (kept ws) g (randomSearchCall g ws bytes n) e f;
+      replay = λ ws ms n. strict-fault (kept ws) g (replayCall g ws ms n) e f;
+    }

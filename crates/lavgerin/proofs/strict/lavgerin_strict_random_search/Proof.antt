@@ -1,0 +1,21 @@
+-- `lavgerin::strict::lavgerin_strict_random_search`, random search: what the call keeps, as its answer tells it. Assumes nothing.
+use borrow.Author.Needs.{needs}
+use Rattle.c_answers.proofs.Returns.{returned-two}
+use Rattle.lavgerin.proofs.strict.lavgerin_strict_random_search.Statement.{statement}
+use Rattle.lavgerin.proofs.strict.lavgerin_strict_random_search.Tie as tie
+
+random-search-requires : tie.Need-random-search-requires
+random-search-requires c κs = search needs
+
+tell-roll-requires : tie.Need-tell-roll-requires
+tell-roll-requires c κs = search needs
+
+same-length : tie.Need-same-length
+same-length c = search needs
+
+returns : tie.Need-returns
+returns c = returned-two (c .before .before .before .before .random-search .ensures) (c .tell-roll .ensures)
+
+pub lavgerin-strict-random-search-spec : {M : Type 1} → statement M
+lavgerin-strict-random-search-spec =
+    tie.close (tie.spec random-search-requires tell-roll-requires same-length returns)

@@ -1,0 +1,137 @@
+// The strict forms under C names, with the parameters of the present ones: NUMBER puts the lowest cell at fault behind the first answer pointer.
+ghost use mathlib.Core.Bool.{false, true};
+ghost use Rattle.game.specs.Calls.{strictPriceCall, strictRandomRoundCall, strictRandomSearchCall, strictReplayCall, strictThreeBVCall};
+ghost use Rattle.area.specs.Numbers.{gridOf};
+ghost use Rattle.mbf_form.specs.Calls.{strictWriteFileCall};
+ghost use Rattle.c_answers.specs.Names.{Returned, ReturnedList, ReturnedListTwo, ReturnedRun, ReturnedThree, ReturnedTwo};
+
+// 3BV of a grid.
+#[no_mangle]
+pub extern "C" fn lavgerin_strict_three_bv(
+    rows: usize,
+    columns: usize,
+    grid: &[i32],
+    work: &mut [i32],
+    units: &mut u64,
+) -> u8
+    ensures { λ r. ⌜ Returned (strictThreeBVCall (gridOf rows columns (now (grid .entry))) (now (work .entry))) r (now (work .exit)) (now (units .entry)) (now (units .exit)) ⌝ }
+{
+    let answer = zini::strict::three_bv(rows, columns, grid, work);
+    c_answers::tell_units(answer, units)
+}
+
+// Greedy ZiNi, or openings-first: its clicks, and its moves in the list.
+fn price(
+    rows: usize,
+    columns: usize,
+    grid: &[i32],
+    work: &mut [i32],
+    list: &mut [u32],
+    clicks: &mut u64,
+    openings_first: bool,
+) -> u8
+    ensures { λ r. ⌜ ReturnedList (strictPriceCall «openings_first» (gridOf rows columns (now (grid .entry))) (now (work .entry)) (now (list .entry))) r (now (work .exit)) (now (list .exit)) (now (clicks .entry)) (now (clicks .exit)) ⌝ }
+{
+    let answer = zini::strict::price(rows, columns, grid, work, list, openings_first);
+    c_answers::tell_clicks(answer, clicks)
+}
+
+// Greedy ZiNi: its clicks, and its moves in the list.
+#[no_mangle]
+pub extern "C" fn lavgerin_strict_greedy(
+    rows: usize,
+    columns: usize,
+    grid: &[i32],
+    work: &mut [i32],
+    list: &mut [u32],
+    clicks: &mut u64,
+) -> u8
+    ensures { λ r. ⌜ ReturnedList (strictPriceCall false (gridOf rows columns (now (grid .entry))) (now (work .entry)) (now (list .entry))) r (now (work .exit)) (now (list .exit)) (now (clicks .entry)) (now (clicks .exit)) ⌝ }
+{
+    price(rows, columns, grid, work, list, clicks, false)
+}
+
+// Openings-first ZiNi: its clicks, and its moves in the list.
+#[no_mangle]
+pub extern "C" fn lavgerin_strict_openings_first(
+    rows: usize,
+    columns: usize,
+    grid: &[i32],
+    work: &mut [i32],
+    list: &mut [u32],
+    clicks: &mut u64,
+) -> u8
+    ensures { λ r. ⌜ ReturnedList (strictPriceCall true (gridOf rows columns (now (grid .entry))) (now (work .entry)) (now (list .entry))) r (now (work .exit)) (now (list .exit)) (now (clicks .entry)) (now (clicks .exit)) ⌝ }
+{
+    price(rows, columns, grid, work, list, clicks, true)
+}
+
+// A single random round: its clicks, its moves in the list, and the draw bytes used.
+#[no_mangle]
+pub extern "C" fn lavgerin_strict_random_round(
+    rows: usize,
+    columns: usize,
+    grid: &[i32],
+    work: &mut [i32],
+    list: &mut [u32],
+    draws: &[u8],
+    clicks: &mut u64,
+    used: &mut u64,
+) -> u8
+    ensures { λ r. ⌜ ReturnedListTwo (strictRandomRoundCall (gridOf rows columns (now (grid .entry))) (now (work .entry)) (now (list .entry)) (now (draws .entry))) r (now (work .exit)) (now (list .exit)) (now (clicks .entry)) (now (clicks .exit)) (now (used .entry)) (now (used .exit)) ⌝ }
+{
+    let answer = zini::strict::random_round(rows, columns, grid, work, list, draws);
+    c_answers::tell_roll(answer, clicks, used)
+}
+
+// Random search over so many rounds: the least clicks, and the draw bytes used.
+#[no_mangle]
+pub extern "C" fn lavgerin_strict_random_search(
+    rows: usize,
+    columns: usize,
+    grid: &[i32],
+    work: &mut [i32],
+    draws: &[u8],
+    rounds: usize,
+    clicks: &mut u64,
+    used: &mut u64,
+) -> u8
+    ensures { λ r. ⌜ ReturnedTwo (strictRandomSearchCall (gridOf rows columns (now (grid .entry))) (now (work .entry)) (now (draws .entry)) rounds) r (now (work .exit)) (now (clicks .entry)) (now (clicks .exit)) (now (used .entry)) (now (used .exit)) ⌝ }
+{
+    let answer = zini::strict::random_search(rows, columns, grid, work, draws, rounds);
+    c_answers::tell_roll(answer, clicks, used)
+}
+
+// The first moves of a list are played on a board: how many were made, or the place of the bad one, the safe cells still closed, and the ending (0 unfinished, 1 won, 2 lost).
+#[no_mangle]
+pub extern "C" fn lavgerin_strict_replay(
+    rows: usize,
+    columns: usize,
+    grid: &[i32],
+    work: &mut [i32],
+    list: &[u32],
+    count: usize,
+    made: &mut u64,
+    closed: &mut u64,
+    ending: &mut u64,
+) -> u8
+    ensures { λ r. ⌜ ReturnedThree (strictReplayCall (gridOf rows columns (now (grid .entry))) (now (work .entry)) (now (list .entry)) count) r (now (work .exit)) (now (made .entry)) (now (made .exit)) (now (closed .entry)) (now (closed .exit)) (now (ending .entry)) (now (ending .exit)) ⌝ }
+{
+    let answer = zini::strict::replay(rows, columns, grid, work, list, count);
+    c_answers::tell_replay(answer, made, closed, ending)
+}
+
+// A grid written as an MBF file: how many bytes it has.
+#[no_mangle]
+pub extern "C" fn lavgerin_strict_write_mbf(
+    rows: usize,
+    columns: usize,
+    grid: &[i32],
+    file: &mut [u8],
+    written: &mut u64,
+) -> u8
+    ensures { λ r. ⌜ ReturnedRun (strictWriteFileCall (gridOf rows columns (now (grid .entry))) (now (file .entry))) r (now (file .exit)) (now (written .entry)) (now (written .exit)) ⌝ }
+{
+    let answer = mbf::strict_write(rows, columns, grid, file);
+    c_answers::tell_file(answer, written)
+}

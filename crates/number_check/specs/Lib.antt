@@ -1,0 +1,3 @@
+-- What the checks of a grid's numbers promise, and the forms of a call.
+pub mod Faults
+pub mod Forms

@@ -1,0 +1,133 @@
+// The strict form of each call: it takes only -1 for a mine and, for a safe cell, exactly its number. NUMBER names the lowest cell at fault; on any other grid the call does what the present one does.
+use answers::Counted;
+use answers::Priced;
+use answers::Replayed;
+use answers::Rolled;
+use refusals::Checked;
+ghost use mathlib.Core.Bool.{false, true};
+ghost use Rattle.game.specs.Calls.{strictPriceCall, strictRandomRoundCall, strictRandomSearchCall, strictReplayCall, strictThreeBVCall};
+ghost use Rattle.area.specs.Numbers.{gridOf};
+ghost use Rattle.answers.specs.Answers.{Keeps, KeepsList, countedAnswer, pricedAnswer, replayedAnswer, rolledAnswer};
+
+// 3BV of a grid; the work area is left at the position before any move.
+pub fn three_bv(rows: usize, columns: usize, grid: &[i32], work: &mut [i32]) -> Counted
+    ensures { λ r. ⌜ Keeps (strictThreeBVCall (gridOf rows columns (now (grid .entry))) (now (work .entry))) (countedAnswer r) (now (work .exit)) ⌝ }
+{
+    let checked = number_check::check_numbers(rows, columns, grid);
+    match checked {
+        Checked::Refused(refusal) => Counted::Refused(refusal),
+        Checked::Fine => count_call::count::three_bv(rows, columns, grid, work),
+    }
+}
+
+// Greedy ZiNi, or openings-first: its clicks, and its moves in the list.
+pub fn price(
+    rows: usize,
+    columns: usize,
+    grid: &[i32],
+    work: &mut [i32],
+    list: &mut [u32],
+    openings_first: bool,
+) -> Priced
+    ensures { λ r. ⌜ KeepsList (strictPriceCall «openings_first» (gridOf rows columns (now (grid .entry))) (now (work .entry)) (now (list .entry))) (pricedAnswer r) (now (work .exit)) (now (list .exit)) ⌝ }
+{
+    let checked = number_check::check_numbers(rows, columns, grid);
+    match checked {
+        Checked::Refused(refusal) => Priced::Refused(refusal),
+        Checked::Fine => price_calls::prices::price(
+            rows,
+            columns,
+            grid,
+            work,
+            list,
+            openings_first,
+        ),
+    }
+}
+
+// Greedy ZiNi: its clicks, and its moves in the list.
+pub fn greedy(
+    rows: usize,
+    columns: usize,
+    grid: &[i32],
+    work: &mut [i32],
+    list: &mut [u32],
+) -> Priced
+    ensures { λ r. ⌜ KeepsList (strictPriceCall false (gridOf rows columns (now (grid .entry))) (now (work .entry)) (now (list .entry))) (pricedAnswer r) (now (work .exit)) (now (list .exit)) ⌝ }
+{
+    price(rows, columns, grid, work, list, false)
+}
+
+// Openings-first ZiNi: its clicks, and its moves in the list.
+pub fn openings_first(
+    rows: usize,
+    columns: usize,
+    grid: &[i32],
+    work: &mut [i32],
+    list: &mut [u32],
+) -> Priced
+    ensures { λ r. ⌜ KeepsList (strictPriceCall true (gridOf rows columns (now (grid .entry))) (now (work .entry)) (now (list .entry))) (pricedAnswer r) (now (work .exit)) (now (list .exit)) ⌝ }
+{
+    price(rows, columns, grid, work, list, true)
+}
+
+// A single random round: its clicks, its moves in the list, and the draw bytes used.
+pub fn random_round(
+    rows: usize,
+    columns: usize,
+    grid: &[i32],
+    work: &mut [i32],
+    list: &mut [u32],
+    draws: &[u8],
+) -> Rolled
+    ensures { λ r. ⌜ KeepsList (strictRandomRoundCall (gridOf rows columns (now (grid .entry))) (now (work .entry)) (now (list .entry)) (now (draws .entry))) (rolledAnswer r) (now (work .exit)) (now (list .exit)) ⌝ }
+{
+    let checked = number_check::check_numbers(rows, columns, grid);
+    match checked {
+        Checked::Refused(refusal) => Rolled::Refused(refusal),
+        Checked::Fine => random_round_call::random_round(rows, columns, grid, work, list, draws),
+    }
+}
+
+// Random search over so many rounds: the least clicks, and the draw bytes used.
+pub fn random_search(
+    rows: usize,
+    columns: usize,
+    grid: &[i32],
+    work: &mut [i32],
+    draws: &[u8],
+    rounds: usize,
+) -> Rolled
+    ensures { λ r. ⌜ Keeps (strictRandomSearchCall (gridOf rows columns (now (grid .entry))) (now (work .entry)) (now (draws .entry)) rounds) (rolledAnswer r) (now (work .exit)) ⌝ }
+{
+    let checked = number_check::check_numbers(rows, columns, grid);
+    match checked {
+        Checked::Refused(refusal) => Rolled::Refused(refusal),
+        Checked::Fine => random_search_call::random_search(
+            rows,
+            columns,
+            grid,
+            work,
+            draws,
+            rounds,
+        ),
+    }
+}
+
+// The first moves of a list are played on a board: how many were made, the safe cells still closed, and the ending.
+pub fn replay(
+    rows: usize,
+    columns: usize,
+    grid: &[i32],
+    work: &mut [i32],
+    list: &[u32],
+    count: usize,
+) -> Replayed
+    ensures { λ r. ⌜ Keeps (strictReplayCall (gridOf rows columns (now (grid .entry))) (now (work .entry)) (now (list .entry)) count) (replayedAnswer r) (now (work .exit)) ⌝ }
+{
+    let checked = number_check::check_numbers(rows, columns, grid);
+    match checked {
+        Checked::Refused(refusal) => Replayed::Refused(refusal),
+        Checked::Fine => replay_call::replays::replay(rows, columns, grid, work, list, count),
+    }
+}
