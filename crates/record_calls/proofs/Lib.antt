@@ -2,7 +2,6 @@
 pub mod Runs
 pub mod OneAnswer
 pub mod Replays
-mod Pieces
 mod Walk
 mod RandomWalk
 mod ReplayWalk

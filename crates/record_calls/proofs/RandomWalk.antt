@@ -72,7 +72,7 @@ use Rattle.record_checks.proofs.written_by_roll as cnt
 use Rattle.record_checks.proofs.written_by_roll.Symbol as cnt-def
 use Rattle.record_checks.proofs.written_by_roll.Symbol.{name as #record-checks·written-by-roll}
 use Rattle.record_checks.proofs.written_by_roll.Met as cnt-thm
-use Rattle.record_calls.proofs.Pieces.{flag, flag-lit, lent-on, measured, pointer, slice, value, var}
+use Rattle.walks.proofs.Pieces.{flag, flag-lit, lent-on, measured, pointer, slice, value, var}
 use Rattle.record_calls.proofs.random_round_records as f
 
 abbrev R : RattleType

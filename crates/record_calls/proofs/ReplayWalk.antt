@@ -80,7 +80,7 @@ use Rattle.record_checks.proofs.replay_unless as fl
 use Rattle.record_checks.proofs.replay_unless.Symbol as fl-def
 use Rattle.record_checks.proofs.replay_unless.Symbol.{name as #record-checks·replay-unless}
 use Rattle.record_checks.proofs.replay_unless.Met as fl-thm
-use Rattle.record_calls.proofs.Pieces.{flag, flag-lit, lent-on, measured, pointer, slice, value, var}
+use Rattle.walks.proofs.Pieces.{flag, flag-lit, lent-on, measured, pointer, slice, value, var}
 use Rattle.record_calls.proofs.replay_records as f
 
 abbrev R : RattleType

@@ -72,7 +72,7 @@ use Rattle.record_checks.proofs.written_by as cnt
 use Rattle.record_checks.proofs.written_by.Symbol as cnt-def
 use Rattle.record_checks.proofs.written_by.Symbol.{name as #record-checks·written-by}
 use Rattle.record_checks.proofs.written_by.Met as cnt-thm
-use Rattle.record_calls.proofs.Pieces.{flag, flag-lit, lent-on, measured, pointer, slice, value, var}
+use Rattle.walks.proofs.Pieces.{flag, flag-lit, lent-on, measured, pointer, slice, value, var}
 use Rattle.record_calls.proofs.greedy_records as f
 
 abbrev R : RattleType

@@ -79,7 +79,8 @@ use Rattle.record_trials.specs.Readings.{Twice}
 use Rattle.record_trials.specs.declared.ReadTwice.{ReadTwice}
 use Rattle.record_trials.proofs.ReadTwice as P
 use Rattle.record_trials.proofs.ReadTwice.Laws as P′
-use Rattle.record_trials.proofs.Pieces.{lent-by, lent-on, pointer, put, slice, value, var}
+use Rattle.walks.proofs.Pieces.{lent-on, pointer, slice, value, var}
+use Rattle.record_trials.proofs.Pieces.{lent-by, put}
 use Rattle.record_trials.proofs.read_twice as f
 
 abbrev stayed : Stays (f.ended .signature .params) (f.ended .kept)

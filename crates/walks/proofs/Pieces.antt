@@ -1,4 +1,4 @@
--- The MIR of the calls over runs is written out by its flags, so that one walk is of every form: the pieces that it is made of. Assumes nothing.
+-- The MIR of functions that are walked by hand is written out by their flags or the names of their calls, so that one walk is of every form: the pieces that it is made of. Assumes nothing.
 use Prim.Native.Nat.{ℕ}
 use mathlib.Core.Bool.{Bool, false, true}
 use mathlib.Core.List.{List, [], _∷_}

@@ -1,0 +1,2 @@
+-- What walks by hand share.
+pub mod Pieces
