@@ -45,7 +45,10 @@ pub fn run(
         let Made::Played(after) = made else {
             return Replay::Stopped(place);
         };
-        left = after;
+        left = Remains {
+            closed: after.closed,
+            lost: after.lost,
+        };
     }
     let ending = ending_of(left.closed, left.lost);
     Replay::Whole(left.closed, ending)
