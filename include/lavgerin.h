@@ -19,8 +19,9 @@
  * length, and none may be NULL, also where the length is 0. What a function writes must not overlap anything else that
  * is passed.
  *
- * A call takes less than 64 KiB of stack: at most 50,000 bytes were measured up to 512 cells, where functions call each
- * other, and less than 2 KiB above that. On files reading took 8,344 bytes, whatever the file, and writing 88.
+ * A call takes less than 64 KiB of stack: at most 50,064 bytes were measured up to 512 cells, where functions call each
+ * other, and less than 2 KiB above that. On files reading took 8,344 bytes, whatever the file, and writing 88, in its
+ * strict form less than 400.
  *
  * A random round uses at most 4 x 3BV draw bytes, so a search with 4 x 3BV x rounds bytes never returns LAVGERIN_DRAWS.
  * A long search can be split: each call is lent the bytes from where the one before ended, by *used, and the least of
