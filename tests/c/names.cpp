@@ -22,19 +22,20 @@ int main() {
     uint64_t rows = 0, columns = 0;
     const int read = lavgerin_read_mbf(file, 6, values, 9, &rows, &columns);
     const int longer = lavgerin_read_mbf(file, 7, values, 9, &rows, &columns);
-    uint64_t cell = 77;
-    const int typed = lavgerin_strict_greedy(3, 3, grid, 9, work, 45, list, 9, &cell);
-    const int right = lavgerin_strict_greedy(3, 3, values, 9, work, 45, list, 9, &clicks);
-    std::printf("from C++: %d %d, %d %d %d %d, %d %d, %d %d %d, %d, %d %d, %d\n", number, static_cast<int>(clicks), played,
+    int32_t area[45];
+    uint64_t cell = 77, again = 0;
+    const int typed = lavgerin_strict_greedy(3, 3, grid, 9, area, 45, list, 9, &cell);
+    const int right = lavgerin_strict_greedy(3, 3, values, 9, area, 45, list, 9, &again);
+    std::printf("from C++: %d %d, %d %d %d %d, %d %d, %d %d %d, %d, %d %d, %d %d\n", number, static_cast<int>(clicks), played,
                 static_cast<int>(made), static_cast<int>(closed), static_cast<int>(ending), wrote,
                 static_cast<int>(written), read, static_cast<int>(rows), static_cast<int>(columns), longer, typed,
-                static_cast<int>(cell), right);
+                static_cast<int>(cell), right, static_cast<int>(again));
     const int32_t numbers[9] = {1, 1, 1, 1, -1, 1, 1, 1, 1};
     const bool as_expected = number == LAVGERIN_SUCCESS && clicks == 5 && played == LAVGERIN_SUCCESS && made == 5 &&
                              closed == 4 && ending == LAVGERIN_LOST && work[5 * 4 + 3] == 3;
     const bool files_too = wrote == LAVGERIN_SUCCESS && written == 6 && std::memcmp(file, mine_listed, 7) == 0 &&
                            read == LAVGERIN_SUCCESS && rows == 3 && columns == 3 &&
                            std::memcmp(values, numbers, sizeof values) == 0 && longer == LAVGERIN_FILE;
-    const bool strictly = typed == LAVGERIN_NUMBER && cell == 0 && right == LAVGERIN_SUCCESS;
+    const bool strictly = typed == LAVGERIN_NUMBER && cell == 0 && right == LAVGERIN_SUCCESS && again == 5;
     return as_expected && files_too && strictly ? 0 : 1;
 }
