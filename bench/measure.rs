@@ -1,6 +1,6 @@
-//! Measures ours and the Rust on the same boards in one run, then our replays, our files and our strict calls, and prints the tables. docs/SPEED.md says what is counted.
+//! Measures ours and the Rust on the same boards in one run, then our replays, our files, our strict calls and the modes of our draws, and prints the tables. docs/SPEED.md says what is counted.
 //!
-//! With no word it runs all rows, with `replays`, `files` or `strict` these alone. `count ROW SIDE`, `replay ROW`, `file ROW` and `form ROW` are what it runs of itself under callgrind: one call a board.
+//! With no word it runs all rows, with `replays`, `files`, `strict` or `modes` these alone. `count ROW SIDE`, `replay ROW`, `file ROW`, `form ROW` and `mode ROW` are what it runs of itself under callgrind: one call a board.
 #[allow(dead_code)]
 #[path = "../oracle/boards.rs"]
 mod boards;
@@ -8,6 +8,7 @@ mod clock;
 mod files;
 mod lists;
 mod lots;
+mod modes;
 #[allow(dead_code)]
 #[path = "../oracle/original.rs"]
 mod original;
@@ -24,7 +25,7 @@ use original::safe_board; // where the Rust looks for it
 use rows::Row;
 use sides::{MEASURED, SIDES, Side};
 use std::process::Command;
-use table::{Filed, Formed, Measures, Replayed};
+use table::{Filed, Formed, Measures, Replayed, Searched};
 
 /// Prints each answer: both sides must print the same.
 fn count(row: &Row, side: Side) {
@@ -55,6 +56,14 @@ fn form(row: &strict::Row) {
     let boards = row.lot.make();
     for case in &mut strict::cases(row, &boards) {
         strict::play(case);
+    }
+}
+
+/// Searches on each board in a mode; ends if an answer is wrong.
+fn mode(row: &modes::Row) {
+    let boards = row.lot.make();
+    for case in &mut modes::cases(row, &boards) {
+        modes::play(case);
     }
 }
 
@@ -203,6 +212,26 @@ fn measure_form(place: usize, row: &strict::Row) -> Formed {
     }
 }
 
+/// A random search in a mode measured.
+fn measure_mode(place: usize, row: &modes::Row) -> Searched {
+    let boards = row.lot.make();
+    let mut cases = modes::cases(row, &boards);
+    let words = ["mode", &place.to_string()];
+    let (instructions, time) = alone(
+        &row.file_name(),
+        &words,
+        &mut cases,
+        modes::play,
+        row.samples,
+    );
+    Searched {
+        row: *row,
+        used: cases.iter().map(|case| case.used).sum(),
+        instructions,
+        time,
+    }
+}
+
 /// All rows beside the Rust.
 fn print_rows() {
     let rows = rows::all();
@@ -235,6 +264,14 @@ fn print_forms() {
     table::print_forms(&formed.collect::<Vec<Formed>>());
 }
 
+/// All modes.
+fn print_modes() {
+    let rows = modes::all();
+    let rows = rows.iter().enumerate();
+    let searched = rows.map(|(place, row)| measure_mode(place, row));
+    table::print_modes(&searched.collect::<Vec<Searched>>());
+}
+
 fn run() {
     let words: Vec<String> = std::env::args().skip(1).collect();
     let words: Vec<&str> = words.iter().map(String::as_str).collect();
@@ -245,11 +282,13 @@ fn run() {
             print_replays();
             print_files();
             print_forms();
+            print_modes();
             table::print_notes();
         }
         ["replays"] => print_replays(),
         ["files"] => print_files(),
         ["strict"] => print_forms(),
+        ["modes"] => print_modes(),
         ["count", place, side] => {
             let side = SIDES.into_iter().find(|one| one.word() == side);
             let side = side.expect("ours or rust");
@@ -258,8 +297,9 @@ fn run() {
         ["replay", place] => replay(&replays::all()[place_of(place)]),
         ["file", place] => file(&files::all()[place_of(place)]),
         ["form", place] => form(&strict::all()[place_of(place)]),
+        ["mode", place] => mode(&modes::all()[place_of(place)]),
         _ => panic!(
-            "no words, or: replays, or: files, or: strict, or: count ROW SIDE, or: replay ROW, or: file ROW, or: form ROW"
+            "no words, or: replays, or: files, or: strict, or: modes, or: count ROW SIDE, or: replay ROW, or: file ROW, or: form ROW, or: mode ROW"
         ),
     }
 }

@@ -30,19 +30,26 @@ pub struct Case<'a> {
     draws: Vec<u8>,
 }
 
+/// Draws for so many rounds on each board, the same in every run: always enough in the old mode.
+pub fn draws(boards: &[Board], rounds: usize) -> Vec<Vec<u8>> {
+    let mut dice = Dice(99);
+    let mut enough = |board: &Board| dice.bytes(4 * board.cells() * rounds);
+    boards.iter().map(&mut enough).collect()
+}
+
 /// The cases of a row, with draws for a search if it is one.
 pub fn cases<'a>(row: &Row, boards: &'a [Board]) -> Vec<Case<'a>> {
-    let mut dice = Dice(99);
-    let enough = match row.call {
-        Call::RandomSearch => 4 * row.lot.cells() * ROUNDS,
+    let rounds = match row.call {
+        Call::RandomSearch => ROUNDS,
         _ => 0,
     };
-    let mut case = |board: &'a Board| Case {
+    let case = |(board, draws): (&'a Board, Vec<u8>)| Case {
         lent: Lent::new(board),
         by_rows: board.by_rows(),
-        draws: dice.bytes(enough),
+        draws,
     };
-    boards.iter().map(&mut case).collect()
+    let lent = boards.iter().zip(draws(boards, rounds));
+    lent.map(case).collect()
 }
 
 /// What callgrind collects, and nothing else.

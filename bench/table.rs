@@ -1,5 +1,6 @@
-//! What is printed: the ratios, how the cost of a cell grows with the board, the replays, the files, and what was counted.
+//! What is printed: the ratios, how the cost of a cell grows with the board, the replays, the files, the strict calls, the modes, and what was counted.
 use crate::files::{self, Work};
+use crate::modes::{self, Mode, SPARE};
 use crate::replays;
 use crate::rows::{ROUNDS, Row, is_league_grown};
 use crate::strict::{self, Form};
@@ -29,6 +30,14 @@ pub struct Filed {
 /// A form of 3BV measured.
 pub struct Formed {
     pub row: strict::Row,
+    pub instructions: f64,
+    pub time: f64,
+}
+
+/// A random search of ours in a mode: draw bytes used over all boards, instructions and microseconds.
+pub struct Searched {
+    pub row: modes::Row,
+    pub used: u64,
     pub instructions: f64,
     pub time: f64,
 }
@@ -191,6 +200,53 @@ pub fn print_forms(all: &[Formed]) {
     }
 }
 
+const MODES: &str = "\
+| mode | board | boards | rounds | instructions | beside the old mode | µs | samples |
+|---|---|--:|--:|--:|--:|--:|--:|";
+
+/// A search in a mode, beside the old one on the same boards.
+fn print_mode(searched: &Searched, old: &Searched) {
+    let row = searched.row;
+    let ratio = searched.instructions / old.instructions;
+    println!(
+        "| {} | {} | {} | {} | {} | {} | {} | {} |",
+        row.mode.name(),
+        row.lot.name(),
+        row.lot.boards,
+        row.rounds,
+        shown(searched.instructions),
+        match row.mode {
+            Mode::Old => String::new(),
+            Mode::Fair => format!("{ratio:.4}"),
+        },
+        shown(searched.time),
+        row.samples
+    );
+}
+
+/// The draw bytes used in the fair mode and in the old one on the same boards.
+fn bytes_used(fair: &Searched, old: &Searched) -> String {
+    let [old, used] = [old, fair].map(|searched| parted(searched.used as f64));
+    let lot = fair.row.lot.name();
+    format!("{old} in the old mode and {used} in the fair one on {lot}")
+}
+
+/// The table of the modes, and the draw bytes used.
+pub fn print_modes(all: &[Searched]) {
+    let is_old = |searched: &Searched| searched.row.mode == Mode::Old;
+    let old_of = |searched: &Searched| {
+        let old = |other: &&Searched| is_old(other) && other.row.lot == searched.row.lot;
+        all.iter().find(old).expect("the old mode")
+    };
+    println!("\n{MODES}");
+    for searched in all {
+        print_mode(searched, old_of(searched));
+    }
+    let fair = all.iter().filter(|searched| !is_old(searched));
+    let used: Vec<String> = fair.map(|fair| bytes_used(fair, old_of(fair))).collect();
+    println!("\nDraw bytes used over all boards: {}.", used.join("; "));
+}
+
 /// The ratios, and how they grow.
 pub fn print(all: &[Measures]) {
     println!("{RATIOS}");
@@ -208,12 +264,13 @@ pub fn print_notes() {
     println!(
         "
 Instructions: callgrind's, one call a board, the mean over the boards. Time: of the thread, one call a board and sample, the mean over the boards, the median of the samples.
-A random search has {ROUNDS} rounds. There is one board and few samples where a call takes the Rust seconds.
+A random search beside the Rust has {ROUNDS} rounds. There is one board and few samples where a call takes the Rust seconds.
 Ours: the archive's names; work area and list are lent once a board, with 7 and 9 in every place, and not cleared before a call or between calls.
 The Rust: cal_zini, cal_hzini and cal_rzini with their copy of the board and their own cells, made anew in each call; its random bytes are lent before the call.
 3BV setup: lavgerin_three_bv, which also counts and hands the work area back, beside build_cells_ref and initboard, without the copy.
 Replays: lavgerin_replay, the moves of a list the mean over the boards; moves made, safe cells still closed and the ending are checked.
 Files: lavgerin_read_mbf and lavgerin_write_mbf, mines in index order; the mines read and the bytes written are checked, and that a refused read leaves the grid.
-Strict calls: lavgerin_three_bv and lavgerin_strict_three_bv on boards with right numbers; the cell that NUMBER names is checked, and that it leaves the work area."
+Strict calls: lavgerin_three_bv and lavgerin_strict_three_bv on boards with right numbers; the cell that NUMBER names is checked, and that it leaves the work area.
+Modes: lavgerin_random_search, the same boards and draws in both, {SPARE} words a board more than are always enough in the old mode; success is checked, and that clicks and draw bytes used are the same where no word was spent."
     );
 }

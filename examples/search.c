@@ -27,13 +27,13 @@ int main(void) {
     if (lavgerin_three_bv(ROWS, COLUMNS, grid, CELLS, work, 5 * CELLS, &units) != LAVGERIN_SUCCESS)
         return 1;
     for (size_t round = 0; round < ROUNDS; round++) {
-        if (LENGTH - at < 4 * units) { /* a round uses at most 4 x 3BV bytes: keep what is left, and fill up */
+        if (LENGTH - at < 4 * units) { /* in the old mode a round uses at most 4 x 3BV bytes: keep what is left, and fill up */
             memmove(draws, draws + at, LENGTH - at);
             take_draws(draws + LENGTH - at, at);
             at = 0;
         }
         if (lavgerin_random_round(ROWS, COLUMNS, grid, CELLS, work, 5 * CELLS, list, CELLS, draws + at, LENGTH - at,
-                                  &clicks, &used) != LAVGERIN_SUCCESS)
+                                  0, &clicks, &used) != LAVGERIN_SUCCESS)
             return 1;
         at += used;
         if (clicks < least) {

@@ -23,7 +23,11 @@
  * other, and less than 2 KiB above that. On files reading took 8,344 bytes, whatever the file, and writing 88, in its
  * strict form less than 400.
  *
- * A random round uses at most 4 x 3BV draw bytes, so a search with 4 x 3BV x rounds bytes never returns LAVGERIN_DRAWS.
+ * A draw among n, two or more, reads the draws' next four bytes, low byte first, as a word, and takes place word mod n.
+ * With fair 0, the old mode, every word is taken. With any other fair, the fair mode, one that isn't below 2^32 minus
+ * (2^32 mod n) is spent and the next is read, so that each place has an even chance; *used counts spent words too.
+ * With fair 0 a random round uses at most 4 x 3BV draw bytes, so a search with 4 x 3BV x rounds bytes never returns
+ * LAVGERIN_DRAWS. In the fair mode no number of bytes rules it out, but of random words fewer than 1 in 66,000 is spent.
  * A long search can be split: each call is lent the bytes from where the one before ended, by *used, and the least of
  * the answers counts. To keep the moves too, play single rounds so, and copy the list whenever *clicks is below the
  * least so far: examples/search.c. */
@@ -46,7 +50,8 @@ enum {
     LAVGERIN_WORK = 3,   /* the work area is below 5 x cells */
     LAVGERIN_TRACE = 4,  /* the list is below cells long; in replay: count above the list's length */
     LAVGERIN_ROUNDS = 5, /* random search with 0 rounds */
-    LAVGERIN_DRAWS = 6,  /* four bytes were needed and fewer were left: the first 5 x cells numbers and cells moves are 0 */
+    LAVGERIN_DRAWS = 6,  /* four bytes were needed and fewer were left, maybe after spent words: the first 5 x cells numbers
+                            and cells moves are 0 */
     LAVGERIN_MOVE = 7,   /* replay met a move that isn't legal, as none is after a won or lost game, another kind, or an
                             index past the grid: the position before it is left */
     LAVGERIN_FILE = 10,  /* the file isn't well formed: its length, a mine past the edge, or one listed twice */
@@ -83,16 +88,17 @@ uint8_t lavgerin_openings_first(size_t rows, size_t columns, const int32_t *grid
                                 int32_t *work, size_t work_length, uint32_t *list, size_t list_length,
                                 uint64_t *clicks);
 
-/* One random round: clicks, the moves in the list, and the draw bytes used. */
+/* One random round: clicks, the moves in the list, and the draw bytes used. With fair 0 in the old mode of the draws,
+ * with any other value in the fair one. */
 uint8_t lavgerin_random_round(size_t rows, size_t columns, const int32_t *grid, size_t grid_length,
                               int32_t *work, size_t work_length, uint32_t *list, size_t list_length,
-                              const uint8_t *draws, size_t draws_length,
+                              const uint8_t *draws, size_t draws_length, uint8_t fair,
                               uint64_t *clicks, uint64_t *used);
 
-/* Random search over so many rounds: the least clicks, and the draw bytes used. */
+/* Random search over so many rounds: the least clicks, and the draw bytes used. fair as above. */
 uint8_t lavgerin_random_search(size_t rows, size_t columns, const int32_t *grid, size_t grid_length,
                                int32_t *work, size_t work_length,
-                               const uint8_t *draws, size_t draws_length, size_t rounds,
+                               const uint8_t *draws, size_t draws_length, uint8_t fair, size_t rounds,
                                uint64_t *clicks, uint64_t *used);
 
 /* The first count moves of a list are played from the position before any move: moves made, safe cells still closed,
@@ -156,12 +162,12 @@ uint8_t lavgerin_strict_openings_first(size_t rows, size_t columns, const int32_
 
 uint8_t lavgerin_strict_random_round(size_t rows, size_t columns, const int32_t *grid, size_t grid_length,
                                      int32_t *work, size_t work_length, uint32_t *list, size_t list_length,
-                                     const uint8_t *draws, size_t draws_length,
+                                     const uint8_t *draws, size_t draws_length, uint8_t fair,
                                      uint64_t *clicks, uint64_t *used);
 
 uint8_t lavgerin_strict_random_search(size_t rows, size_t columns, const int32_t *grid, size_t grid_length,
                                       int32_t *work, size_t work_length,
-                                      const uint8_t *draws, size_t draws_length, size_t rounds,
+                                      const uint8_t *draws, size_t draws_length, uint8_t fair, size_t rounds,
                                       uint64_t *clicks, uint64_t *used);
 
 uint8_t lavgerin_strict_replay(size_t rows, size_t columns, const int32_t *grid, size_t grid_length,

@@ -24,15 +24,15 @@ static void *read_run(size_t count, size_t size) {
     return run;
 }
 
-/* One call: what it returned, and what it told. */
+/* One call: what it returned, and what it told. Draws are in the old mode, which is the Rust's. */
 static void make(const uint64_t *n, const struct Lent *lent, uint64_t *told) {
 #define BOARD n[ROWS], n[COLUMNS], lent->grid, n[GRID], lent->work, n[WORK]
     switch (n[CALL]) {
     case 0: told[0] = lavgerin_three_bv(BOARD, told + 1); return;
     case 1: told[0] = lavgerin_greedy(BOARD, lent->list, n[LIST], told + 1); return;
     case 2: told[0] = lavgerin_openings_first(BOARD, lent->list, n[LIST], told + 1); return;
-    case 3: told[0] = lavgerin_random_round(BOARD, lent->list, n[LIST], lent->draws, n[DRAWS], told + 1, told + 2); return;
-    case 4: told[0] = lavgerin_random_search(BOARD, lent->draws, n[DRAWS], n[COUNT], told + 1, told + 2); return;
+    case 3: told[0] = lavgerin_random_round(BOARD, lent->list, n[LIST], lent->draws, n[DRAWS], 0, told + 1, told + 2); return;
+    case 4: told[0] = lavgerin_random_search(BOARD, lent->draws, n[DRAWS], 0, n[COUNT], told + 1, told + 2); return;
     case 5: told[0] = lavgerin_replay(BOARD, lent->list, n[LIST], n[COUNT], told + 1, told + 2, told + 3); return;
     default: exit(1);
     }

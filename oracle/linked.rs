@@ -45,6 +45,7 @@ unsafe extern "C" {
         list_length: usize,
         draws: *const u8,
         draws_length: usize,
+        fair: u8,
         clicks: &mut u64,
         used: &mut u64,
     ) -> u8;
@@ -57,6 +58,7 @@ unsafe extern "C" {
         work_length: usize,
         draws: *const u8,
         draws_length: usize,
+        fair: u8,
         rounds: usize,
         clicks: &mut u64,
         used: &mut u64,
@@ -76,6 +78,9 @@ unsafe extern "C" {
         ending: &mut u64,
     ) -> u8;
 }
+
+/// The old mode of the draws, which is the Rust's.
+const OLD: u8 = 0;
 
 /// A call: the board and the work area first, then what else it takes, then its answers.
 macro_rules! by_name {
@@ -105,13 +110,13 @@ pub fn call(lent: &mut Lent, call: Call, draws: &[u8], count: usize) -> Told {
         Call::RandomRound => by_name!(
             lavgerin_random_round,
             lent,
-            [list, length, bytes, bytes_length],
+            [list, length, bytes, bytes_length, OLD],
             [&mut first, &mut second]
         ),
         Call::RandomSearch => by_name!(
             lavgerin_random_search,
             lent,
-            [bytes, bytes_length, count],
+            [bytes, bytes_length, OLD, count],
             [&mut first, &mut second]
         ),
         Call::Replay => by_name!(

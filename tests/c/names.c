@@ -132,18 +132,18 @@ static void priced(const board *b) {
     replays(b, b->openings_first);
 }
 
-/* One random round of a board with these draws. */
-static uint8_t rolled(const board *b, const uint8_t *draws, size_t length) {
+/* One random round of a board with these draws, in the fair mode unless fair is 0. */
+static uint8_t rolled(const board *b, const uint8_t *draws, size_t length, uint8_t fair) {
     size_t cells = b->rows * b->columns;
     lend();
-    return lavgerin_random_round(b->rows, b->columns, b->grid, cells, work, 5 * cells, list, cells, draws, length, &first, &second);
+    return lavgerin_random_round(b->rows, b->columns, b->grid, cells, work, 5 * cells, list, cells, draws, length, fair, &first, &second);
 }
 
-/* A random search of a board with these draws. */
-static uint8_t searched(const board *b, const uint8_t *draws, size_t length, size_t rounds) {
+/* A random search of a board with these draws, in the fair mode unless fair is 0. */
+static uint8_t searched(const board *b, const uint8_t *draws, size_t length, uint8_t fair, size_t rounds) {
     size_t cells = b->rows * b->columns;
     lend();
-    return lavgerin_random_search(b->rows, b->columns, b->grid, cells, work, 5 * cells, draws, length, rounds, &first, &second);
+    return lavgerin_random_search(b->rows, b->columns, b->grid, cells, work, 5 * cells, draws, length, fair, rounds, &first, &second);
 }
 
 /* The boards of the table, and P11's openings-first moves and final position. */
@@ -163,33 +163,87 @@ static void boards(void) {
     ran("boards");
 }
 
-/* Random rounds and searches of the scope's examples, draws on both sides of enough, and 4 x 3BV bytes a round. */
-static void draws(void) {
+/* Random rounds and searches of the scope's examples in a mode, draws on both sides of enough, and 4 x 3BV bytes a round. */
+static void draws_in(uint8_t fair) {
     static const uint8_t noughts[96] = {0}, seven[8] = {7}, five[4] = {5};
     static const uint32_t by_seven[5] = {L(7), F(4), C(7), L(1), C(1)}, by_five[3] = {L(3), F(0), C(3)};
-    EQUAL(rolled(P11, noughts, 12), 0);
+    EQUAL(rolled(P11, noughts, 12, fair), 0);
     EQUAL(first, 5);
     EQUAL(second, 12);
     listed(P11->moves, 5, 9);
-    dry(rolled(P11, noughts, 11), 9, 9);
-    EQUAL(rolled(P11, seven, 8), 0);
+    dry(rolled(P11, noughts, 11, fair), 9, 9);
+    EQUAL(rolled(P11, seven, 8, fair), 0);
     EQUAL(first, 5);
     EQUAL(second, 8);
     listed(by_seven, 5, 9);
-    EQUAL(rolled(P7, five, 4), 0);
+    EQUAL(rolled(P7, five, 4, fair), 0);
     EQUAL(first, 3);
     EQUAL(second, 4);
     listed(by_five, 3, 4);
-    dry(rolled(P9, noughts, 0), 9, 9);
-    EQUAL(searched(P11, noughts, 24, 2), 0);
+    dry(rolled(P9, noughts, 0, fair), 9, 9);
+    EQUAL(searched(P11, noughts, 24, fair, 2), 0);
     EQUAL(first, 5);
     EQUAL(second, 24);
     untouched_from(45, 0);
-    dry(searched(P11, noughts, 23, 2), 9, 0);
-    EQUAL(searched(P11, noughts, 12, 1), 0);
+    dry(searched(P11, noughts, 23, fair, 2), 9, 0);
+    EQUAL(searched(P11, noughts, 12, fair, 1), 0);
     EQUAL(second, 12);
-    refused(searched(P11, noughts, 24, 0), LAVGERIN_ROUNDS);
-    for (size_t k = 0; k < 12; k++) EQUAL(searched(&P[k], noughts, 3 * 4 * P[k].units, 3), 0);
+    refused(searched(P11, noughts, 24, fair, 0), LAVGERIN_ROUNDS);
+    for (size_t k = 0; k < 12; k++) EQUAL(searched(&P[k], noughts, 3 * 4 * P[k].units, fair, 3), 0);
+}
+
+/* A row of so many safe cells: its round is one draw among them. */
+static board row_of(size_t cells) {
+    board made = {1, 1, {0}, 1, 1, 1, {0}};
+    made.columns = cells;
+    return made;
+}
+
+/* A word, as draws have it, and two more of place 1. */
+static void put_word(uint8_t *draws, uint32_t word) {
+    memset(draws, 0, 12);
+    for (size_t k = 0; k < 4; k++) draws[k] = (uint8_t)(word >> 8 * k);
+    draws[4] = draws[8] = 1;
+}
+
+/* The round of a row with these draws: the cell that is taken, and the bytes used. */
+static void takes(const board *b, const uint8_t *draws, size_t length, uint8_t fair, uint32_t cell, uint64_t used) {
+    uint32_t taken[1] = {L(cell)};
+    EQUAL(rolled(b, draws, length, fair), 0);
+    EQUAL(first, 1);
+    EQUAL(second, used);
+    listed(taken, 1, b->columns);
+}
+
+/* Words at the bound among n, and one below it: in the fair mode the bound and what is above it are spent. */
+static void fair_among(uint32_t n) {
+    uint64_t words = (uint64_t)1 << 32, bound = words - words % n;
+    uint8_t draws[12];
+    board b = row_of(n);
+    put_word(draws, (uint32_t)(bound - 1));
+    takes(&b, draws, 12, 1, (uint32_t)((bound - 1) % n), 4);
+    takes(&b, draws, 4, 255, (uint32_t)((bound - 1) % n), 4);
+    for (uint64_t word = bound; word < words; word++) {
+        put_word(draws, (uint32_t)word);
+        takes(&b, draws, 12, 0, (uint32_t)(word % n), 4);
+        takes(&b, draws, 12, 1, 1, 8);
+        takes(&b, draws, 8, 2, 1, 8);
+        for (size_t length = 4; length < 8; length++) dry(rolled(&b, draws, length, 1), n, n);
+        for (size_t k = 0; k < 4; k++) draws[4 + k] = draws[k];
+        takes(&b, draws, 12, 1, 1, 12);
+        for (size_t length = 8; length < 12; length++) dry(rolled(&b, draws, length, 1), n, n);
+        dry(searched(&b, draws + 4, 8, 1, 2), n, 0);
+        EQUAL(searched(&b, draws + 4, 8, 0, 2), 0);
+        EQUAL(second, 8);
+    }
+}
+
+/* Both modes on the scope's examples, and draws among 2 to 9 around the bound of the fair one. */
+static void draws(void) {
+    draws_in(0);
+    draws_in(1);
+    draws_in(255);
+    for (uint32_t n = 2; n < 10; n++) fair_among(n);
     ran("draws");
 }
 
@@ -200,8 +254,8 @@ static void all_refuse(size_t rows, size_t columns, size_t grid_length, size_t w
     refused(lavgerin_three_bv(rows, columns, grid, grid_length, work, work_length, &first), number);
     refused(lavgerin_greedy(rows, columns, grid, grid_length, work, work_length, list, 0, &first), number);
     refused(lavgerin_openings_first(rows, columns, grid, grid_length, work, work_length, list, 0, &first), number);
-    refused(lavgerin_random_round(rows, columns, grid, grid_length, work, work_length, list, 0, none, 0, &first, &second), number);
-    refused(lavgerin_random_search(rows, columns, grid, grid_length, work, work_length, none, 0, 0, &first, &second), number);
+    refused(lavgerin_random_round(rows, columns, grid, grid_length, work, work_length, list, 0, none, 0, 1, &first, &second), number);
+    refused(lavgerin_random_search(rows, columns, grid, grid_length, work, work_length, none, 0, 1, 0, &first, &second), number);
     refused(lavgerin_replay(rows, columns, grid, grid_length, work, work_length, list, 0, 1, &first, &second, &third), number);
 }
 
@@ -218,7 +272,7 @@ static void refusals(void) {
     lend();
     refused(lavgerin_greedy(2, 3, grid, 6, work, 30, list, 5, &first), LAVGERIN_TRACE);
     refused(lavgerin_openings_first(2, 3, grid, 6, work, 30, list, 5, &first), LAVGERIN_TRACE);
-    refused(lavgerin_random_round(2, 3, grid, 6, work, 30, list, 5, (const uint8_t *)"", 0, &first, &second), LAVGERIN_TRACE);
+    refused(lavgerin_random_round(2, 3, grid, 6, work, 30, list, 5, (const uint8_t *)"", 0, 0, &first, &second), LAVGERIN_TRACE);
     refused(lavgerin_replay(2, 3, grid, 6, work, 30, list, 1, 2, &first, &second, &third), LAVGERIN_TRACE);
     EQUAL(lavgerin_greedy(2, 3, grid, 6, work, 30, list, 6, &first), 0);
     EQUAL(first, 1);
@@ -622,14 +676,16 @@ static void alike(uint8_t number, uint8_t present, size_t cells, const int32_t *
 
 /* Runs the present and then the strict form of a call, by its number, on a board with these lengths lent; answers the strict one's number. */
 static uint8_t by_form(int strict, int call, const board *b, size_t work_length, size_t list_length, size_t rounds) {
-    static const uint8_t noughts[96] = {0};
+    static const uint8_t noughts[96] = {0}, spent[96] = {0, 0, 0, 0, 255, 255, 255, 255, 255, 255, 255, 255};
     size_t r = b->rows, c = b->columns, n = r * c;
     switch (call) {
     case 0: return (strict ? lavgerin_strict_three_bv : lavgerin_three_bv)(r, c, b->grid, n, work, work_length, &first);
     case 1: return (strict ? lavgerin_strict_greedy : lavgerin_greedy)(r, c, b->grid, n, work, work_length, list, list_length, &first);
     case 2: return (strict ? lavgerin_strict_openings_first : lavgerin_openings_first)(r, c, b->grid, n, work, work_length, list, list_length, &first);
-    case 3: return (strict ? lavgerin_strict_random_round : lavgerin_random_round)(r, c, b->grid, n, work, work_length, list, list_length, noughts, 32, &first, &second);
-    case 4: return (strict ? lavgerin_strict_random_search : lavgerin_random_search)(r, c, b->grid, n, work, work_length, noughts, 96, rounds, &first, &second);
+    case 3: return (strict ? lavgerin_strict_random_round : lavgerin_random_round)(r, c, b->grid, n, work, work_length, list, list_length, noughts, 32, 0, &first, &second);
+    case 4: return (strict ? lavgerin_strict_random_search : lavgerin_random_search)(r, c, b->grid, n, work, work_length, noughts, 96, 0, rounds, &first, &second);
+    case 5: return (strict ? lavgerin_strict_random_round : lavgerin_random_round)(r, c, b->grid, n, work, work_length, list, list_length, spent, 20, 1, &first, &second);
+    case 6: return (strict ? lavgerin_strict_random_search : lavgerin_random_search)(r, c, b->grid, n, work, work_length, spent, 20, 1, rounds, &first, &second);
     default: return (strict ? lavgerin_strict_replay : lavgerin_replay)(r, c, b->grid, n, work, work_length, b->moves, 5, b->greedy, &first, &second, &third);
     }
 }
@@ -652,7 +708,7 @@ static board right(const board *b) {
 static void same_forms(const board *b, size_t work_length, size_t list_length, size_t rounds) {
     static int32_t before[46];
     static uint32_t moves[10];
-    for (int call = 0; call < 6; call++) {
+    for (int call = 0; call < 8; call++) {
         lend();
         uint8_t present = by_form(0, call, b, work_length, list_length, rounds);
         uint64_t told[3] = {first, second, third};
@@ -666,7 +722,7 @@ static void same_forms(const board *b, size_t work_length, size_t list_length, s
 /* Each strict call is NUMBER with a cell behind the first pointer, and nothing else is changed, whatever the lengths and rounds. */
 static void faulty(const board *b, uint64_t cell) {
     size_t cells = b->rows * b->columns;
-    for (int call = 0; call < 6; call++)
+    for (int call = 0; call < 8; call++)
         for (size_t less = 0; less < 2; less++) {
             lend();
             EQUAL(by_form(1, call, b, 5 * cells - less, cells - less, 1 - less), LAVGERIN_NUMBER);

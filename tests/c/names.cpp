@@ -1,4 +1,4 @@
-// The header from C++: five calls on the board of three rows and columns with a mine in the middle.
+// The header from C++: seven calls on the board of three rows and columns with a mine in the middle.
 #include "lavgerin.h"
 
 #include <cstdio>
@@ -26,10 +26,15 @@ int main() {
     uint64_t cell = 77, again = 0;
     const int typed = lavgerin_strict_greedy(3, 3, grid, 9, area, 45, list, 9, &cell);
     const int right = lavgerin_strict_greedy(3, 3, values, 9, area, 45, list, 9, &again);
-    std::printf("from C++: %d %d, %d %d %d %d, %d %d, %d %d %d, %d, %d %d, %d %d\n", number, static_cast<int>(clicks), played,
+    const uint8_t draws[16] = {0, 0, 0, 0, 255, 255, 255, 255, 0, 0, 0, 0, 0, 0, 0, 0};
+    uint64_t rolled = 0, used = 0, fairly = 0, spent = 0;
+    const int old_mode = lavgerin_random_round(3, 3, grid, 9, area, 45, list, 9, draws, 16, 0, &rolled, &used);
+    const int fair_mode = lavgerin_random_search(3, 3, grid, 9, area, 45, draws, 16, 1, 1, &fairly, &spent);
+    std::printf("from C++: %d %d, %d %d %d %d, %d %d, %d %d %d, %d, %d %d, %d %d, %d %d %d, %d %d %d\n", number, static_cast<int>(clicks), played,
                 static_cast<int>(made), static_cast<int>(closed), static_cast<int>(ending), wrote,
                 static_cast<int>(written), read, static_cast<int>(rows), static_cast<int>(columns), longer, typed,
-                static_cast<int>(cell), right, static_cast<int>(again));
+                static_cast<int>(cell), right, static_cast<int>(again), old_mode, static_cast<int>(rolled),
+                static_cast<int>(used), fair_mode, static_cast<int>(fairly), static_cast<int>(spent));
     const int32_t numbers[9] = {1, 1, 1, 1, -1, 1, 1, 1, 1};
     const bool as_expected = number == LAVGERIN_SUCCESS && clicks == 5 && played == LAVGERIN_SUCCESS && made == 5 &&
                              closed == 4 && ending == LAVGERIN_LOST && work[5 * 4 + 3] == 3;
@@ -37,5 +42,7 @@ int main() {
                            read == LAVGERIN_SUCCESS && rows == 3 && columns == 3 &&
                            std::memcmp(values, numbers, sizeof values) == 0 && longer == LAVGERIN_FILE;
     const bool strictly = typed == LAVGERIN_NUMBER && cell == 0 && right == LAVGERIN_SUCCESS && again == 5;
-    return as_expected && files_too && strictly ? 0 : 1;
+    const bool both_modes = old_mode == LAVGERIN_SUCCESS && rolled == 5 && used == 12 && fair_mode == LAVGERIN_SUCCESS &&
+                            fairly == 5 && spent == 16;
+    return as_expected && files_too && strictly && both_modes ? 0 : 1;
 }

@@ -1,12 +1,18 @@
--- The promises of the calls as C sees them: a number returned, and answers behind pointers. Assumes nothing.
-use Prim.Native.Nat.{ℕ}
+-- The promises of the calls as C sees them: the mode by a number, a number returned, and answers behind pointers. Assumes nothing.
+use Prim.Native.Nat.{ℕ, suc, zero}
 use mathlib.Core.Path.{_≡_}
 use mathlib.Core.List.{List}
 use lib.IntN.{ℤ}
 use lib.ListN.{getD}
 use Rattle.game.specs.Calls.{Answer, ListOutcome, Outcome}
+use Rattle.game.specs.Draws.{Mode, fair, old}
 use Rattle.lines.specs.BoardLine.{GridOutcome}
 use Rattle.lines.specs.Outputs.{RunOutcome}
+
+-- the mode of the draws by a number: 0 is the old one, anything else the fair one
+abbrev pub modeBy : ℕ → Mode
+modeBy zero = old
+modeBy (suc k) = fair
 
 -- what stands behind an answer pointer after a call: the answer's value of that place, or what stood there if it has none
 abbrev pub told : Answer → ℕ → ℕ → ℕ

@@ -1,18 +1,28 @@
-// Answers as C sees them: the number that a name returns, 0 for success, and the values behind its answer pointers. What stands behind a pointer is left alone where an answer has no such value.
+// Answers as C sees them, and the mode that it names: the number that a name returns, 0 for success, and the values behind its answer pointers. What stands behind a pointer is left alone where an answer has no such value.
 use answers::Counted;
 use answers::Priced;
 use answers::Replayed;
 use answers::Rolled;
+use draws::Mode;
 use lines::board::Board;
 use mbf_write::FileWritten;
 use refusals::Refusal;
 use refusals::number_of;
+ghost use mathlib.Core.Path.{_≡_};
 ghost use Rattle.game.specs.Calls.{refuses};
+ghost use Rattle.draws.specs.Answers.{modeOf};
 ghost use Rattle.refusals.specs.Names.{named};
 ghost use Rattle.answers.specs.Answers.{countedAnswer, pricedAnswer, replayedAnswer, rolledAnswer};
 ghost use Rattle.lines.specs.Answers.{boardAnswer};
 ghost use Rattle.mbf_write.specs.Answers.{fileWrittenAnswer};
-ghost use Rattle.c_answers.specs.Names.{Tells, TellsThree, TellsTwo};
+ghost use Rattle.c_answers.specs.Names.{Tells, TellsThree, TellsTwo, modeBy};
+
+// The mode of the draws: 0 is the old one, anything else the fair one.
+pub fn mode_by(fair: u8) -> Mode
+    ensures { λ r. ⌜ modeOf r ≡ modeBy fair ⌝ }
+{
+    if fair == 0 { Mode::Old } else { Mode::Fair }
+}
 
 // A refusal: its number, and behind the first pointer the cell that NUMBER names.
 fn tell_refusal(refusal: Refusal, first: &mut u64) -> u8

@@ -4,12 +4,12 @@
 //   3bv             rows=N columns=N board=RUN work=RUN
 //   greedy          rows=N columns=N board=RUN work=RUN list=RUN
 //   openings-first  rows=N columns=N board=RUN work=RUN list=RUN
-//   random-round    rows=N columns=N board=RUN work=RUN list=RUN draws=RUN
-//   random-search   rows=N columns=N board=RUN work=RUN draws=RUN rounds=N
+//   random-round    rows=N columns=N board=RUN work=RUN list=RUN draws=RUN fair=N
+//   random-search   rows=N columns=N board=RUN work=RUN draws=RUN fair=N rounds=N
 //   replay          rows=N columns=N board=RUN work=RUN list=RUN count=N
 //   read-mbf        file=RUN board=RUN, or rows=N columns=N mines=N again=N board=RUN: the file that lists the first cells so and the last of them again
 //   write-mbf       rows=N columns=N board=RUN file=RUN
-// Each of them but read-mbf also with the word strict before it; those on a board also with last=VALUE, the board's last value.
+// Each of them but read-mbf also with the word strict before it; those on a board also with last=VALUE, the board's last value. In the random ones fair=0 is the old mode of the draws, any other number the fair one.
 // A run is a pattern, or a pattern, x and a length: the pattern over and over up to that length. A field that is not there is 0, or a run of none.
 // The pattern of a board or a work area is values parted by commas (-1 is a mine), or a picture (* is a mine); of a list words parted by commas, or moves (L3, F4, C3, U4); of draws or a file bytes of two digits, 0 to 9 and A to F.
 // For a case its name is printed with the answer's number and two values (the first is NUMBER's cell), and behind a replay's the ending (0 unfinished, 1 won, 2 lost); then its list, if it has one, kind and index of each word; then its work area; of a file that is read the grid, of one that is written its run.
@@ -22,10 +22,19 @@ use trials::plain::Plain;
 use zini::count;
 use zini::prices;
 use zini::random_calls;
+use zini::random_calls::Mode;
 use zini::replays;
 use zini::strict;
 ghost use Prim.Native.Nat.{_≤_};
 ghost use lib.ListN.{length};
+
+// The mode of a case's draws: the fair one unless fair is 0.
+fn mode_of(text: &[u8]) -> Mode {
+    if fields::number(text, b"fair=") == 0 {
+        return Mode::Old;
+    }
+    Mode::Fair
+}
 
 // Runs a case's call in its strict form on what is lent to it.
 fn strict_call(
@@ -47,11 +56,21 @@ fn strict_call(
         return plain::of_priced(strict::openings_first(rows, columns, grid, work, list));
     }
     if fields::is(text, 9, b"random-round ") {
-        return plain::of_rolled(strict::random_round(rows, columns, grid, work, list, draws));
+        let mode = mode_of(text);
+        return plain::of_rolled(strict::random_round(rows, columns, grid, work, list, draws, mode));
     }
     if fields::is(text, 9, b"random-search ") {
+        let mode = mode_of(text);
         let rounds = fields::number(text, b"rounds=");
-        return plain::of_rolled(strict::random_search(rows, columns, grid, work, draws, rounds));
+        return plain::of_rolled(strict::random_search(
+            rows,
+            columns,
+            grid,
+            work,
+            draws,
+            mode,
+            rounds,
+        ));
     }
     if fields::is(text, 9, b"replay ") {
         let moves = fields::number(text, b"count=");
@@ -78,9 +97,19 @@ fn call(text: &[u8], grid: &[i32], work: &mut [i32], list: &mut [u32], draws: &[
         return plain::of_priced(prices::openings_first(rows, columns, grid, work, list));
     }
     if fields::is(text, 2, b"random-round ") {
-        return plain::of_rolled(random_calls::random_round(rows, columns, grid, work, list, draws));
+        let mode = mode_of(text);
+        return plain::of_rolled(random_calls::random_round(
+            rows,
+            columns,
+            grid,
+            work,
+            list,
+            draws,
+            mode,
+        ));
     }
     if fields::is(text, 2, b"random-search ") {
+        let mode = mode_of(text);
         let rounds = fields::number(text, b"rounds=");
         return plain::of_rolled(random_calls::random_search(
             rows,
@@ -88,6 +117,7 @@ fn call(text: &[u8], grid: &[i32], work: &mut [i32], list: &mut [u32], draws: &[
             grid,
             work,
             draws,
+            mode,
             rounds,
         ));
     }

@@ -29,7 +29,7 @@ draw-once o r r′ e e′ = LeftInverse·injective drawnBy drawnOf back r r′ (
     back Short = refl
 
 -- one draw by a lent reader
-pub next-once : (before : DrawReader) (n : ℕ) (r r′ : Drawn) (after after′ : DrawReader)
-    → (drawnOf r ≡ Game.draw (now (before .bytes)) (before .place) n) × (after ≡ movedOn before n)
-    → (drawnOf r′ ≡ Game.draw (now (before .bytes)) (before .place) n) × (after′ ≡ movedOn before n) → (r ≡ r′) × (after ≡ after′)
-next-once before n r r′ after after′ k k′ = (draw-once (Game.draw (now (before .bytes)) (before .place) n) r r′ (k .0) (k′ .0), k .1 ∙ sym (k′ .1))
+pub next-once : (mode : Game.Mode) (before : DrawReader) (n : ℕ) (r r′ : Drawn) (after after′ : DrawReader)
+    → (drawnOf r ≡ Game.draw mode (now (before .bytes)) (before .place) n) × (after ≡ movedOn mode before n)
+    → (drawnOf r′ ≡ Game.draw mode (now (before .bytes)) (before .place) n) × (after′ ≡ movedOn mode before n) → (r ≡ r′) × (after ≡ after′)
+next-once mode before n r r′ after after′ k k′ = (draw-once (Game.draw mode (now (before .bytes)) (before .place) n) r r′ (k .0) (k′ .0), k .1 ∙ sym (k′ .1))

@@ -10,7 +10,7 @@ use lib.ListN.{getD, length, set, take}
 use lib.Signed.{leZ}
 use Rattle.game.specs.Area.{areaOf, clearedArea, clearedList, fiveNumbers, laid, listOf}
 use Rattle.game.specs.Calls.{board, countCheck, drawnRound, drawnSearch, firstGiven, gives, gridChecks, listCheck, move, numberOf, priceCall, randomRoundCall, randomSearchCall, replayCall, replayed, roundsCheck, shapeCheck, threeBVCall, unless, unlessListed, workCheck}
-use Rattle.game.specs.Draws.{lent}
+use Rattle.game.specs.Draws.{Mode, lent}
 use Rattle.game.specs.Grid.{Grid, cellAt, cells, mine, number, rightValue, rightValues, size, square, zeroCell}
 use Rattle.game.specs.Lists.{again, bit, count, fold, has, keep, range, some-of}
 use Rattle.game.specs.Moves.{Move, Replayed, after, allowed, blow, cellOf, chord, chordable, clickEach, flag, left, legal, legalRead, play, playRead, readMove, replayFrom, reveal, stopped, sweep, unflag, whole}
@@ -27,8 +27,8 @@ revalued g vs = record { rows = g .rows; columns = g .columns; values = vs }
 pub record SameCalls (g h : Grid) : Type 0 where
   pub three-bv : (ws : List ℤ) → threeBVCall g ws ≡ threeBVCall h ws
   pub price : (openingsFirst : Bool) (ws : List ℤ) (ms : List ℕ) → priceCall openingsFirst g ws ms ≡ priceCall openingsFirst h ws ms
-  pub random-round : (ws : List ℤ) (ms bytes : List ℕ) → randomRoundCall g ws ms bytes ≡ randomRoundCall h ws ms bytes
-  pub random-search : (ws : List ℤ) (bytes : List ℕ) (n : ℕ) → randomSearchCall g ws bytes n ≡ randomSearchCall h ws bytes n
+  pub random-round : (mode : Mode) (ws : List ℤ) (ms bytes : List ℕ) → randomRoundCall mode g ws ms bytes ≡ randomRoundCall mode h ws ms bytes
+  pub random-search : (mode : Mode) (ws : List ℤ) (bytes : List ℕ) (n : ℕ) → randomSearchCall mode g ws bytes n ≡ randomSearchCall mode h ws bytes n
   pub replay : (ws : List ℤ) (ms : List ℕ) (n : ℕ) → replayCall g ws ms n ≡ replayCall h ws ms n
 
 module _ (g : Grid) (vs : List ℤ) where
@@ -332,15 +332,15 @@ module _ (g : Grid) (vs : List ℤ) where
           unlessListed (firstGiven (checks j ws ++ listCheck g ms ∷ [])) ws ms
           (record { answer = gives (length played ∷ []); work = left-area played ws j; list = listOf played ms })
 
-      random-round-call : (ws : List ℤ) (ms bytes : List ℕ) → randomRoundCall g ws ms bytes ≡ randomRoundCall h ws ms bytes
+      random-round-call : (mode : Mode) (ws : List ℤ) (ms bytes : List ℕ) → randomRoundCall mode g ws ms bytes ≡ randomRoundCall mode h ws ms bytes
       unfolding randomRoundCall
-      random-round-call ws ms bytes = λ j.
-          unlessListed (firstGiven (checks j ws ++ listCheck g ms ∷ [])) ws ms (drawn-round (random-rounds j (lent bytes) 0) ws ms j)
+      random-round-call mode ws ms bytes = λ j.
+          unlessListed (firstGiven (checks j ws ++ listCheck g ms ∷ [])) ws ms (drawn-round (random-rounds j (lent mode bytes) 0) ws ms j)
 
-      random-search-call : (ws : List ℤ) (bytes : List ℕ) (n : ℕ) → randomSearchCall g ws bytes n ≡ randomSearchCall h ws bytes n
+      random-search-call : (mode : Mode) (ws : List ℤ) (bytes : List ℕ) (n : ℕ) → randomSearchCall mode g ws bytes n ≡ randomSearchCall mode h ws bytes n
       unfolding randomSearchCall
-      random-search-call ws bytes n = λ j.
-          unless (firstGiven (checks j ws ++ roundsCheck n ∷ [])) ws (drawn-search (searches j (lent bytes) n) ws j)
+      random-search-call mode ws bytes n = λ j.
+          unless (firstGiven (checks j ws ++ roundsCheck n ∷ [])) ws (drawn-search (searches j (lent mode bytes) n) ws j)
 
       replay-call : (ws : List ℤ) (ms : List ℕ) (n : ℕ) → replayCall g ws ms n ≡ replayCall h ws ms n
       unfolding replayCall

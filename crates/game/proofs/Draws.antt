@@ -1,34 +1,64 @@
--- Lent bytes as a source: a draw takes one of its places, and uses no bytes, or four that are there. Assumes nothing.
-use Prim.Native.Nat.{ℕ, _+_, _<_, _≤_}
+-- Lent bytes as a source, in either mode: a draw takes one of its places, and uses no bytes, or the words that it spent and the one that it took. Assumes nothing.
+use Prim.Native.Nat.{ℕ, _%_, _*_, _+_, _-_, _/_, _<_, _≤_, suc, zero}
 use native.Mathlib.Omega.{arith}
-use native.Mathlib.Nat.{mod-lt}
-use mathlib.Core.Path.{_∙_, _≡_, refl, subst}
+use native.Mathlib.Nat.{mod-lt, mul-div-le}
+use mathlib.Core.Path.{_∙_, _≡_, ap, refl, subst, sym}
 use mathlib.Core.Logic.{_⊎_, inl, inr}
 use mathlib.Core.Bool.{Bool, cond, false, true}
 use mathlib.Core.List.{List}
 use mathlib.Core.Option.{Option, none, some}
-use lib.Dec.{T, leb, leb→le}
+use lib.Dec.{T, leb, leb→le, nleb→lt}
 use lib.ListN.{length}
-use Rattle.game.specs.Draws.{Drawn, Places, draw, fourBytes, lent}
+use borrow.Author.Tests.{lt-leb}
+use Rattle.game.specs.Draws.{Drawn, Mode, Places, draw, fair, firstTaken, fourBytes, lent, old, taken, wordsLeft}
 
 -- something holds of what is there, if anything is
 abbrev pub IfSome {ℓ} : {A : Type ℓ} → (A → Type 0) → Option A → Type 0
 IfSome P none = Unit {0}
 IfSome P (some x) = P x
 
--- something holds of a draw: of the one without bytes, and where enough are left of the one with them
-pub by-tests : (P : Drawn → Type 0) (single room : Bool) {d d′ : Drawn} → P d → (T room → P d′) → IfSome P (cond single (some d) (cond room (some d′) none))
-by-tests P true room h k = h
-by-tests P false true h k = k tt
-by-tests P false false h k = tt
+-- ---- words one after another
+
+-- what a word at a place gives, where it is taken
+abbrev pub taking : (ℕ → ℕ) → ℕ → ℕ → Drawn
+taking word n a = record { place = word a % n; next = a + 4 }
+
+-- something holds of the first word that is taken, if it holds of each that is
+pub by-taken : (P : Drawn → Type 0) (word : ℕ → ℕ) (mode : Mode) (n k at : ℕ) → ((a : ℕ) → at ≤ a → a + 4 ≤ at + 4 * k → T (taken mode n (word a)) → P (taking word n a))
+    → IfSome P (firstTaken word mode n k at)
+by-taken P word mode n zero at h = tt
+by-taken P word mode n (suc k) at h = go (taken mode n (word at)) refl (by-taken P word mode n k (at + 4) (λ a l m t. h a (omega arith) (omega arith) t))
+  where
+    go : (b : Bool) → taken mode n (word at) ≡ b → IfSome P (firstTaken word mode n k (at + 4)) → IfSome P (cond b (some (taking word n at)) (firstTaken word mode n k (at + 4)))
+    go true e r = h at (omega arith) (omega arith) (rw e tt)
+    go false e r = r
+
+-- where the first word is taken, it is the draw
+pub first-taken : (word : ℕ → ℕ) (mode : Mode) (n k at : ℕ) → taken mode n (word at) ≡ true → firstTaken word mode n (suc k) at ≡ some (taking word n at)
+first-taken word mode n k at e = ap (λ (b : Bool). cond b (some (taking word n at)) (firstTaken word mode n k (at + 4))) e
+
+-- ---- a draw from lent bytes
+
+-- the words that are left are in the bytes
+pub words-within : (bytes : List ℕ) (at a : ℕ) → at ≤ a → a + 4 ≤ at + 4 * wordsLeft bytes at → a + 4 ≤ length bytes
+words-within bytes at a l m = omega (arith, mul-div-le (length bytes - at) 4)
+
+-- something holds of a draw: of the one without bytes, and of each word in the bytes that is taken
+pub by-draw-taken : (P : Drawn → Type 0) (mode : Mode) (bytes : List ℕ) (at n : ℕ) → P (record { place = 0; next = at })
+    → ((a : ℕ) → at ≤ a → a + 4 ≤ length bytes → T (taken mode n (fourBytes bytes a)) → P (taking (fourBytes bytes) n a)) → IfSome P (draw mode bytes at n)
+unfolding draw
+by-draw-taken P mode bytes at n h k = go (leb n 1)
+  where
+    go : (b : Bool) → IfSome P (cond b (some (record { place = 0; next = at })) (firstTaken (fourBytes bytes) mode n (wordsLeft bytes at) at))
+    go true = h
+    go false = by-taken P (fourBytes bytes) mode n (wordsLeft bytes at) at (λ a l m t. k a l (words-within bytes at a l m) t)
 
 -- lent bytes draw among the places
-pub lent-places : (bytes : List ℕ) → Places (lent bytes)
-unfolding draw
-lent-places bytes =
+pub lent-places : (mode : Mode) (bytes : List ℕ) → Places (lent mode bytes)
+lent-places mode bytes =
     record {
       inside = λ at n d h e. subst (IfSome (λ (x : Drawn). x .place < n)) e
-          (by-tests (λ (x : Drawn). x .place < n) (leb n 1) (leb (at + 4) (length bytes)) h (λ t. mod-lt (fourBytes bytes at) h));
+          (by-draw-taken (λ (x : Drawn). x .place < n) mode bytes at n h (λ a l m t. mod-lt (fourBytes bytes a) h));
     }
 
 -- no bytes were used, or four at least, up to a place in the bytes
@@ -46,9 +76,73 @@ used-within bytes at next (inl e) h = (omega arith, omega arith)
 used-within bytes at next (inr k) h = (omega (arith, k .0), k .1)
 
 -- so of a draw
-pub draw-uses : (bytes : List ℕ) (at n : ℕ) (d : Drawn) → draw bytes at n ≡ some d → Used bytes at (d .next)
-unfolding draw
-draw-uses bytes at n d e =
+pub draw-uses : (mode : Mode) (bytes : List ℕ) (at n : ℕ) (d : Drawn) → draw mode bytes at n ≡ some d → Used bytes at (d .next)
+draw-uses mode bytes at n d e =
     subst (IfSome (λ (x : Drawn). Used bytes at (x .next))) e
-    (by-tests (λ (x : Drawn). Used bytes at (x .next)) (leb n 1) (leb (at + 4) (length bytes)) (inl refl)
-    (λ t. inr (omega arith, omega (arith, leb→le (at + 4) (length bytes) t))))
+    (by-draw-taken (λ (x : Drawn). Used bytes at (x .next)) mode bytes at n (inl refl) (λ a l m t. inr (omega arith, m)))
+
+-- ---- a draw by its first word
+
+-- among two or more a draw is the first word left that is taken
+pub draw-words : (mode : Mode) (bytes : List ℕ) (at n : ℕ) → 2 ≤ n → draw mode bytes at n ≡ firstTaken (fourBytes bytes) mode n (wordsLeft bytes at) at
+unfolding draw
+draw-words mode bytes at n h =
+    ap (λ (b : Bool). cond b (some (record { place = 0; next = at })) (firstTaken (fourBytes bytes) mode n (wordsLeft bytes at) at)) (lt-leb n 1 (omega arith))
+
+-- among one it takes the first place and uses no bytes
+pub draw-one : (mode : Mode) (bytes : List ℕ) (at : ℕ) → draw mode bytes at 1 ≡ some (record { place = 0; next = at })
+unfolding draw
+draw-one mode bytes at = refl
+
+-- where four bytes are left, one word more is left than from the next on
+word-left : (len at : ℕ) → at + 4 ≤ len → (len - at) / 4 ≡ suc ((len - (at + 4)) / 4)
+word-left len at l = omega arith
+
+-- with fewer than four bytes left it is dry
+pub draw-short : (mode : Mode) (bytes : List ℕ) (at n : ℕ) → 2 ≤ n → length bytes < at + 4 → draw mode bytes at n ≡ none
+draw-short mode bytes at n h l = draw-words mode bytes at n h ∙ ap (λ (k : ℕ). firstTaken (fourBytes bytes) mode n k at) (none-left (length bytes) at l)
+  where
+    none-left : (len at : ℕ) → len < at + 4 → (len - at) / 4 ≡ 0
+    none-left len at l = omega arith
+
+-- otherwise its first word is taken or spent
+draw-turn : (mode : Mode) (bytes : List ℕ) (at n : ℕ) → 2 ≤ n → at + 4 ≤ length bytes
+    → draw mode bytes at n ≡ cond (taken mode n (fourBytes bytes at)) (some (taking (fourBytes bytes) n at)) (draw mode bytes (at + 4) n)
+draw-turn mode bytes at n h l =
+    draw-words mode bytes at n h ∙ ap (λ (k : ℕ). firstTaken (fourBytes bytes) mode n k at) (word-left (length bytes) at l)
+    ∙ ap (cond (taken mode n (fourBytes bytes at)) (some (taking (fourBytes bytes) n at))) (sym (draw-words mode bytes (at + 4) n h))
+
+-- taken: the word's place mod n, four bytes on
+pub draw-taken : (mode : Mode) (bytes : List ℕ) (at n : ℕ) → 2 ≤ n → at + 4 ≤ length bytes → taken mode n (fourBytes bytes at) ≡ true
+    → draw mode bytes at n ≡ some (taking (fourBytes bytes) n at)
+draw-taken mode bytes at n h l e =
+    draw-turn mode bytes at n h l ∙ ap (λ (b : Bool). cond b (some (taking (fourBytes bytes) n at)) (draw mode bytes (at + 4) n)) e
+
+-- spent: the draw four bytes on, with a word fewer left, so a draw ends
+pub draw-spent : (mode : Mode) (bytes : List ℕ) (at n : ℕ) → 2 ≤ n → at + 4 ≤ length bytes → taken mode n (fourBytes bytes at) ≡ false
+    → (draw mode bytes at n ≡ draw mode bytes (at + 4) n) × (wordsLeft bytes (at + 4) < wordsLeft bytes at)
+draw-spent mode bytes at n h l e = (
+  draw-turn mode bytes at n h l ∙ ap (λ (b : Bool). cond b (some (taking (fourBytes bytes) n at)) (draw mode bytes (at + 4) n)) e,
+  omega (arith, word-left (length bytes) at l),
+)
+
+-- a fair draw whose first word is taken gives what the old one gives
+pub fair-first : (bytes : List ℕ) (at n : ℕ) → taken fair n (fourBytes bytes at) ≡ true → draw fair bytes at n ≡ draw old bytes at n
+unfolding draw
+fair-first bytes at n e = ap (cond (leb n 1) (some (record { place = 0; next = at }))) (go (wordsLeft bytes at))
+  where
+    go : (k : ℕ) → firstTaken (fourBytes bytes) fair n k at ≡ firstTaken (fourBytes bytes) old n k at
+    go zero = refl
+    go (suc k) = first-taken (fourBytes bytes) fair n k at e
+
+-- the old mode takes its first word, if there is one
+pub old-draw : (bytes : List ℕ) (at n : ℕ)
+    → draw old bytes at n ≡ cond (leb n 1) (some (record { place = 0; next = at })) (cond (leb (at + 4) (length bytes)) (some (taking (fourBytes bytes) n at)) none)
+unfolding draw
+old-draw bytes at n = ap (cond (leb n 1) (some (record { place = 0; next = at }))) (go (wordsLeft bytes at) (leb (at + 4) (length bytes)) refl refl)
+  where
+    go : (k : ℕ) (b : Bool) → wordsLeft bytes at ≡ k → leb (at + 4) (length bytes) ≡ b → firstTaken (fourBytes bytes) old n k at ≡ cond b (some (taking (fourBytes bytes) n at)) none
+    go zero true e f = absurd (omega (arith, leb→le (at + 4) (length bytes) (rw f tt)))
+    go zero false e f = refl
+    go (suc k) true e f = refl
+    go (suc k) false e f = absurd (omega (arith, nleb→lt (at + 4) (length bytes) (rw f tt)))

@@ -1,4 +1,4 @@
--- How many draw bytes are enough: a step draws once, four bytes at most, and a round has at most 3BV steps. Assumes nothing.
+-- How many draw bytes are enough in the old mode: a step draws once, four bytes at most, and a round has at most 3BV steps. In the fair mode no number is. Assumes nothing.
 use Prim.Native.Nat.{ℕ, _*_, _+_, _-_, _≤_, suc, zero}
 use native.Mathlib.Omega.{arith}
 use native.Mathlib.Decide.{decLe}
@@ -12,13 +12,13 @@ use lib.IntN.{pos, ℤ}
 use lib.ListN.{length}
 use borrow.Author.Tests.{eq-eqb}
 use Rattle.game.specs.Calls.{Answer, Check, Refusal, draws, drawnRound, drawnSearch, firstGiven, gridChecks, listCheck, numberOf, randomRoundCall, randomSearchCall, refuses, rounds, roundsCheck, unless, unlessListed}
-use Rattle.game.specs.Draws.{Drawn, draw, lent}
+use Rattle.game.specs.Draws.{Drawn, draw, lent, old}
 use Rattle.game.specs.Grid.{Grid, mine, number, square}
 use Rattle.game.specs.Openings.{chainedTo, grow, openings, threeBV}
 use Rattle.game.specs.Position.{Position, closedSafe, cost, gain, premium, untouched}
 use Rattle.game.specs.Rounds.{Round, Searched, Step, before, choice, randomFrom, randomRound, randomSearch, searchFrom, stepOf, topCells, unitCells, width}
 use Rattle.game.proofs.Checks.{given-append, given-each, orElse}
-use Rattle.game.proofs.Draws.{IfSome, by-tests}
+use Rattle.game.proofs.Draws.{IfSome, old-draw}
 use Rattle.game.proofs.Randoms.{by-draws}
 use Rattle.game.proofs.Searches.{first, goes-on, onward}
 
@@ -31,16 +31,21 @@ SearchBy most o = IfSome (λ (r : Searched). r .next ≤ most) o
 
 -- ---- a draw
 
+-- something holds of an old draw: of the one without bytes, and where enough are left of the one with them
+by-tests : (P : Drawn → Type 0) (single room : Bool) {d d′ : Drawn} → P d → (T room → P d′) → IfSome P (cond single (some d) (cond room (some d′) none))
+by-tests P true room h k = h
+by-tests P false true h k = k tt
+by-tests P false false h k = tt
+
 -- a draw uses four bytes at most
-draw-few : (bytes : List ℕ) (at n : ℕ) (d : Drawn) → draw bytes at n ≡ some d → d .next ≤ at + 4
-unfolding draw
+draw-few : (bytes : List ℕ) (at n : ℕ) (d : Drawn) → draw old bytes at n ≡ some d → d .next ≤ at + 4
 draw-few bytes at n d e =
-    subst (IfSome (λ (x : Drawn). x .next ≤ at + 4)) e (by-tests (λ (x : Drawn). x .next ≤ at + 4) (leb n 1) (leb (at + 4) (length bytes)) (omega arith) (λ t. omega arith))
+    subst (IfSome (λ (x : Drawn). x .next ≤ at + 4)) (sym (old-draw bytes at n) ∙ e)
+    (by-tests (λ (x : Drawn). x .next ≤ at + 4) (leb n 1) (leb (at + 4) (length bytes)) (omega arith) (λ t. omega arith))
 
 -- and four are enough
-draw-enough : (bytes : List ℕ) (at n : ℕ) → at + 4 ≤ length bytes → draw bytes at n ≡ none → ⊥
-unfolding draw
-draw-enough bytes at n h = go (leb n 1) (leb (at + 4) (length bytes)) _ _ (le→leb (at + 4) (length bytes) h)
+draw-enough : (bytes : List ℕ) (at n : ℕ) → at + 4 ≤ length bytes → draw old bytes at n ≡ none → ⊥
+draw-enough bytes at n h e = go (leb n 1) (leb (at + 4) (length bytes)) _ _ (le→leb (at + 4) (length bytes) h) (sym (old-draw bytes at n) ∙ e)
   where
     go : (single room : Bool) (d d′ : Drawn) → T room → cond single (some d) (cond room (some d′) none) ≡ none → ⊥
     go true room d d′ t e = Option·none-ne-some d (sym e)
@@ -50,9 +55,9 @@ draw-enough bytes at n h = go (leb n 1) (leb (at + 4) (length bytes)) _ _ (le→
 -- ---- a round
 
 -- a round of so many steps uses four bytes a step at most
-from-few : (g : Grid) (bytes : List ℕ) (n : ℕ) (s : Position) (at : ℕ) → RoundBy (at + 4 * n) (randomFrom n g (lent bytes) s at)
+from-few : (g : Grid) (bytes : List ℕ) (n : ℕ) (s : Position) (at : ℕ) → RoundBy (at + 4 * n) (randomFrom n g (lent old bytes) s at)
 from-few g bytes =
-    by-draws g (lent bytes) (λ n s at o. RoundBy (at + 4 * n) o)
+    by-draws g (lent old bytes) (λ n s at o. RoundBy (at + 4 * n) o)
     (record {
       no-steps = λ s at. omega arith;
       all-open = λ n s at e. omega arith;
@@ -65,9 +70,9 @@ from-few g bytes =
     more n t at k (some e) h r = omega (arith, h, r)
 
 -- and four bytes a step are enough
-from-enough : (g : Grid) (bytes : List ℕ) (n : ℕ) (s : Position) (at : ℕ) → at + 4 * n ≤ length bytes → (r : Round) × (randomFrom n g (lent bytes) s at ≡ some r)
+from-enough : (g : Grid) (bytes : List ℕ) (n : ℕ) (s : Position) (at : ℕ) → at + 4 * n ≤ length bytes → (r : Round) × (randomFrom n g (lent old bytes) s at ≡ some r)
 from-enough g bytes =
-    by-draws g (lent bytes) (λ n s at o. at + 4 * n ≤ length bytes → (r : Round) × (o ≡ some r))
+    by-draws g (lent old bytes) (λ n s at o. at + 4 * n ≤ length bytes → (r : Round) × (o ≡ some r))
     (record {
       no-steps = λ s at l. (record { steps = []; next = at }, refl);
       all-open = λ n s at e l. (record { steps = []; next = at }, refl);
@@ -79,12 +84,12 @@ from-enough g bytes =
     more t o (r, e) = (record { steps = t ∷ r .steps; next = r .next }, ap (before t) e)
 
 -- a random round uses at most four bytes a unit
-pub random-few : (g : Grid) (bytes : List ℕ) (at : ℕ) (r : Round) → randomRound g (lent bytes) at ≡ some r → r .next ≤ at + 4 * threeBV g
+pub random-few : (g : Grid) (bytes : List ℕ) (at : ℕ) (r : Round) → randomRound g (lent old bytes) at ≡ some r → r .next ≤ at + 4 * threeBV g
 unfolding randomRound
 random-few g bytes at r e = subst (RoundBy (at + 4 * threeBV g)) e (from-few g bytes (threeBV g) (untouched g) at)
 
 -- four bytes a unit are enough for it
-pub random-enough : (g : Grid) (bytes : List ℕ) (at : ℕ) → at + 4 * threeBV g ≤ length bytes → (r : Round) × (randomRound g (lent bytes) at ≡ some r)
+pub random-enough : (g : Grid) (bytes : List ℕ) (at : ℕ) → at + 4 * threeBV g ≤ length bytes → (r : Round) × (randomRound g (lent old bytes) at ≡ some r)
 unfolding randomRound
 random-enough g bytes at h = from-enough g bytes (threeBV g) (untouched g) at h
 
@@ -93,67 +98,67 @@ abbrev pair : Grid
 pair = record { rows = 1; columns = 2; values = pos 0 ∷ pos 0 ∷ [] }
 
 -- fewer are not enough for every grid: two safe cells are one unit, and with three bytes their round is dry
-pub three-dry : (threeBV pair ≡ 1) × ((a b c : ℕ) → randomRound pair (lent (a ∷ b ∷ c ∷ [])) 0 ≡ none)
+pub three-dry : (threeBV pair ≡ 1) × ((a b c : ℕ) → randomRound pair (lent old (a ∷ b ∷ c ∷ [])) 0 ≡ none)
 unfolding mine square number grow chainedTo openings threeBV gain cost premium closedSafe topCells unitCells choice draw randomRound
 three-dry = (refl, λ a b c. refl)
 
 -- ---- a search
 
 -- rounds after others use at most four bytes a unit each
-later-few : (n : ℕ) (g : Grid) (bytes : List ℕ) (b : Searched) → SearchBy (b .next + 4 * threeBV g * n) (searchFrom n g (lent bytes) b)
+later-few : (n : ℕ) (g : Grid) (bytes : List ℕ) (b : Searched) → SearchBy (b .next + 4 * threeBV g * n) (searchFrom n g (lent old bytes) b)
 later-few zero g bytes b = omega arith
-later-few (suc n) g bytes b = go (λ e. later-few n g bytes (onward b e)) (randomRound g (lent bytes) (b .next)) refl
+later-few (suc n) g bytes b = go (λ e. later-few n g bytes (onward b e)) (randomRound g (lent old bytes) (b .next)) refl
   where
     more : (k : ℕ) (o : Option Searched) → k ≤ b .next + 4 * threeBV g → SearchBy (k + 4 * threeBV g * n) o → SearchBy (b .next + 4 * threeBV g * suc n) o
     more k none h l = tt
     more k (some r) h l = omega (arith, h, l, mul-suc (4 * threeBV g) n)
 
-    go : ((e : Round) → SearchBy (e .next + 4 * threeBV g * n) (searchFrom n g (lent bytes) (onward b e))) → (o : Option Round) → randomRound g (lent bytes) (b .next) ≡ o
-        → SearchBy (b .next + 4 * threeBV g * suc n) (goes-on n g (lent bytes) (onward b) o)
+    go : ((e : Round) → SearchBy (e .next + 4 * threeBV g * n) (searchFrom n g (lent old bytes) (onward b e))) → (o : Option Round) → randomRound g (lent old bytes) (b .next) ≡ o
+        → SearchBy (b .next + 4 * threeBV g * suc n) (goes-on n g (lent old bytes) (onward b) o)
     go l none q = tt
-    go l (some e) q = more (e .next) (searchFrom n g (lent bytes) (onward b e)) (random-few g bytes (b .next) e q) (l e)
+    go l (some e) q = more (e .next) (searchFrom n g (lent old bytes) (onward b e)) (random-few g bytes (b .next) e q) (l e)
 
 -- and as many are enough
-later-enough : (n : ℕ) (g : Grid) (bytes : List ℕ) (b : Searched) → b .next + 4 * threeBV g * n ≤ length bytes → (r : Searched) × (searchFrom n g (lent bytes) b ≡ some r)
+later-enough : (n : ℕ) (g : Grid) (bytes : List ℕ) (b : Searched) → b .next + 4 * threeBV g * n ≤ length bytes → (r : Searched) × (searchFrom n g (lent old bytes) b ≡ some r)
 later-enough zero g bytes b h = (b, refl)
 later-enough (suc n) g bytes b h = go (random-enough g bytes (b .next) (omega (arith, more))) (λ e k. later-enough n g bytes (onward b e) k)
   where
     more : 4 * threeBV g * suc n ≡ 4 * threeBV g * n + 4 * threeBV g
     more = mul-suc (4 * threeBV g) n
 
-    go : (e : Round) × (randomRound g (lent bytes) (b .next) ≡ some e)
-        → ((e : Round) → e .next + 4 * threeBV g * n ≤ length bytes → (r : Searched) × (searchFrom n g (lent bytes) (onward b e) ≡ some r))
-        → (r : Searched) × (goes-on n g (lent bytes) (onward b) (randomRound g (lent bytes) (b .next)) ≡ some r)
-    go (e, q) l = let r = l e (omega (arith, more, random-few g bytes (b .next) e q)) in (r .0, ap (goes-on n g (lent bytes) (onward b)) q ∙ r .1)
+    go : (e : Round) × (randomRound g (lent old bytes) (b .next) ≡ some e)
+        → ((e : Round) → e .next + 4 * threeBV g * n ≤ length bytes → (r : Searched) × (searchFrom n g (lent old bytes) (onward b e) ≡ some r))
+        → (r : Searched) × (goes-on n g (lent old bytes) (onward b) (randomRound g (lent old bytes) (b .next)) ≡ some r)
+    go (e, q) l = let r = l e (omega (arith, more, random-few g bytes (b .next) e q)) in (r .0, ap (goes-on n g (lent old bytes) (onward b)) q ∙ r .1)
 
 -- a search of one round or more by its first and the others
 all-rounds : (k n : ℕ) → 1 ≤ n → k * n ≡ k + k * (n - 1)
 all-rounds k n h = ap (λ (m : ℕ). k * m) (omega arith) ∙ mul-suc k (n - 1) ∙ omega arith
 
 -- a search uses at most four bytes a unit and round
-pub search-spends : (g : Grid) (bytes : List ℕ) (n : ℕ) (r : Searched) → 1 ≤ n → randomSearch g (lent bytes) n ≡ some r → r .next ≤ 4 * threeBV g * n
+pub search-spends : (g : Grid) (bytes : List ℕ) (n : ℕ) (r : Searched) → 1 ≤ n → randomSearch g (lent old bytes) n ≡ some r → r .next ≤ 4 * threeBV g * n
 unfolding randomSearch
-search-spends g bytes n r h e = subst (SearchBy (4 * threeBV g * n)) e (go (randomRound g (lent bytes) 0) refl)
+search-spends g bytes n r h e = subst (SearchBy (4 * threeBV g * n)) e (go (randomRound g (lent old bytes) 0) refl)
   where
     whole : (e : Round) → e .next ≤ 4 * threeBV g → (o : Option Searched) → SearchBy (e .next + 4 * threeBV g * (n - 1)) o → SearchBy (4 * threeBV g * n) o
     whole e k none l = tt
     whole e k (some s) l = omega (arith, k, l, all-rounds (4 * threeBV g) n h)
 
-    go : (o : Option Round) → randomRound g (lent bytes) 0 ≡ o → SearchBy (4 * threeBV g * n) (goes-on (n - 1) g (lent bytes) first o)
+    go : (o : Option Round) → randomRound g (lent old bytes) 0 ≡ o → SearchBy (4 * threeBV g * n) (goes-on (n - 1) g (lent old bytes) first o)
     go none q = tt
-    go (some e) q = whole e (omega (arith, random-few g bytes 0 e q)) (searchFrom (n - 1) g (lent bytes) (first e)) (later-few (n - 1) g bytes (first e))
+    go (some e) q = whole e (omega (arith, random-few g bytes 0 e q)) (searchFrom (n - 1) g (lent old bytes) (first e)) (later-few (n - 1) g bytes (first e))
 
 -- and as many are enough for it
-pub search-enough : (g : Grid) (bytes : List ℕ) (n : ℕ) → 1 ≤ n → 4 * threeBV g * n ≤ length bytes → (r : Searched) × (randomSearch g (lent bytes) n ≡ some r) × (r .next ≤ 4 * threeBV g * n)
+pub search-enough : (g : Grid) (bytes : List ℕ) (n : ℕ) → 1 ≤ n → 4 * threeBV g * n ≤ length bytes → (r : Searched) × (randomSearch g (lent old bytes) n ≡ some r) × (r .next ≤ 4 * threeBV g * n)
 unfolding randomSearch
 search-enough g bytes n h k = whole (go (random-enough g bytes 0 (omega (arith, all-rounds (4 * threeBV g) n h))))
   where
-    go : (e : Round) × (randomRound g (lent bytes) 0 ≡ some e) → (r : Searched) × (randomSearch g (lent bytes) n ≡ some r)
+    go : (e : Round) × (randomRound g (lent old bytes) 0 ≡ some e) → (r : Searched) × (randomSearch g (lent old bytes) n ≡ some r)
     go (e, q) =
         let r = later-enough (n - 1) g bytes (first e) (omega (arith, all-rounds (4 * threeBV g) n h, random-few g bytes 0 e q)) in
-        (r .0, ap (goes-on (n - 1) g (lent bytes) first) q ∙ r .1)
+        (r .0, ap (goes-on (n - 1) g (lent old bytes) first) q ∙ r .1)
 
-    whole : (r : Searched) × (randomSearch g (lent bytes) n ≡ some r) → (r : Searched) × (randomSearch g (lent bytes) n ≡ some r) × (r .next ≤ 4 * threeBV g * n)
+    whole : (r : Searched) × (randomSearch g (lent old bytes) n ≡ some r) → (r : Searched) × (randomSearch g (lent old bytes) n ≡ some r) × (r .next ≤ 4 * threeBV g * n)
     whole (r, q) = (r, q, search-spends g bytes n r h q)
 
 -- ---- the calls
@@ -167,11 +172,11 @@ no-draws : (a : Answer) → a .number ≤ 5 → a ≡ refuses draws → ⊥
 no-draws a h e = let k : a .number ≡ 6 = ap (λ (x : Answer). x .number) e in omega arith
 
 -- a random round that is lent four bytes a unit never answers DRAWS
-pub round-not-dry : (g : Grid) (ws : List ℤ) (ms bytes : List ℕ) → 4 * threeBV g ≤ length bytes → randomRoundCall g ws ms bytes .answer ≡ refuses draws → ⊥
+pub round-not-dry : (g : Grid) (ws : List ℤ) (ms bytes : List ℕ) → 4 * threeBV g ≤ length bytes → randomRoundCall old g ws ms bytes .answer ≡ refuses draws → ⊥
 unfolding randomRoundCall
 round-not-dry g ws ms bytes h =
     let r = random-enough g bytes 0 (omega arith) in
-    go (firstGiven checks) (given-each NotDraws checks (omega arith, (omega arith, (omega arith, (omega arith, tt))))) (randomRound g (lent bytes) 0) (r .0) (r .1)
+    go (firstGiven checks) (given-each NotDraws checks (omega arith, (omega arith, (omega arith, (omega arith, tt))))) (randomRound g (lent old bytes) 0) (r .0) (r .1)
   where
     checks : List Check
     checks = gridChecks g ws ++ listCheck g ms ∷ []
@@ -182,7 +187,7 @@ round-not-dry g ws ms bytes h =
     go none l (some x) r q = no-draws (drawnRound g (some x) ws ms .answer) (omega arith)
 
 -- nor does a search that is lent as many for each of its rounds
-pub search-not-dry : (g : Grid) (ws : List ℤ) (bytes : List ℕ) (n : ℕ) → 4 * threeBV g * n ≤ length bytes → randomSearchCall g ws bytes n .answer ≡ refuses draws → ⊥
+pub search-not-dry : (g : Grid) (ws : List ℤ) (bytes : List ℕ) (n : ℕ) → 4 * threeBV g * n ≤ length bytes → randomSearchCall old g ws bytes n .answer ≡ refuses draws → ⊥
 unfolding randomSearchCall orElse
 search-not-dry g ws bytes n h =
     rw (given-append (gridChecks g ws) (roundsCheck n ∷ [])) (go (firstGiven (gridChecks g ws)) (given-each NotDraws (gridChecks g ws) (omega arith, (omega arith, (omega arith, tt)))) (eqb n 0) refl)
@@ -195,7 +200,7 @@ search-not-dry g ws bytes n h =
     answered (some x) r q = no-draws (drawnSearch g (some x) ws .answer) (omega arith)
 
     go : (f : Option Refusal) → IfSome NotDraws f → (b : Bool) → eqb n 0 ≡ b
-        → unless (orElse f (elim b [ true ↦ some rounds | false ↦ none ])) ws (drawnSearch g (randomSearch g (lent bytes) n) ws) .answer ≡ refuses draws → ⊥
+        → unless (orElse f (elim b [ true ↦ some rounds | false ↦ none ])) ws (drawnSearch g (randomSearch g (lent old bytes) n) ws) .answer ≡ refuses draws → ⊥
     go (some f) l b q = no-draws (refuses f) l
     go none l true q = no-draws (refuses rounds) (omega arith)
-    go none l false q = let r = search-enough g bytes n (some-round q) h in answered (randomSearch g (lent bytes) n) (r .0) (r .1)
+    go none l false q = let r = search-enough g bytes n (some-round q) h in answered (randomSearch g (lent old bytes) n) (r .0) (r .1)

@@ -21,6 +21,7 @@ pub mod Legal
 pub mod Units
 pub mod Runs
 pub mod Draws
+pub mod Chances
 pub mod Rounds
 pub mod Randoms
 pub mod Falls

@@ -1,22 +1,21 @@
 -- A long search in parts: a draw further on in the bytes is the draw in the bytes from there on, so a search goes on with the bytes that are left. Assumes nothing.
-use Prim.Native.Nat.{ℕ, _%_, _+_, _-_, _≤_, min, suc, zero}
+use Prim.Native.Nat.{ℕ, _%_, _+_, _-_, _/_, _≤_, min, suc, zero}
 use native.Mathlib.Omega.{arith}
 use native.Mathlib.Nat.{add-assoc, add-zero, suc-add, zero-add}
 use mathlib.Core.Path.{_∙_, _≡_, ap, refl, sym}
 use mathlib.Core.Bool.{Bool, cond, false, true}
 use mathlib.Core.List.{List, []}
 use mathlib.Core.Option.{Option, Option·map, bind, none, some}
-use lib.Dec.{leb, leb→le, le→leb}
+use lib.Dec.{leb}
 use lib.ListN.{drop, length, length-drop}
 use lib.Seq.{getD-drop}
-use Rattle.game.specs.Draws.{Drawn, Source, draw, fourBytes, lent}
+use Rattle.game.specs.Draws.{Drawn, Mode, Source, draw, firstTaken, fourBytes, lent, taken, wordsLeft}
 use Rattle.game.specs.Grid.{Grid}
 use Rattle.game.specs.Openings.{threeBV}
 use Rattle.game.specs.Position.{Position, closedSafe, untouched}
 use Rattle.game.specs.Rounds.{Round, Searched, Step, afterStep, before, choice, randomFrom, randomRound, randomSearch, searchFrom, stepOf, width}
 use Rattle.game.proofs.Randoms.{by-draw}
 use Rattle.game.proofs.Searches.{first, goes-on, onward}
-use Rattle.game.proofs.Truth.{iff}
 
 -- ---- a draw
 
@@ -32,31 +31,47 @@ four-dropped : (bytes : List ℕ) (k at : ℕ) → fourBytes bytes (k + at) ≡ 
 unfolding fourBytes
 four-dropped bytes k at = simp (getD-drop, add-assoc) refl
 
--- whether four are left
-room-dropped : (bytes : List ℕ) (k at : ℕ) → leb (k + at + 4) (length bytes) ≡ leb (at + 4) (length (drop k bytes))
-room-dropped bytes k at =
-    iff (leb (k + at + 4) (length bytes)) (leb (at + 4) (length (drop k bytes)))
-    (λ t. le→leb (at + 4) (length (drop k bytes)) (omega (arith, leb→le (k + at + 4) (length bytes) t, length-drop k bytes)))
-    (λ t. le→leb (k + at + 4) (length bytes) (omega (arith, leb→le (at + 4) (length (drop k bytes)) t, length-drop k bytes)))
+-- how many words are left
+left-dropped : (bytes : List ℕ) (k at : ℕ) → wordsLeft bytes (k + at) ≡ wordsLeft (drop k bytes) at
+left-dropped bytes k at = ap (λ (m : ℕ). m / 4) (as-many (length bytes) (length (drop k bytes)) (length-drop k bytes))
+  where
+    as-many : (long left : ℕ) → left ≡ long - k → long - (k + at) ≡ left - at
+    as-many long left e = omega arith
+
+-- the first word that is taken
+taken-dropped : (bytes : List ℕ) (mode : Mode) (n words k at : ℕ)
+    → firstTaken (fourBytes bytes) mode n words (k + at) ≡ Option·map (drawn-from k) (firstTaken (fourBytes (drop k bytes)) mode n words at)
+taken-dropped bytes mode n zero k at = refl
+taken-dropped bytes mode n (suc words) k at = rw (four-dropped bytes k at) (go (fourBytes (drop k bytes) at) (taken mode n (fourBytes (drop k bytes) at)) (rest (taken-dropped bytes mode n words k (at + 4))))
+  where
+    later : Option Drawn
+    later = Option·map (drawn-from k) (firstTaken (fourBytes (drop k bytes)) mode n words (at + 4))
+
+    rest : firstTaken (fourBytes bytes) mode n words (k + (at + 4)) ≡ later → firstTaken (fourBytes bytes) mode n words (k + at + 4) ≡ later
+    rest e = ap (firstTaken (fourBytes bytes) mode n words) (add-assoc k at 4) ∙ e
+
+    go : (x : ℕ) (b : Bool) → firstTaken (fourBytes bytes) mode n words (k + at + 4) ≡ later
+        → cond b (some (record { place = x % n; next = k + at + 4 })) (firstTaken (fourBytes bytes) mode n words (k + at + 4))
+        ≡ Option·map (drawn-from k) (cond b (some (record { place = x % n; next = at + 4 })) (firstTaken (fourBytes (drop k bytes)) mode n words (at + 4)))
+    go x true e = ap (λ (m : ℕ). some (record { place = x % n; next = m })) (add-assoc k at 4)
+    go x false e = e
 
 -- a draw from a place on is the draw of the bytes from there on
-draw-dropped : (bytes : List ℕ) (k at n : ℕ) → draw bytes (k + at) n ≡ Option·map (drawn-from k) (draw (drop k bytes) at n)
+draw-dropped : (mode : Mode) (bytes : List ℕ) (k at n : ℕ) → draw mode bytes (k + at) n ≡ Option·map (drawn-from k) (draw mode (drop k bytes) at n)
 unfolding draw
-draw-dropped bytes k at n =
-    rw (room-dropped bytes k at) (rw (four-dropped bytes k at) (go (leb n 1) (leb (at + 4) (length (drop k bytes))) (fourBytes (drop k bytes) at % n)))
+draw-dropped mode bytes k at n =
+    rw (left-dropped bytes k at) (rw (taken-dropped bytes mode n (wordsLeft (drop k bytes) at) k at) (go (leb n 1) (firstTaken (fourBytes (drop k bytes)) mode n (wordsLeft (drop k bytes) at) at)))
   where
-    go : (b c : Bool) (x : ℕ) → cond b (some (record { place = 0; next = k + at })) (cond c (some (record { place = x; next = k + at + 4 })) none)
-        ≡ Option·map (drawn-from k) (cond b (some (record { place = 0; next = at })) (cond c (some (record { place = x; next = at + 4 })) none))
-    go true c x = refl
-    go false true x = ap (λ (m : ℕ). some (record { place = x; next = m })) (add-assoc k at 4)
-    go false false x = refl
+    go : (b : Bool) (o : Option Drawn) → cond b (some (record { place = 0; next = k + at })) (Option·map (drawn-from k) o) ≡ Option·map (drawn-from k) (cond b (some (record { place = 0; next = at })) o)
+    go true o = refl
+    go false o = refl
 
 -- a source behind so many places of another: its draws are the other's from there on
 record Behind (k : ℕ) (source rest : Source) : Type 0 where
   draws : (at n : ℕ) → source (k + at) n ≡ Option·map (drawn-from k) (rest at n)
 
-lent-behind : (bytes : List ℕ) (k : ℕ) → Behind k (lent bytes) (lent (drop k bytes))
-lent-behind bytes k = record { draws = draw-dropped bytes k }
+lent-behind : (mode : Mode) (bytes : List ℕ) (k : ℕ) → Behind k (lent mode bytes) (lent mode (drop k bytes))
+lent-behind mode bytes k = record { draws = draw-dropped mode bytes k }
 
 -- ---- a round
 
@@ -133,31 +148,31 @@ later-parts (suc m) n g source b = ap (λ (k : ℕ). searchFrom k g source b) (s
     go l (some e) = l e
 
 -- a search is one of its first rounds, and then one of the others with the bytes that are left
-search-splits : (g : Grid) (bytes : List ℕ) (m n : ℕ) → 1 ≤ m → 1 ≤ n
-    → randomSearch g (lent bytes) (m + n) ≡ bind (randomSearch g (lent bytes) m) (λ a. Option·map (joined a) (randomSearch g (lent (drop (a .next) bytes)) n))
+search-splits : (g : Grid) (mode : Mode) (bytes : List ℕ) (m n : ℕ) → 1 ≤ m → 1 ≤ n
+    → randomSearch g (lent mode bytes) (m + n) ≡ bind (randomSearch g (lent mode bytes) m) (λ a. Option·map (joined a) (randomSearch g (lent mode (drop (a .next) bytes)) n))
 unfolding randomSearch bind
-search-splits g bytes m n h k = go (randomRound g (lent bytes) 0)
+search-splits g mode bytes m n h k = go (randomRound g (lent mode bytes) 0)
   where
     on : Option Searched → Option Searched
-    on o = bind o (λ a. Option·map (joined a) (randomSearch g (lent (drop (a .next) bytes)) n))
+    on o = bind o (λ a. Option·map (joined a) (randomSearch g (lent mode (drop (a .next) bytes)) n))
 
-    more : (o : Option Searched) → bind o (searchFrom n g (lent bytes)) ≡ on o
+    more : (o : Option Searched) → bind o (searchFrom n g (lent mode bytes)) ≡ on o
     more none = refl
-    more (some a) = search-behind n g a (lent bytes) (lent (drop (a .next) bytes)) (lent-behind bytes (a .next)) k
+    more (some a) = search-behind n g a (lent mode bytes) (lent mode (drop (a .next) bytes)) (lent-behind mode bytes (a .next)) k
 
-    go : (o : Option Round) → goes-on (m + n - 1) g (lent bytes) first o ≡ on (goes-on (m - 1) g (lent bytes) first o)
+    go : (o : Option Round) → goes-on (m + n - 1) g (lent mode bytes) first o ≡ on (goes-on (m - 1) g (lent mode bytes) first o)
     go none = refl
     go (some e) =
         let as-many : m + n - 1 ≡ m - 1 + n = omega arith in
-        ap (λ (j : ℕ). searchFrom j g (lent bytes) (first e)) as-many
-        ∙ later-parts (m - 1) n g (lent bytes) (first e)
-        ∙ more (searchFrom (m - 1) g (lent bytes) (first e))
+        ap (λ (j : ℕ). searchFrom j g (lent mode bytes) (first e)) as-many
+        ∙ later-parts (m - 1) n g (lent mode bytes) (first e)
+        ∙ more (searchFrom (m - 1) g (lent mode bytes) (first e))
 
 -- two searches, the second with the bytes that the first left, come to one search of all their rounds
-pub search-parts : (g : Grid) (bytes : List ℕ) (m n : ℕ) (a b : Searched) → 1 ≤ m → 1 ≤ n → randomSearch g (lent bytes) m ≡ some a → randomSearch g (lent (drop (a .next) bytes)) n ≡ some b
-    → randomSearch g (lent bytes) (m + n) ≡ some (joined a b)
+pub search-parts : (g : Grid) (mode : Mode) (bytes : List ℕ) (m n : ℕ) (a b : Searched) → 1 ≤ m → 1 ≤ n → randomSearch g (lent mode bytes) m ≡ some a → randomSearch g (lent mode (drop (a .next) bytes)) n ≡ some b
+    → randomSearch g (lent mode bytes) (m + n) ≡ some (joined a b)
 unfolding bind
-search-parts g bytes m n a b h k e q =
-    search-splits g bytes m n h k
-    ∙ ap (λ (o : Option Searched). bind o (λ a. Option·map (joined a) (randomSearch g (lent (drop (a .next) bytes)) n))) e
+search-parts g mode bytes m n a b h k e q =
+    search-splits g mode bytes m n h k
+    ∙ ap (λ (o : Option Searched). bind o (λ a. Option·map (joined a) (randomSearch g (lent mode (drop (a .next) bytes)) n))) e
     ∙ ap (Option·map (joined a)) q

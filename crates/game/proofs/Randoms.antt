@@ -8,7 +8,7 @@ use mathlib.Core.List.{List, []}
 use mathlib.Core.Option.{Option, none, some}
 use lib.ListN.{length}
 use Rattle.game.specs.Demands.{Sound}
-use Rattle.game.specs.Draws.{Drawn, Places, Source, lent}
+use Rattle.game.specs.Draws.{Drawn, Mode, Places, Source, lent}
 use Rattle.game.specs.Grid.{Grid}
 use Rattle.game.specs.Moves.{after}
 use Rattle.game.specs.Openings.{threeBV}
@@ -131,12 +131,12 @@ random-reads g source R c at r e = subst (IfSome (λ (x : Round). R at (x .next)
         }
 
 -- with lent bytes it uses none, or four at least
-pub lent-reads : (bytes : List ℕ) → Reading (lent bytes) (Used bytes)
-lent-reads bytes = record { stays = λ at. inl refl; goes-on = used-on bytes; draws = draw-uses bytes }
+pub lent-reads : (mode : Mode) (bytes : List ℕ) → Reading (lent mode bytes) (Used bytes)
+lent-reads mode bytes = record { stays = λ at. inl refl; goes-on = used-on bytes; draws = draw-uses mode bytes }
 
-pub random-uses : (g : Grid) (bytes : List ℕ) (at : ℕ) (r : Round) → randomRound g (lent bytes) at ≡ some r → Used bytes at (r .next)
-random-uses g bytes at r e = random-reads g (lent bytes) (Used bytes) (lent-reads bytes) at r e
+pub random-uses : (g : Grid) (mode : Mode) (bytes : List ℕ) (at : ℕ) (r : Round) → randomRound g (lent mode bytes) at ≡ some r → Used bytes at (r .next)
+random-uses g mode bytes at r e = random-reads g (lent mode bytes) (Used bytes) (lent-reads mode bytes) at r e
 
 -- it reads on in the bytes
-pub random-within : (g : Grid) (bytes : List ℕ) (at : ℕ) (r : Round) → randomRound g (lent bytes) at ≡ some r → at ≤ length bytes → (at ≤ r .next) × (r .next ≤ length bytes)
-random-within g bytes at r e h = used-within bytes at (r .next) (random-uses g bytes at r e) h
+pub random-within : (g : Grid) (mode : Mode) (bytes : List ℕ) (at : ℕ) (r : Round) → randomRound g (lent mode bytes) at ≡ some r → at ≤ length bytes → (at ≤ r .next) × (r .next ≤ length bytes)
+random-within g mode bytes at r e h = used-within bytes at (r .next) (random-uses g mode bytes at r e) h

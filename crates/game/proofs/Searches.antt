@@ -10,7 +10,7 @@ use lib.Dec.{T, eqb, eqb→eq}
 use lib.ListN.{length}
 use borrow.Author.Tests.{eq-eqb}
 use Rattle.game.specs.Demands.{InTurn, Sound, SoundSearch, lastOf, leastOf, playedFrom}
-use Rattle.game.specs.Draws.{Places, Source, lent}
+use Rattle.game.specs.Draws.{Mode, Places, Source, lent}
 use Rattle.game.specs.Grid.{Grid}
 use Rattle.game.specs.Lists.{Each}
 use Rattle.game.specs.Rounds.{Round, Searched, movesOf, randomRound, randomSearch, searchFrom}
@@ -128,27 +128,27 @@ search-reads g source R c n r e = subst (IfSome (λ (x : Searched). R 0 (x .next
     go (some e) q = later-reads (n - 1) g source R c 0 (first e) (random-reads g source R c 0 e q)
 
 -- with lent bytes it reads on in them
-pub search-within : (g : Grid) (bytes : List ℕ) (n : ℕ) (r : Searched) → randomSearch g (lent bytes) n ≡ some r → r .next ≤ length bytes
-search-within g bytes n r e = used-within bytes 0 (r .next) (search-reads g (lent bytes) (Used bytes) (lent-reads bytes) n r e) (omega arith) .1
+pub search-within : (g : Grid) (mode : Mode) (bytes : List ℕ) (n : ℕ) (r : Searched) → randomSearch g (lent mode bytes) n ≡ some r → r .next ≤ length bytes
+search-within g mode bytes n r e = used-within bytes 0 (r .next) (search-reads g (lent mode bytes) (Used bytes) (lent-reads mode bytes) n r e) (omega arith) .1
 
 -- ---- few rounds are played
 
 -- at most one round more than a quarter of the bytes that are left
-played-few : (n : ℕ) (g : Grid) (bytes : List ℕ) (at : ℕ) → 4 * playedFrom n g (lent bytes) at ≤ (length bytes - at) + 4
-played-few zero g bytes at = omega arith
-played-few (suc n) g bytes at = go (λ k. played-few n g bytes k) (randomRound g (lent bytes) at) refl
+played-few : (n : ℕ) (g : Grid) (mode : Mode) (bytes : List ℕ) (at : ℕ) → 4 * playedFrom n g (lent mode bytes) at ≤ (length bytes - at) + 4
+played-few zero g mode bytes at = omega arith
+played-few (suc n) g mode bytes at = go (λ k. played-few n g mode bytes k) (randomRound g (lent mode bytes) at) refl
   where
-    after : (e : Round) → Used bytes at (e .next) → 4 * playedFrom n g (lent bytes) (e .next) ≤ (length bytes - e .next) + 4 → (b : Bool) → eqb (e .next) at ≡ b
-        → 4 * suc (cond b 0 (playedFrom n g (lent bytes) (e .next))) ≤ (length bytes - at) + 4
+    after : (e : Round) → Used bytes at (e .next) → 4 * playedFrom n g (lent mode bytes) (e .next) ≤ (length bytes - e .next) + 4 → (b : Bool) → eqb (e .next) at ≡ b
+        → 4 * suc (cond b 0 (playedFrom n g (lent mode bytes) (e .next))) ≤ (length bytes - at) + 4
     after e u k true q = omega arith
     after e (inl s) k false q = absurd (subst T (sym (eq-eqb (e .next) at s) ∙ q) tt)
     after e (inr s) k false q = omega (arith, s .0, s .1, k)
 
-    go : ((k : ℕ) → 4 * playedFrom n g (lent bytes) k ≤ (length bytes - k) + 4) → (o : Option Round) → randomRound g (lent bytes) at ≡ o
-        → 4 * elim o [ none ↦ 1 | some e ↦ suc (cond (eqb (e .next) at) 0 (playedFrom n g (lent bytes) (e .next))) ] ≤ (length bytes - at) + 4
+    go : ((k : ℕ) → 4 * playedFrom n g (lent mode bytes) k ≤ (length bytes - k) + 4) → (o : Option Round) → randomRound g (lent mode bytes) at ≡ o
+        → 4 * elim o [ none ↦ 1 | some e ↦ suc (cond (eqb (e .next) at) 0 (playedFrom n g (lent mode bytes) (e .next))) ] ≤ (length bytes - at) + 4
     go f none q = omega arith
-    go f (some e) q = after e (random-uses g bytes at e q) (f (e .next)) (eqb (e .next) at) refl
+    go f (some e) q = after e (random-uses g mode bytes at e q) (f (e .next)) (eqb (e .next) at) refl
 
 -- a search of any number of rounds plays at most one round more than a quarter of the draw bytes
-pub search-few : (g : Grid) (bytes : List ℕ) (n : ℕ) → 4 * playedFrom n g (lent bytes) 0 ≤ length bytes + 4
-search-few g bytes n = omega (arith, played-few n g bytes 0)
+pub search-few : (g : Grid) (mode : Mode) (bytes : List ℕ) (n : ℕ) → 4 * playedFrom n g (lent mode bytes) 0 ≤ length bytes + 4
+search-few g mode bytes n = omega (arith, played-few n g mode bytes 0)

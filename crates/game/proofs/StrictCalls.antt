@@ -5,6 +5,7 @@ use mathlib.Core.Bool.{Bool}
 use mathlib.Core.List.{List, [], _++_, _∷_}
 use mathlib.Core.Option.{Option, none, some}
 use lib.IntN.{ℤ}
+use Rattle.game.specs.Draws.{Mode}
 use Rattle.game.specs.Calls.{Check, Refusal, boardChecks, countCheck, decided, firstGiven, kept, keptListed, listCheck, number-wrong, priceCall, randomRoundCall, randomSearchCall, replayCall, roundsCheck, strictChecks, strictPriceCall, strictRandomRoundCall, strictRandomSearchCall, strictReplayCall, strictThreeBVCall, strictly, threeBVCall, workCheck}
 use Rattle.game.specs.Grid.{Grid}
 use Rattle.game.proofs.Checks.{first-decides}
@@ -35,8 +36,8 @@ module _ {A : Type 0} (leaves : Refusal → A) (g : Grid) (present : A) where
 pub record SameStrictly (g : Grid) : Type 0 where
   pub three-bv : (ws : List ℤ) → strictThreeBVCall g ws ≡ threeBVCall g ws
   pub price : (openingsFirst : Bool) (ws : List ℤ) (ms : List ℕ) → strictPriceCall openingsFirst g ws ms ≡ priceCall openingsFirst g ws ms
-  pub random-round : (ws : List ℤ) (ms bytes : List ℕ) → strictRandomRoundCall g ws ms bytes ≡ randomRoundCall g ws ms bytes
-  pub random-search : (ws : List ℤ) (bytes : List ℕ) (n : ℕ) → strictRandomSearchCall g ws bytes n ≡ randomSearchCall g ws bytes n
+  pub random-round : (mode : Mode) (ws : List ℤ) (ms bytes : List ℕ) → strictRandomRoundCall mode g ws ms bytes ≡ randomRoundCall mode g ws ms bytes
+  pub random-search : (mode : Mode) (ws : List ℤ) (bytes : List ℕ) (n : ℕ) → strictRandomSearchCall mode g ws bytes n ≡ randomSearchCall mode g ws bytes n
   pub replay : (ws : List ℤ) (ms : List ℕ) (n : ℕ) → strictReplayCall g ws ms n ≡ replayCall g ws ms n
 
 -- so a call does whose checks begin with the board's: SHAPE and BOARD leave the same in both forms
@@ -56,8 +57,8 @@ right-calls g r =
     record {
       three-bv = λ ws. same-strictly (kept ws) g (workCheck g ws ∷ []) _ r;
       price = λ openingsFirst ws ms. same-strictly (keptListed ws ms) g (workCheck g ws ∷ listCheck g ms ∷ []) _ r;
-      random-round = λ ws ms bytes. same-strictly (keptListed ws ms) g (workCheck g ws ∷ listCheck g ms ∷ []) _ r;
-      random-search = λ ws bytes n. same-strictly (kept ws) g (workCheck g ws ∷ roundsCheck n ∷ []) _ r;
+      random-round = λ mode ws ms bytes. same-strictly (keptListed ws ms) g (workCheck g ws ∷ listCheck g ms ∷ []) _ r;
+      random-search = λ mode ws bytes n. same-strictly (kept ws) g (workCheck g ws ∷ roundsCheck n ∷ []) _ r;
       replay = λ ws ms n. same-strictly (kept ws) g (workCheck g ws ∷ countCheck n ms ∷ []) _ r;
     }
 
@@ -67,8 +68,8 @@ right-calls g r =
 pub record NumberCalls (g : Grid) (cell : ℕ) : Type 0 where
   pub three-bv : (ws : List ℤ) → strictThreeBVCall g ws ≡ kept ws (number-wrong cell)
   pub price : (openingsFirst : Bool) (ws : List ℤ) (ms : List ℕ) → strictPriceCall openingsFirst g ws ms ≡ keptListed ws ms (number-wrong cell)
-  pub random-round : (ws : List ℤ) (ms bytes : List ℕ) → strictRandomRoundCall g ws ms bytes ≡ keptListed ws ms (number-wrong cell)
-  pub random-search : (ws : List ℤ) (bytes : List ℕ) (n : ℕ) → strictRandomSearchCall g ws bytes n ≡ kept ws (number-wrong cell)
+  pub random-round : (mode : Mode) (ws : List ℤ) (ms bytes : List ℕ) → strictRandomRoundCall mode g ws ms bytes ≡ keptListed ws ms (number-wrong cell)
+  pub random-search : (mode : Mode) (ws : List ℤ) (bytes : List ℕ) (n : ℕ) → strictRandomSearchCall mode g ws bytes n ≡ kept ws (number-wrong cell)
   pub replay : (ws : List ℤ) (ms : List ℕ) (n : ℕ) → strictReplayCall g ws ms n ≡ kept ws (number-wrong cell)
 
 -- the lowest cell at fault is named
@@ -77,7 +78,7 @@ fault-calls g e f =
     record {
       three-bv = λ ws. strict-fault (kept ws) g (threeBVCall g ws) e f;
       price = λ openingsFirst ws ms. strict-fault (keptListed ws ms) g (priceCall openingsFirst g ws ms) e f;
-      random-round = λ ws ms bytes. strict-fault (keptListed ws ms) g (randomRoundCall g ws ms bytes) e f;
-      random-search = λ ws bytes n. strict-fault (kept ws) g (randomSearchCall g ws bytes n) e f;
+      random-round = λ mode ws ms bytes. strict-fault (keptListed ws ms) g (randomRoundCall mode g ws ms bytes) e f;
+      random-search = λ mode ws bytes n. strict-fault (kept ws) g (randomSearchCall mode g ws bytes n) e f;
       replay = λ ws ms n. strict-fault (kept ws) g (replayCall g ws ms n) e f;
     }

@@ -6,7 +6,7 @@ use mathlib.Core.Option.{Option, none, some}
 use lib.IntN.{ℤ}
 use lib.ListN.{length, take}
 use lib.Dec.{eqb, ltb}
-use Rattle.game.specs.Draws.{Source, lent}
+use Rattle.game.specs.Draws.{Mode, Source, lent}
 use Rattle.game.specs.Grid.{Grid, cells, size, wrong}
 use Rattle.game.specs.Openings.{threeBV}
 use Rattle.game.specs.Position.{untouched, closedSafe, ending}
@@ -202,10 +202,10 @@ drawnRound g (some r) ws ms =
 abbrev pub roundBy : Source → Grid → List ℤ → List ℕ → ListOutcome
 roundBy source g ws ms = drawnRound g (randomRound g source 0) ws ms
 
--- a single random round, by lent bytes
-unfoldable pub randomRoundCall : Grid → List ℤ → List ℕ → List ℕ → ListOutcome
-randomRoundCall g ws ms bytes =
-    unlessListed (firstGiven (gridChecks g ws ++ listCheck g ms ∷ [])) ws ms (roundBy (lent bytes) g ws ms)
+-- a single random round, by lent bytes in a mode
+unfoldable pub randomRoundCall : Mode → Grid → List ℤ → List ℕ → List ℕ → ListOutcome
+randomRoundCall mode g ws ms bytes =
+    unlessListed (firstGiven (gridChecks g ws ++ listCheck g ms ∷ [])) ws ms (roundBy (lent mode bytes) g ws ms)
 
 -- what a random search comes to: the least clicks and bytes used, with the last round left; or DRAWS
 abbrev pub drawnSearch : Grid → Option Searched → List ℤ → Outcome
@@ -217,10 +217,10 @@ drawnSearch g (some r) ws =
 abbrev pub searchBy : Source → ℕ → Grid → List ℤ → Outcome
 searchBy source n g ws = drawnSearch g (randomSearch g source n) ws
 
--- random search over n rounds, by lent bytes
-unfoldable pub randomSearchCall : Grid → List ℤ → List ℕ → ℕ → Outcome
-randomSearchCall g ws bytes n =
-    unless (firstGiven (gridChecks g ws ++ roundsCheck n ∷ [])) ws (searchBy (lent bytes) n g ws)
+-- random search over n rounds, by lent bytes in a mode
+unfoldable pub randomSearchCall : Mode → Grid → List ℤ → List ℕ → ℕ → Outcome
+randomSearchCall mode g ws bytes n =
+    unless (firstGiven (gridChecks g ws ++ roundsCheck n ∷ [])) ws (searchBy (lent mode bytes) n g ws)
 
 -- what a replay of n moves comes to: moves made, safe cells still closed and the ending, or MOVE with the bad move's place
 abbrev pub replayed : Grid → ℕ → Replayed → List ℤ → Outcome
@@ -251,12 +251,12 @@ abbrev pub strictPriceCall : Bool → Grid → List ℤ → List ℕ → ListOut
 strictPriceCall openingsFirst g ws ms = strictly (keptListed ws ms) g (priceCall openingsFirst g ws ms)
 
 -- a single random round, strictly
-abbrev pub strictRandomRoundCall : Grid → List ℤ → List ℕ → List ℕ → ListOutcome
-strictRandomRoundCall g ws ms bytes = strictly (keptListed ws ms) g (randomRoundCall g ws ms bytes)
+abbrev pub strictRandomRoundCall : Mode → Grid → List ℤ → List ℕ → List ℕ → ListOutcome
+strictRandomRoundCall mode g ws ms bytes = strictly (keptListed ws ms) g (randomRoundCall mode g ws ms bytes)
 
 -- random search, strictly
-abbrev pub strictRandomSearchCall : Grid → List ℤ → List ℕ → ℕ → Outcome
-strictRandomSearchCall g ws bytes n = strictly (kept ws) g (randomSearchCall g ws bytes n)
+abbrev pub strictRandomSearchCall : Mode → Grid → List ℤ → List ℕ → ℕ → Outcome
+strictRandomSearchCall mode g ws bytes n = strictly (kept ws) g (randomSearchCall mode g ws bytes n)
 
 -- replay, strictly
 abbrev pub strictReplayCall : Grid → List ℤ → List ℕ → ℕ → Outcome

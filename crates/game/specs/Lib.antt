@@ -5,6 +5,7 @@ pub mod Openings
 pub mod Position
 pub mod Moves
 pub mod Draws
+pub mod Chances
 pub mod Rounds
 pub mod Demands
 pub mod Area

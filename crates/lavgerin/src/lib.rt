@@ -2,7 +2,7 @@
 ghost use Rattle.game.specs.Calls.{greedyCall, openingsFirstCall, priceCall, randomRoundCall, randomSearchCall, replayCall, threeBVCall};
 ghost use Rattle.area.specs.Numbers.{gridOf};
 ghost use Rattle.mbf_form.specs.Calls.{readFileCall, writeFileCall};
-ghost use Rattle.c_answers.specs.Names.{Returned, ReturnedGrid, ReturnedList, ReturnedListTwo, ReturnedRun, ReturnedThree, ReturnedTwo};
+ghost use Rattle.c_answers.specs.Names.{Returned, ReturnedGrid, ReturnedList, ReturnedListTwo, ReturnedRun, ReturnedThree, ReturnedTwo, modeBy};
 
 pub mod strict; // the strict forms
 
@@ -67,7 +67,7 @@ pub extern "C" fn lavgerin_openings_first(
     price(rows, columns, grid, work, list, clicks, true)
 }
 
-// A single random round: its clicks, its moves in the list, and the draw bytes used.
+// A single random round, in the fair mode unless fair is 0: its clicks, its moves in the list, and the draw bytes used.
 #[no_mangle]
 pub extern "C" fn lavgerin_random_round(
     rows: usize,
@@ -76,16 +76,18 @@ pub extern "C" fn lavgerin_random_round(
     work: &mut [i32],
     list: &mut [u32],
     draws: &[u8],
+    fair: u8,
     clicks: &mut u64,
     used: &mut u64,
 ) -> u8
-    ensures { λ r. ⌜ ReturnedListTwo (randomRoundCall (gridOf rows columns (now (grid .entry))) (now (work .entry)) (now (list .entry)) (now (draws .entry))) r (now (work .exit)) (now (list .exit)) (now (clicks .entry)) (now (clicks .exit)) (now (used .entry)) (now (used .exit)) ⌝ }
+    ensures { λ r. ⌜ ReturnedListTwo (randomRoundCall (modeBy fair) (gridOf rows columns (now (grid .entry))) (now (work .entry)) (now (list .entry)) (now (draws .entry))) r (now (work .exit)) (now (list .exit)) (now (clicks .entry)) (now (clicks .exit)) (now (used .entry)) (now (used .exit)) ⌝ }
 {
-    let answer = zini::random_calls::random_round(rows, columns, grid, work, list, draws);
+    let mode = c_answers::mode_by(fair);
+    let answer = zini::random_calls::random_round(rows, columns, grid, work, list, draws, mode);
     c_answers::tell_roll(answer, clicks, used)
 }
 
-// Random search over so many rounds: the least clicks, and the draw bytes used.
+// Random search over so many rounds, in the fair mode unless fair is 0: the least clicks, and the draw bytes used.
 #[no_mangle]
 pub extern "C" fn lavgerin_random_search(
     rows: usize,
@@ -93,13 +95,15 @@ pub extern "C" fn lavgerin_random_search(
     grid: &[i32],
     work: &mut [i32],
     draws: &[u8],
+    fair: u8,
     rounds: usize,
     clicks: &mut u64,
     used: &mut u64,
 ) -> u8
-    ensures { λ r. ⌜ ReturnedTwo (randomSearchCall (gridOf rows columns (now (grid .entry))) (now (work .entry)) (now (draws .entry)) rounds) r (now (work .exit)) (now (clicks .entry)) (now (clicks .exit)) (now (used .entry)) (now (used .exit)) ⌝ }
+    ensures { λ r. ⌜ ReturnedTwo (randomSearchCall (modeBy fair) (gridOf rows columns (now (grid .entry))) (now (work .entry)) (now (draws .entry)) rounds) r (now (work .exit)) (now (clicks .entry)) (now (clicks .exit)) (now (used .entry)) (now (used .exit)) ⌝ }
 {
-    let answer = zini::random_calls::random_search(rows, columns, grid, work, draws, rounds);
+    let mode = c_answers::mode_by(fair);
+    let answer = zini::random_calls::random_search(rows, columns, grid, work, draws, mode, rounds);
     c_answers::tell_roll(answer, clicks, used)
 }
 

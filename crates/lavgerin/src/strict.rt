@@ -3,7 +3,7 @@ ghost use mathlib.Core.Bool.{false, true};
 ghost use Rattle.game.specs.Calls.{strictPriceCall, strictRandomRoundCall, strictRandomSearchCall, strictReplayCall, strictThreeBVCall};
 ghost use Rattle.area.specs.Numbers.{gridOf};
 ghost use Rattle.mbf_form.specs.Calls.{strictWriteFileCall};
-ghost use Rattle.c_answers.specs.Names.{Returned, ReturnedList, ReturnedListTwo, ReturnedRun, ReturnedThree, ReturnedTwo};
+ghost use Rattle.c_answers.specs.Names.{Returned, ReturnedList, ReturnedListTwo, ReturnedRun, ReturnedThree, ReturnedTwo, modeBy};
 
 // 3BV of a grid.
 #[no_mangle]
@@ -66,7 +66,7 @@ pub extern "C" fn lavgerin_strict_openings_first(
     price(rows, columns, grid, work, list, clicks, true)
 }
 
-// A single random round: its clicks, its moves in the list, and the draw bytes used.
+// A single random round, in the fair mode unless fair is 0: its clicks, its moves in the list, and the draw bytes used.
 #[no_mangle]
 pub extern "C" fn lavgerin_strict_random_round(
     rows: usize,
@@ -75,16 +75,18 @@ pub extern "C" fn lavgerin_strict_random_round(
     work: &mut [i32],
     list: &mut [u32],
     draws: &[u8],
+    fair: u8,
     clicks: &mut u64,
     used: &mut u64,
 ) -> u8
-    ensures { λ r. ⌜ ReturnedListTwo (strictRandomRoundCall (gridOf rows columns (now (grid .entry))) (now (work .entry)) (now (list .entry)) (now (draws .entry))) r (now (work .exit)) (now (list .exit)) (now (clicks .entry)) (now (clicks .exit)) (now (used .entry)) (now (used .exit)) ⌝ }
+    ensures { λ r. ⌜ ReturnedListTwo (strictRandomRoundCall (modeBy fair) (gridOf rows columns (now (grid .entry))) (now (work .entry)) (now (list .entry)) (now (draws .entry))) r (now (work .exit)) (now (list .exit)) (now (clicks .entry)) (now (clicks .exit)) (now (used .entry)) (now (used .exit)) ⌝ }
 {
-    let answer = zini::strict::random_round(rows, columns, grid, work, list, draws);
+    let mode = c_answers::mode_by(fair);
+    let answer = zini::strict::random_round(rows, columns, grid, work, list, draws, mode);
     c_answers::tell_roll(answer, clicks, used)
 }
 
-// Random search over so many rounds: the least clicks, and the draw bytes used.
+// Random search over so many rounds, in the fair mode unless fair is 0: the least clicks, and the draw bytes used.
 #[no_mangle]
 pub extern "C" fn lavgerin_strict_random_search(
     rows: usize,
@@ -92,13 +94,15 @@ pub extern "C" fn lavgerin_strict_random_search(
     grid: &[i32],
     work: &mut [i32],
     draws: &[u8],
+    fair: u8,
     rounds: usize,
     clicks: &mut u64,
     used: &mut u64,
 ) -> u8
-    ensures { λ r. ⌜ ReturnedTwo (strictRandomSearchCall (gridOf rows columns (now (grid .entry))) (now (work .entry)) (now (draws .entry)) rounds) r (now (work .exit)) (now (clicks .entry)) (now (clicks .exit)) (now (used .entry)) (now (used .exit)) ⌝ }
+    ensures { λ r. ⌜ ReturnedTwo (strictRandomSearchCall (modeBy fair) (gridOf rows columns (now (grid .entry))) (now (work .entry)) (now (draws .entry)) rounds) r (now (work .exit)) (now (clicks .entry)) (now (clicks .exit)) (now (used .entry)) (now (used .exit)) ⌝ }
 {
-    let answer = zini::strict::random_search(rows, columns, grid, work, draws, rounds);
+    let mode = c_answers::mode_by(fair);
+    let answer = zini::strict::random_search(rows, columns, grid, work, draws, mode, rounds);
     c_answers::tell_roll(answer, clicks, used)
 }
 

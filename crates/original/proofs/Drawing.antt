@@ -11,7 +11,7 @@ use lib.IntN.{negsuc, pos, ℤ}
 use lib.Signed.{leZ, ltZ}
 use lib.ListN.{getD, length, length-append, length-set, set, take}
 use lib.Seq.{getD-take, take-suc-set}
-use Rattle.game.specs.Draws.{Drawn, draw}
+use Rattle.game.specs.Draws.{Drawn, draw, old}
 use Rattle.game.specs.Grid.{Grid, cells, mine, safe, same, size}
 use Rattle.game.specs.Lists.{Each, fold, has, keep, range}
 use Rattle.game.specs.Position.{Position, Tidy, closedSafe, opened, premium}
@@ -210,11 +210,11 @@ module _ (human : Bool) (g : Grid) (s : Position) (n : ℕ) (st : State) (w : Mo
 
   taken-rolls : (c : Choice) (act : ℕ → State) (ls : List ℕ) (len : ℕ) (run bytes : List ℕ) (next : ℕ) → Each (λ b. b < 256) bytes → length ls ≡ width c → width c ≤ 65025 → 1 ≤ width c
       → Front (size g) ls len run → ((k : ℕ) → k < length ls → Models g (afterStep g s (stepOf g s c k)) (n + length (stepOf g s c k .moves)) (act (getD ls k 0)))
-      → Rolls c (draw bytes next (width c)) (taken act run (rand-range bytes next len))
+      → Rolls c (draw old bytes next (width c)) (taken act run (rand-range bytes next len))
   unfolding taken
   taken-rolls c act ls len run bytes next q e few l f h =
-      subst (λ (o : Option Drawn). Rolls c (draw bytes next (width c)) (taken act run o)) (sym (ap (rand-range bytes next) (f .counted ∙ e) ∙ rand-draw bytes next (width c) q few))
-      (go (draw bytes next (width c)) (λ d. lent-places bytes .inside next (width c) d l))
+      subst (λ (o : Option Drawn). Rolls c (draw old bytes next (width c)) (taken act run o)) (sym (ap (rand-range bytes next) (f .counted ∙ e) ∙ rand-draw bytes next (width c) q few))
+      (go (draw old bytes next (width c)) (λ d. lent-places old bytes .inside next (width c) d l))
     where
       go : (o : Option Drawn) → ((d : Drawn) → o ≡ some d → d .place < width c) → Rolls c o (taken act run o)
       go none r = refl
@@ -251,10 +251,10 @@ module _ (human : Bool) (g : Grid) (s : Position) (n : ℕ) (st : State) (w : Mo
 
   -- while a safe cell is closed it draws as the definition does
   pub rolls : (bytes : List ℕ) (next : ℕ) (maxpr : List ℕ) → Each (λ b. b < 256) bytes → size g ≤ 65025 → length maxpr ≡ size g → Tidy g s → 1 ≤ closedSafe g s
-      → Rolls (choice human g s) (draw bytes next (width (choice human g s))) (apply-zini-rng (g .rows) human bytes st next maxpr)
+      → Rolls (choice human g s) (draw old bytes next (width (choice human g s))) (apply-zini-rng (g .rows) human bytes st next maxpr)
   unfolding apply-zini-rng choice unitCells taken Fallen
   rolls bytes next maxpr q few e f c =
-      subst (λ (l : ℕ). Rolls (choice human g s) (draw bytes next (width (choice human g s))) (whole (fold (tied human (st .cells)) (no-ties maxpr) (range 0 l)) l)) (sym (w .board .long))
+      subst (λ (l : ℕ). Rolls (choice human g s) (draw old bytes next (width (choice human g s))) (whole (fold (tied human (st .cells)) (no-ties maxpr) (range 0 l)) l)) (sym (w .board .long))
       (go (topCells human g s) refl (leZ (pos 0) (b .maxp)) refl (never-stuck human g s f c))
     where
       whole : Ties → ℕ → Applied
@@ -309,10 +309,10 @@ module _ (human : Bool) (g : Grid) (s : Position) (n : ℕ) (st : State) (w : Mo
           (and-right (looks human g s x) (leZ (pos 0) (b .maxp) && same (premium g s x) (b .maxp)) (a .1)))
 
       go : (ts : List ℕ) → topCells human g s ≡ ts → (p : Bool) → leZ (pos 0) (b .maxp) ≡ p → 1 ≤ width (picked ts)
-          → Rolls (picked ts) (draw bytes next (width (picked ts))) (by p (ltb 0 (u .fb-count)))
+          → Rolls (picked ts) (draw old bytes next (width (picked ts))) (by p (ltb 0 (u .fb-count)))
       go [] et true ep l = absurd (omega (arith, some-top ep, ap length et))
       go [] et false ep l =
-          subst (λ (r : Bool). Rolls (picked []) (draw bytes next (length (unitCells g s))) (by false r)) (sym (T→true (ltb 0 (u .fb-count)) (lt→ltb 0 (u .fb-count) (omega (arith, falls .counted)))))
+          subst (λ (r : Bool). Rolls (picked []) (draw old bytes next (length (unitCells g s))) (by false r)) (sym (T→true (ltb 0 (u .fb-count)) (lt→ltb 0 (u .fb-count) (omega (arith, falls .counted)))))
           (taken-rolls (picked []) (click (g .rows) st) (unitCells g s) (u .fb-count) (u .maxpr) bytes next q refl (omega (arith, few-units)) l falls
           (λ k h. let v = unit→ g s (getD (unitCells g s) k 0) (getD-has (unitCells g s) k h) in
           click-stands g s n st (getD (unitCells g s) k 0) (v .inside) (v .is-safe) f w))

@@ -11,7 +11,7 @@ use lib.Dec.{eqb}
 use lib.IntN.{ℤ}
 use lib.ListN.{length}
 use Rattle.game.specs.Calls.{Check, Refusal, boardCheck, drawnSearch, firstGiven, gives, gridChecks, listCheck, playedRound, priceCall, randomSearchCall, rounds, roundsCheck, shape, shapeCheck, sideOut, unless, unlessListed, workCheck}
-use Rattle.game.specs.Draws.{lent}
+use Rattle.game.specs.Draws.{lent, old}
 use Rattle.game.specs.Grid.{Grid, size}
 use Rattle.game.specs.Lists.{Each}
 use Rattle.game.proofs.Checks.{side-in}
@@ -85,7 +85,7 @@ searched-answer g ws none = refl
 searched-answer g ws (some r) = refl
 
 search-answer : (g : Grid) (ws : List ℤ) (bytes : List ℕ) (n : ℕ) → Each (λ b. b < 256) bytes
-    → unless (firstGiven (gridChecks g ws ++ roundsCheck n ∷ [])) ws (drawnSearch g (randomSearch g (lent bytes) n) ws) .answer
+    → unless (firstGiven (gridChecks g ws ++ roundsCheck n ∷ [])) ws (drawnSearch g (randomSearch g (lent old bytes) n) ws) .answer
     ≡ answerUnless (firstGiven (gridChecks g ws ++ roundsCheck n ∷ [])) (searchAnswer (cal-rzini g bytes n))
 search-answer g ws bytes n small =
     go (firstGiven (gridChecks g ws ++ roundsCheck n ∷ [])) (λ e. (checked-within g (boardCheck g ∷ workCheck g ws ∷ roundsCheck n ∷ []) e, some-rounds e))
@@ -93,10 +93,10 @@ search-answer g ws bytes n small =
     some-rounds : firstGiven (gridChecks g ws ++ roundsCheck n ∷ []) ≡ none → 1 ≤ n
     some-rounds e = let f = eqb-false n 0 (last-passed (gridChecks g ws) (eqb n 0) rounds e) in omega arith
 
-    go : (o : Option Refusal) → (o ≡ none → Within g × (1 ≤ n)) → unless o ws (drawnSearch g (randomSearch g (lent bytes) n) ws) .answer ≡ answerUnless o (searchAnswer (cal-rzini g bytes n))
+    go : (o : Option Refusal) → (o ≡ none → Within g × (1 ≤ n)) → unless o ws (drawnSearch g (randomSearch g (lent old bytes) n) ws) .answer ≡ answerUnless o (searchAnswer (cal-rzini g bytes n))
     go (some f) w = refl
     go none w =
-        searched-answer g ws (randomSearch g (lent bytes) n) ∙ ap searchAnswer (sym (equal g (w refl .0) .random-search bytes n small (w refl .1)))
+        searched-answer g ws (randomSearch g (lent old bytes) n) ∙ ap searchAnswer (sym (equal g (w refl .0) .random-search bytes n small (w refl .1)))
 
 -- the clicks that greedy, openings-first and random search answer are the Rust's
 pub calls-equal : (g : Grid) (ws : List ℤ) (ms : List ℕ) → CallsEqual g ws ms

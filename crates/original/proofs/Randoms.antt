@@ -8,7 +8,7 @@ use mathlib.Core.List.{List, [], _++_}
 use mathlib.Core.Option.{Option, none, some}
 use lib.Dec.{ltb, ltb→lt, nltb→le}
 use lib.ListN.{length, length-append, length-replicate, replicate}
-use Rattle.game.specs.Draws.{Drawn, draw, lent}
+use Rattle.game.specs.Draws.{Drawn, draw, lent, old}
 use Rattle.game.specs.Grid.{Grid, cells, mine, size}
 use Rattle.game.specs.Lists.{Each, count}
 use Rattle.game.specs.Openings.{threeBV}
@@ -65,12 +65,12 @@ module _ (g : Grid) (bytes : List ℕ) (few : size g ≤ 65025) (small : Each (�
           ]
 
   loop-ends : (fuel m : ℕ) (s : Position) (n : ℕ) (st : State) (next : ℕ) (maxpr : List ℕ) → Models g s n st → closedSafe g s ≡ 0
-      → loop fuel st next maxpr ≡ told n (randomFrom m g (lent bytes) s next)
+      → loop fuel st next maxpr ≡ told n (randomFrom m g (lent old bytes) s next)
   loop-ends fuel m s n st next maxpr w e =
-      loop-stops fuel s n st next maxpr w e ∙ sym (ap (told n) (draws-none m g (lent bytes) s next e) ∙ ap (λ (k : ℕ). some (record { clicks = k; next = next })) (add-zero n))
+      loop-stops fuel s n st next maxpr w e ∙ sym (ap (told n) (draws-none m g (lent old bytes) s next e) ∙ ap (λ (k : ℕ). some (record { clicks = k; next = next })) (add-zero n))
 
   loop-rolls : (fuel m : ℕ) (s : Position) (n : ℕ) (st : State) (next : ℕ) (maxpr : List ℕ) → Models g s n st → Tidy g s → length maxpr ≡ size g → closedUnits g s ≤ fuel → closedUnits g s ≤ m
-      → loop fuel st next maxpr ≡ told n (randomFrom m g (lent bytes) s next)
+      → loop fuel st next maxpr ≡ told n (randomFrom m g (lent old bytes) s next)
   loop-rolls zero m s n st next maxpr w f r h l = loop-ends zero m s n st next maxpr w (all-done false g s f h)
   loop-rolls (suc fuel) zero s n st next maxpr w f r h l = loop-ends (suc fuel) zero s n st next maxpr w (all-done false g s f l)
   loop-rolls (suc fuel) (suc m) s n st next maxpr w f r h l =
@@ -94,29 +94,29 @@ module _ (g : Grid) (bytes : List ℕ) (few : size g ≤ 65025) (small : Each (�
       Later : Type 0
       Later = (d : Drawn) (z : Stepped) → Models g (afterStep g s (stepOf g s c (d .place))) (n + length (stepOf g s c (d .place) .moves)) (z .state) → Tidy g (afterStep g s (stepOf g s c (d .place)))
           → length (z .maxpr) ≡ size g → closedUnits g (afterStep g s (stepOf g s c (d .place))) ≤ fuel → closedUnits g (afterStep g s (stepOf g s c (d .place))) ≤ m
-          → loop fuel (z .state) (z .next) (z .maxpr) ≡ told (n + length (stepOf g s c (d .place) .moves)) (randomFrom m g (lent bytes) (afterStep g s (stepOf g s c (d .place))) (z .next))
+          → loop fuel (z .state) (z .next) (z .maxpr) ≡ told (n + length (stepOf g s c (d .place) .moves)) (randomFrom m g (lent old bytes) (afterStep g s (stepOf g s c (d .place))) (z .next))
 
-      step : Later → 1 ≤ closedSafe g s → (o : Option Drawn) → draw bytes next (width c) ≡ o → (a : Applied) → Rolls false g s n st w c o a → by true a ≡ told n (by-draw m g (lent bytes) s o)
+      step : Later → 1 ≤ closedSafe g s → (o : Option Drawn) → draw old bytes next (width c) ≡ o → (a : Applied) → Rolls false g s n st w c o a → by true a ≡ told n (by-draw m g (lent old bytes) s o)
       step later u none e a p = ap (by true) p
       step later u (some d) e a p =
           let t = stepOf g s c (d .place) in
-          let q = drawn-fits g (lent bytes) (lent-places bytes) s next d f u e in
+          let q = drawn-fits g (lent old bytes) (lent-places old bytes) s next d f u e in
           let k = fit-takes g s t f q in
           ap (by true) (p .is-stepped)
           ∙ later d (p .done) (p .stands) (step-tidy g s t f q) (p .room) (omega arith) (omega arith)
-          ∙ ap (λ (x : ℕ). told (n + length (t .moves)) (randomFrom m g (lent bytes) (afterStep g s t) x)) (p .reads-on)
-          ∙ told-before n t (randomFrom m g (lent bytes) (afterStep g s t) (d .next))
+          ∙ ap (λ (x : ℕ). told (n + length (t .moves)) (randomFrom m g (lent old bytes) (afterStep g s t) x)) (p .reads-on)
+          ∙ told-before n t (randomFrom m g (lent old bytes) (afterStep g s t) (d .next))
 
       go : (k : ℕ) → closedSafe g s ≡ k → Later
           → by (ltb (count (mine g) (cells g)) (st .closed-cells)) (apply-zini-rng (g .rows) false bytes st next maxpr)
-          ≡ told n (elim k [ zero ↦ some (record { steps = []; next = next }) | suc k ↦ by-draw m g (lent bytes) s (draw bytes next (width c)) ])
+          ≡ told n (elim k [ zero ↦ some (record { steps = []; next = next }) | suc k ↦ by-draw m g (lent old bytes) s (draw old bytes next (width c)) ])
       go zero e later = loop-stops (suc fuel) s n st next maxpr w e ∙ ap (λ (k : ℕ). some (record { clicks = k; next = next })) (sym (add-zero n))
       go (suc k) e later =
           ap (λ (b : Bool). by b (apply-zini-rng (g .rows) false bytes st next maxpr)) (cells-left g s n st w (suc k) e)
-          ∙ step later (omega arith) (draw bytes next (width c)) refl (apply-zini-rng (g .rows) false bytes st next maxpr)
+          ∙ step later (omega arith) (draw old bytes next (width c)) refl (apply-zini-rng (g .rows) false bytes st next maxpr)
           (rolls false g s n st w bytes next maxpr small few r f (omega arith))
 
-  round-equal : (next : ℕ) → zinialg-rng (prepared g) (g .columns) (g .rows) false false bytes next ≡ told 0 (randomRound g (lent bytes) next)
+  round-equal : (next : ℕ) → zinialg-rng (prepared g) (g .columns) (g .rows) false false bytes next ≡ told 0 (randomRound g (lent old bytes) next)
   unfolding zinialg-rng randomRound
   round-equal next =
       ap (λ (m : ℕ). rng-loop (g .columns * g .rows) (g .rows) false m bytes (begin (prepared g) (g .columns) (g .rows)) next (replicate (g .columns * g .rows) 0)) (mines-counted g)
@@ -136,17 +136,17 @@ module _ (g : Grid) (bytes : List ℕ) (few : size g ≤ 65025) (small : Each (�
   abbrev min-so-far : RngRound → RngRound → RngRound
   min-so-far m z = record { clicks = cond (ltb (z .clicks) (m .clicks)) (z .clicks) (m .clicks); next = z .next }
 
-  turns-equal : (k : ℕ) (r : Searched) → rzini-loop k g bytes (record { clicks = r .least; next = r .next }) ≡ answered (searchFrom k g (lent bytes) r)
+  turns-equal : (k : ℕ) (r : Searched) → rzini-loop k g bytes (record { clicks = r .least; next = r .next }) ≡ answered (searchFrom k g (lent old bytes) r)
   turns-equal zero r = refl
-  turns-equal (suc k) r = ap by (round-equal (r .next)) ∙ go (randomRound g (lent bytes) (r .next)) (turns-equal k)
+  turns-equal (suc k) r = ap by (round-equal (r .next)) ∙ go (randomRound g (lent old bytes) (r .next)) (turns-equal k)
     where
       by : Option RngRound → Option RngRound
       by o = elim o [ none ↦ none | some z ↦ rzini-loop k g bytes (min-so-far (record { clicks = r .least; next = r .next }) z) ]
 
-      go : (o : Option Round) → ((q : Searched) → rzini-loop k g bytes (record { clicks = q .least; next = q .next }) ≡ answered (searchFrom k g (lent bytes) q))
+      go : (o : Option Round) → ((q : Searched) → rzini-loop k g bytes (record { clicks = q .least; next = q .next }) ≡ answered (searchFrom k g (lent old bytes) q))
           → by (told 0 o) ≡ answered (elim o [
             | none ↦ none
-            | some e ↦ searchFrom k g (lent bytes) (record { least = min (r .least) (length (movesOf (e .steps))); next = e .next; moves = movesOf (e .steps) })
+            | some e ↦ searchFrom k g (lent old bytes) (record { least = min (r .least) (length (movesOf (e .steps))); next = e .next; moves = movesOf (e .steps) })
           ])
       go none h = refl
       go (some e) h =
@@ -161,24 +161,24 @@ module _ (g : Grid) (bytes : List ℕ) (few : size g ≤ 65025) (small : Each (�
       below : min usize-max (0 + m) ≡ m
       below = omega arith
 
-  pub random-equal : (rounds : ℕ) → 1 ≤ rounds → cal-rzini g bytes rounds ≡ answered (randomSearch g (lent bytes) rounds)
+  pub random-equal : (rounds : ℕ) → 1 ≤ rounds → cal-rzini g bytes rounds ≡ answered (randomSearch g (lent old bytes) rounds)
   unfolding cal-rzini randomSearch
   random-equal zero h = absurd (omega arith)
-  random-equal (suc k) h = ap by (round-equal 0) ∙ go (randomRound g (lent bytes) 0) refl
+  random-equal (suc k) h = ap by (round-equal 0) ∙ go (randomRound g (lent old bytes) 0) refl
     where
       by : Option RngRound → Option RngRound
       by o = elim o [ none ↦ none | some z ↦ rzini-loop k g bytes (min-so-far (record { clicks = usize-max; next = 0 }) z) ]
 
-      go : (o : Option Round) → randomRound g (lent bytes) 0 ≡ o → by (told 0 o) ≡ answered (elim o [
+      go : (o : Option Round) → randomRound g (lent old bytes) 0 ≡ o → by (told 0 o) ≡ answered (elim o [
         | none ↦ none
-        | some e ↦ searchFrom (suc k - 1) g (lent bytes) (record { least = length (movesOf (e .steps)); next = e .next; moves = movesOf (e .steps) })
+        | some e ↦ searchFrom (suc k - 1) g (lent old bytes) (record { least = length (movesOf (e .steps)); next = e .next; moves = movesOf (e .steps) })
       ])
       go none q = refl
       go (some e) q =
           ap (λ (c : ℕ). rzini-loop k g bytes (record { clicks = c; next = e .next }))
-          (first-least (length (movesOf (e .steps))) (omega (arith, random-sound g (lent bytes) (lent-places bytes) 0 e q .at-most-units, units-at-most-cells g)))
+          (first-least (length (movesOf (e .steps))) (omega (arith, random-sound g (lent old bytes) (lent-places old bytes) 0 e q .at-most-units, units-at-most-cells g)))
           ∙ turns-equal k (record { least = length (movesOf (e .steps)); next = e .next; moves = movesOf (e .steps) })
-          ∙ ap (λ (j : ℕ). answered (searchFrom j g (lent bytes) (record { least = length (movesOf (e .steps)); next = e .next; moves = movesOf (e .steps) }))) one-less
+          ∙ ap (λ (j : ℕ). answered (searchFrom j g (lent old bytes) (record { least = length (movesOf (e .steps)); next = e .next; moves = movesOf (e .steps) }))) one-less
         where
           one-less : k ≡ suc k - 1
           one-less = omega arith

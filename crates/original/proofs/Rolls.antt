@@ -1,16 +1,17 @@
--- rand_range is the draw: four bytes are far below usize::MAX less what is left of it, so its loop never turns twice. Assumes nothing.
+-- rand_range is the draw of the old mode: four bytes are far below usize::MAX less what is left of it, so its loop never turns twice. Assumes nothing.
 use Prim.Native.Nat.{ℕ, _%_, _+_, _-_, _<_, _≤_, suc, zero}
 use native.Mathlib.Omega.{arith}
 use native.Mathlib.Nat.{mod-lt}
-use mathlib.Core.Path.{_∙_, _≡_, ap₂, refl}
+use mathlib.Core.Path.{_∙_, _≡_, ap₂, refl, sym}
 use mathlib.Core.Bool.{Bool, cond, false, true}
 use mathlib.Core.List.{List, [], _∷_}
 use mathlib.Core.Option.{Option, none, some}
 use lib.Dec.{leb, leb→le, lit<, ltb, lt→ltb, nleb→lt}
 use lib.ListN.{getD, length}
-use Rattle.game.specs.Draws.{Drawn, draw, fourBytes}
+use Rattle.game.specs.Draws.{Drawn, draw, fourBytes, old}
 use Rattle.game.specs.Lists.{Each}
 use Rattle.original.specs.Rounds.{rand-loop, rand-range, usize-max}
+use Rattle.game.proofs.Draws.{old-draw}
 use Rattle.game.proofs.Truth.{T→true}
 
 byte-at : (bytes : List ℕ) (i : ℕ) → Each (λ b. b < 256) bytes → getD bytes i 0 < 256
@@ -29,9 +30,9 @@ passes t limit h k l = T→true (ltb t (usize-max - usize-max % limit)) (lt→lt
     far : (r : ℕ) → r < limit → t < usize-max - r
     far r q = omega arith
 
-pub rand-draw : (bytes : List ℕ) (i limit : ℕ) → Each (λ b. b < 256) bytes → limit ≤ 65025 → rand-range bytes i limit ≡ draw bytes i limit
-unfolding rand-range draw
-rand-draw bytes i limit h l = go (leb limit 1) refl (length bytes) refl (leb (i + 4) (length bytes)) refl
+pub rand-draw : (bytes : List ℕ) (i limit : ℕ) → Each (λ b. b < 256) bytes → limit ≤ 65025 → rand-range bytes i limit ≡ draw old bytes i limit
+unfolding rand-range
+rand-draw bytes i limit h l = go (leb limit 1) refl (length bytes) refl (leb (i + 4) (length bytes)) refl ∙ sym (old-draw bytes i limit)
   where
     go : (b : Bool) → leb limit 1 ≡ b → (n : ℕ) → length bytes ≡ n → (c : Bool) → leb (i + 4) (length bytes) ≡ c
         → _≡_ {A = Option Drawn} (elim b [ true ↦ some (record { place = 0; next = i }) | false ↦ rand-loop n bytes i limit ])

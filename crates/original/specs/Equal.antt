@@ -6,7 +6,7 @@ use mathlib.Core.Option.{Option, none, some}
 use lib.IntN.{ℤ}
 use lib.ListN.{length}
 use Rattle.game.specs.Lists.{Each}
-use Rattle.game.specs.Draws.{lent}
+use Rattle.game.specs.Draws.{lent, old}
 use Rattle.game.specs.Grid.{Grid}
 use Rattle.game.specs.Calls.{Answer, Refusal, draws, firstGiven, gives, greedyCall, gridChecks, listCheck, openingsFirstCall, randomSearchCall, refuses, roundsCheck}
 use Rattle.game.specs.Rounds.{movesOf, greedySteps, openingsFirstSteps, Searched, randomSearch}
@@ -30,7 +30,7 @@ pub record Equal (g : Grid) : Type 0 where
   pub greedy : cal-zini g ≡ length (movesOf (greedySteps g))
   pub openings-first : cal-hzini g ≡ length (movesOf (openingsFirstSteps g))
   pub random-search : (bytes : List ℕ) (rounds : ℕ) → Each (λ b. b < 256) bytes → 1 ≤ rounds
-      → cal-rzini g bytes rounds ≡ answered (randomSearch g (lent bytes) rounds)
+      → cal-rzini g bytes rounds ≡ answered (randomSearch g (lent old bytes) rounds)
 
 -- a call's answer, unless its checks refuse it
 abbrev pub answerUnless : Option Refusal → Answer → Answer
@@ -47,4 +47,4 @@ pub record CallsEqual (g : Grid) (ws : List ℤ) (ms : List ℕ) : Type 0 where
   pub greedy : greedyCall g ws ms .answer ≡ answerUnless (firstGiven (gridChecks g ws ++ listCheck g ms ∷ [])) (gives (cal-zini g ∷ []))
   pub openings-first : openingsFirstCall g ws ms .answer ≡ answerUnless (firstGiven (gridChecks g ws ++ listCheck g ms ∷ [])) (gives (cal-hzini g ∷ []))
   pub random-search : (bytes : List ℕ) (rounds : ℕ) → Each (λ b. b < 256) bytes
-      → randomSearchCall g ws bytes rounds .answer ≡ answerUnless (firstGiven (gridChecks g ws ++ roundsCheck rounds ∷ [])) (searchAnswer (cal-rzini g bytes rounds))
+      → randomSearchCall old g ws bytes rounds .answer ≡ answerUnless (firstGiven (gridChecks g ws ++ roundsCheck rounds ∷ [])) (searchAnswer (cal-rzini g bytes rounds))

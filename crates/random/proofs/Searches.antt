@@ -13,7 +13,7 @@ use lib.ListN.{length}
 use Rattle.random.specs.declared.Finish.{Finish}
 use Rattle.random.specs.declared.Finish.the-variants.{Dry, Ended}
 use Rattle.area.specs.Stages.{Stands, held}
-use Rattle.game.specs.Draws.{Source, lent}
+use Rattle.game.specs.Draws.{Mode, Source, lent}
 use Rattle.game.specs.Grid.{Grid}
 use Rattle.game.specs.Moves.{Move, after}
 use Rattle.game.specs.Position.{Position, untouched}
@@ -171,9 +171,9 @@ still-counted rows columns w source clicks next more w′ least at left safe m f
     record { grid = f .grid; old = f .old; moves = s .moves; stands = s .stands; counts = f .counts }
 
 -- each round played leaves fewer that can still be played
-pub turns-fall : (rows columns : ℕ) (bytes : List ℕ) (at : ℕ) (w w′ : List ℤ) (r : Finish) (safe : ℕ) → CountsSafe rows columns w safe
-    → ((g : Grid) (s : Position) (old : List ℤ) → Stands rows columns g s old w → Searching rows columns g old (once (randomRound g (lent bytes) at)) w′ r)
+pub turns-fall : (rows columns : ℕ) (mode : Mode) (bytes : List ℕ) (at : ℕ) (w w′ : List ℤ) (r : Finish) (safe : ℕ) → CountsSafe rows columns w safe
+    → ((g : Grid) (s : Position) (old : List ℤ) → Stands rows columns g s old w → Searching rows columns g old (once (randomRound g (lent mode bytes) at)) w′ r)
     → (paid next left still : ℕ) → r ≡ Ended paid next → 0 < left → still ≡ cond (eqb next at) 0 (left - 1) → turns (length bytes) next still < turns (length bytes) at left
-turns-fall rows columns bytes at w w′ r safe f q paid next left still y h z =
-    let d = drawn rows columns (f .grid) (f .old) (lent bytes) at w′ r (q (f .grid) (after (f .grid) (untouched (f .grid)) (f .moves)) (f .old) (f .stands)) paid next y in
-    turns-used bytes at next left still h (rw (d .place) (random-uses (f .grid) bytes at (d .round) (d .drew))) z
+turns-fall rows columns mode bytes at w w′ r safe f q paid next left still y h z =
+    let d = drawn rows columns (f .grid) (f .old) (lent mode bytes) at w′ r (q (f .grid) (after (f .grid) (untouched (f .grid)) (f .moves)) (f .old) (f .stands)) paid next y in
+    turns-used bytes at next left still h (rw (d .place) (random-uses (f .grid) mode bytes at (d .round) (d .drew))) z

@@ -1,5 +1,6 @@
 // Random steps, rounds and searches on a work area that stands for a position.
 use draws::Drawn;
+use draws::Mode;
 use moves::State;
 use rounds::steps;
 ghost use mathlib.Core.Path.{_≡_};
@@ -15,6 +16,7 @@ ghost use Rattle.game.specs.Position.{Position, Tidy, closed as isClosed, close
 ghost use Rattle.game.specs.Moves.{Move, after};
 ghost use Rattle.game.specs.Draws.{lent};
 ghost use Rattle.game.specs.Rounds.{choice, stepOf, topCells, width, randomRound, randomSearch, searchFrom};
+ghost use Rattle.draws.specs.Answers.{modeOf};
 ghost use Rattle.area.specs.Stages.{Shape, Stands};
 ghost use Rattle.choices.specs.Tops.{TopsKnown, UnitsKnown};
 ghost use Rattle.moves.specs.Promises.{Made};
@@ -119,6 +121,7 @@ pub fn step(
     columns: usize,
     list: &mut [u32],
     draws: &[u8],
+    mode: Mode,
     tops: &mut [u8],
     units: &mut [u8],
     state: State,
@@ -129,14 +132,14 @@ pub fn step(
     requires { ⌜ TopsKnown false (now work) rows columns (now tops) × UnitsKnown (now work) rows columns (now tops) (now units) ⌝ }
     ensures { λ r. ⌜ ((g : Grid) (s : Position) (old : List ℤ) → Stands rows columns g s old (now (work .entry)) → Tidy g s
         → 1 ≤ closedSafe g s → state .closed ≡ closedSafe g s
-        → Stepping rows columns g s old (lent (now (draws .entry)) next (width (choice false g s))) (now (list .entry)) state (now (work .entry)) (now (work .exit)) (now (list .exit)) r
+        → Stepping rows columns g s old (lent (modeOf mode) (now (draws .entry)) next (width (choice false g s))) (now (list .entry)) state (now (work .entry)) (now (work .exit)) (now (list .exit)) r
         × TopsKnown false (now (work .exit)) rows columns (now (tops .exit))
         × UnitsKnown (now (work .exit)) rows columns (now (tops .exit)) (now (units .exit))) ⌝ }
 {
     let candidates = count_candidates(work, rows, columns, tops, units);
     let count = candidates.count;
     let top = candidates.top;
-    let drawn = draw_reader::draw_from(draws, next, count);
+    let drawn = draw_reader::draw_from(draws, next, mode, count);
     let Drawn::Place(place, after) = drawn else {
         return DrawnStep::Dry;
     };
@@ -154,6 +157,7 @@ fn roll_on(
     columns: usize,
     list: &mut [u32],
     draws: &[u8],
+    mode: Mode,
     tops: &mut [u8],
     units: &mut [u8],
     safe: usize,
@@ -164,7 +168,7 @@ fn roll_on(
     requires { ⌜ Fresh rows columns (now work) safe ⌝ }
     requires { ⌜ TopsKnown false (now work) rows columns (now tops) × UnitsKnown (now work) rows columns (now tops) (now units) ⌝ }
     ensures { λ r. ⌜ ((g : Grid) (old : List ℤ) → Stands rows columns g (untouched g) old (now (work .entry))
-        → Rolling rows columns g old (randomRound g (lent (now (draws .entry))) next) (now (list .entry)) (now (work .exit)) (now (list .exit)) r) ⌝ }
+        → Rolling rows columns g old (randomRound g (lent (modeOf mode) (now (draws .entry))) next) (now (list .entry)) (now (work .exit)) (now (list .exit)) r) ⌝ }
 {
     let mut state = State {
         moves: 0,
@@ -172,7 +176,18 @@ fn roll_on(
     };
     let mut at = next;
     while 0 < state.closed {
-        let stepped = step(work, rows, columns, list, draws, tops, units, state, at);
+        let stepped = step(
+            work,
+            rows,
+            columns,
+            list,
+            draws,
+            mode,
+            tops,
+            units,
+            state,
+            at,
+        );
         let DrawnStep::Went(onward) = stepped else {
             return Finish::Dry;
         };
@@ -189,6 +204,7 @@ pub fn round(
     columns: usize,
     list: &mut [u32],
     draws: &[u8],
+    mode: Mode,
     safe: usize,
     next: usize,
 ) -> Finish
@@ -196,7 +212,7 @@ pub fn round(
     requires { ⌜ HasCells (now work) (rows * columns) ⌝ }
     requires { ⌜ Fresh rows columns (now work) safe ⌝ }
     ensures { λ r. ⌜ ((g : Grid) (old : List ℤ) → Stands rows columns g (untouched g) old (now (work .entry))
-        → Rolling rows columns g old (randomRound g (lent (now (draws .entry))) next) (now (list .entry)) (now (work .exit)) (now (list .exit)) r) ⌝ }
+        → Rolling rows columns g old (randomRound g (lent (modeOf mode) (now (draws .entry))) next) (now (list .entry)) (now (work .exit)) (now (list .exit)) r) ⌝ }
 {
     let mut tops = [0u8; 255];
     let mut units = [0u8; 255];
@@ -206,6 +222,7 @@ pub fn round(
         columns,
         list,
         draws,
+        mode,
         &mut tops,
         &mut units,
         safe,
@@ -219,6 +236,7 @@ fn unlisted(
     rows: usize,
     columns: usize,
     draws: &[u8],
+    mode: Mode,
     safe: usize,
     next: usize,
 ) -> Finish
@@ -226,10 +244,10 @@ fn unlisted(
     requires { ⌜ HasCells (now work) (rows * columns) ⌝ }
     requires { ⌜ Fresh rows columns (now work) safe ⌝ }
     ensures { λ r. ⌜ ((g : Grid) (old : List ℤ) → Stands rows columns g (untouched g) old (now (work .entry))
-        → Searching rows columns g old (once (randomRound g (lent (now (draws .entry))) next)) (now (work .exit)) r) ⌝ }
+        → Searching rows columns g old (once (randomRound g (lent (modeOf mode) (now (draws .entry))) next)) (now (work .exit)) r) ⌝ }
 {
     let mut none = [0u32; 0];
-    round(work, rows, columns, &mut none, draws, safe, next)
+    round(work, rows, columns, &mut none, draws, mode, safe, next)
 }
 
 // One more round: the labels stay, and the position is the one before any move again.
@@ -238,6 +256,7 @@ fn again(
     rows: usize,
     columns: usize,
     draws: &[u8],
+    mode: Mode,
     safe: usize,
     next: usize,
 ) -> Finish
@@ -245,10 +264,10 @@ fn again(
     requires { ⌜ HasCells (now work) (rows * columns) ⌝ }
     requires { ⌜ CountsSafe rows columns (now work) safe ⌝ }
     ensures { λ r. ⌜ ((g : Grid) (s : Position) (old : List ℤ) → Stands rows columns g s old (now (work .entry))
-        → Searching rows columns g old (once (randomRound g (lent (now (draws .entry))) next)) (now (work .exit)) r) ⌝ }
+        → Searching rows columns g old (once (randomRound g (lent (modeOf mode) (now (draws .entry))) next)) (now (work .exit)) r) ⌝ }
 {
     start::begin::reset(work, rows, columns);
-    unlisted(work, rows, columns, draws, safe, next)
+    unlisted(work, rows, columns, draws, mode, safe, next)
 }
 
 // The rounds still to play: none after one that stayed at its place, since each later one would be the same.
@@ -264,6 +283,7 @@ fn search_on(
     rows: usize,
     columns: usize,
     draws: &[u8],
+    mode: Mode,
     safe: usize,
     clicks: usize,
     next: usize,
@@ -273,13 +293,13 @@ fn search_on(
     requires { ⌜ HasCells (now work) (rows * columns) ⌝ }
     requires { ⌜ CountsSafe rows columns (now work) safe ⌝ }
     ensures { λ r. ⌜ ((g : Grid) (old : List ℤ) (ms : List Move) → Stands rows columns g (after g (untouched g) ms) old (now (work .entry))
-        → Searching rows columns g old (searchFrom more g (lent (now (draws .entry))) (record { least = clicks; next = next; moves = ms })) (now (work .exit)) r) ⌝ }
+        → Searching rows columns g old (searchFrom more g (lent (modeOf mode) (now (draws .entry))) (record { least = clicks; next = next; moves = ms })) (now (work .exit)) r) ⌝ }
 {
     let mut least = clicks;
     let mut at = next;
     let mut left = more;
     while 0 < left {
-        let rolled = again(work, rows, columns, draws, safe, at);
+        let rolled = again(work, rows, columns, draws, mode, safe, at);
         let Finish::Ended(paid, onward) = rolled else {
             return Finish::Dry;
         };
@@ -296,6 +316,7 @@ pub fn search(
     rows: usize,
     columns: usize,
     draws: &[u8],
+    mode: Mode,
     safe: usize,
     rounds: usize,
 ) -> Finish
@@ -303,12 +324,12 @@ pub fn search(
     requires { ⌜ HasCells (now work) (rows * columns) × (1 ≤ rounds) ⌝ }
     requires { ⌜ Fresh rows columns (now work) safe ⌝ }
     ensures { λ r. ⌜ ((g : Grid) (old : List ℤ) → Stands rows columns g (untouched g) old (now (work .entry))
-        → Searching rows columns g old (randomSearch g (lent (now (draws .entry))) rounds) (now (work .exit)) r) ⌝ }
+        → Searching rows columns g old (randomSearch g (lent (modeOf mode) (now (draws .entry))) rounds) (now (work .exit)) r) ⌝ }
 {
-    let rolled = unlisted(work, rows, columns, draws, safe, 0);
+    let rolled = unlisted(work, rows, columns, draws, mode, safe, 0);
     let Finish::Ended(clicks, next) = rolled else {
         return Finish::Dry;
     };
     let more = rounds_left(rounds - 1, 0, next);
-    search_on(work, rows, columns, draws, safe, clicks, next, more)
+    search_on(work, rows, columns, draws, mode, safe, clicks, next, more)
 }

@@ -1,5 +1,6 @@
 // The public call that plays a single random round: clicks, and draw bytes used.
 use answers::Rolled;
+use draws::Mode;
 use refusals::Checked;
 use refusals::Refusal;
 ghost use mathlib.Core.Path.{_≡_};
@@ -11,6 +12,7 @@ ghost use Rattle.game.specs.Draws.{Places, Source, lent};
 ghost use Rattle.game.specs.Grid.{Grid, size};
 ghost use Rattle.game.specs.Rounds.{randomRound};
 ghost use Rattle.game.specs.Calls.{randomRoundCall, roundBy};
+ghost use Rattle.draws.specs.Answers.{modeOf};
 ghost use Rattle.area.specs.Numbers.{HasCells, gridOf};
 ghost use Rattle.area.specs.Stages.{Shape};
 ghost use Rattle.random.specs.Promises.{Rolling};
@@ -51,14 +53,15 @@ fn roll_checked(
     work: &mut [i32],
     list: &mut [u32],
     draws: &[u8],
+    mode: Mode,
 ) -> Rolled
     requires { ⌜ Shape rows columns ⌝ }
     requires { ⌜ (length (now grid) ≡ rows * columns) × HasCells (now work) (rows * columns) × (rows * columns ≤ length (now list)) ⌝ }
-    ensures { λ r. ⌜ KeepsList (roundBy (lent (now (draws .entry))) (gridOf rows columns (now (grid .entry))) (now (work .entry)) (now (list .entry))) (rolledAnswer r) (now (work .exit)) (now (list .exit)) ⌝ }
+    ensures { λ r. ⌜ KeepsList (roundBy (lent (modeOf mode) (now (draws .entry))) (gridOf rows columns (now (grid .entry))) (now (work .entry)) (now (list .entry))) (rolledAnswer r) (now (work .exit)) (now (list .exit)) ⌝ }
 {
     let counts = start::begin::set_up(grid, rows, columns, work);
     let safe = counts.safe;
-    let rolled = random::round(work, rows, columns, list, draws, safe, 0);
+    let rolled = random::round(work, rows, columns, list, draws, mode, safe, 0);
     end_round(rolled, rows, columns, work, list)
 }
 
@@ -70,12 +73,13 @@ pub fn random_round(
     work: &mut [i32],
     list: &mut [u32],
     draws: &[u8],
+    mode: Mode,
 ) -> Rolled
-    ensures { λ r. ⌜ KeepsList (randomRoundCall (gridOf rows columns (now (grid .entry))) (now (work .entry)) (now (list .entry)) (now (draws .entry))) (rolledAnswer r) (now (work .exit)) (now (list .exit)) ⌝ }
+    ensures { λ r. ⌜ KeepsList (randomRoundCall (modeOf mode) (gridOf rows columns (now (grid .entry))) (now (work .entry)) (now (list .entry)) (now (draws .entry))) (rolledAnswer r) (now (work .exit)) (now (list .exit)) ⌝ }
 {
     let checked = checks::check_room(rows, columns, grid, work, list.len());
     match checked {
         Checked::Refused(refusal) => Rolled::Refused(refusal),
-        Checked::Fine => roll_checked(rows, columns, grid, work, list, draws),
+        Checked::Fine => roll_checked(rows, columns, grid, work, list, draws, mode),
     }
 }

@@ -1,5 +1,6 @@
 // The public call that searches over random rounds: the least clicks, and draw bytes used.
 use answers::Rolled;
+use draws::Mode;
 use refusals::Checked;
 use refusals::Refusal;
 ghost use mathlib.Core.Path.{_≡_};
@@ -12,6 +13,7 @@ ghost use Rattle.game.specs.Draws.{lent};
 ghost use Rattle.game.specs.Grid.{Grid, size};
 ghost use Rattle.game.specs.Rounds.{Searched};
 ghost use Rattle.game.specs.Calls.{drawnSearch, randomSearchCall, searchBy};
+ghost use Rattle.draws.specs.Answers.{modeOf};
 ghost use Rattle.area.specs.Numbers.{HasCells, gridOf};
 ghost use Rattle.area.specs.Stages.{Shape};
 ghost use Rattle.random.specs.Promises.{Searching};
@@ -43,15 +45,16 @@ fn search_checked(
     grid: &[i32],
     work: &mut [i32],
     draws: &[u8],
+    mode: Mode,
     rounds: usize,
 ) -> Rolled
     requires { ⌜ Shape rows columns ⌝ }
     requires { ⌜ (length (now grid) ≡ rows * columns) × HasCells (now work) (rows * columns) × (1 ≤ rounds) ⌝ }
-    ensures { λ r. ⌜ Keeps (searchBy (lent (now (draws .entry))) rounds (gridOf rows columns (now (grid .entry))) (now (work .entry))) (rolledAnswer r) (now (work .exit)) ⌝ }
+    ensures { λ r. ⌜ Keeps (searchBy (lent (modeOf mode) (now (draws .entry))) rounds (gridOf rows columns (now (grid .entry))) (now (work .entry))) (rolledAnswer r) (now (work .exit)) ⌝ }
 {
     let counts = start::begin::set_up(grid, rows, columns, work);
     let safe = counts.safe;
-    let rolled = random::search(work, rows, columns, draws, safe, rounds);
+    let rolled = random::search(work, rows, columns, draws, mode, safe, rounds);
     end_search(rolled, rows, columns, work)
 }
 
@@ -62,13 +65,14 @@ pub fn random_search(
     grid: &[i32],
     work: &mut [i32],
     draws: &[u8],
+    mode: Mode,
     rounds: usize,
 ) -> Rolled
-    ensures { λ r. ⌜ Keeps (randomSearchCall (gridOf rows columns (now (grid .entry))) (now (work .entry)) (now (draws .entry)) rounds) (rolledAnswer r) (now (work .exit)) ⌝ }
+    ensures { λ r. ⌜ Keeps (randomSearchCall (modeOf mode) (gridOf rows columns (now (grid .entry))) (now (work .entry)) (now (draws .entry)) rounds) (rolledAnswer r) (now (work .exit)) ⌝ }
 {
     let checked = checks::check_more(rows, columns, grid, work, rounds, 1, Refusal::Rounds);
     match checked {
         Checked::Refused(first) => Rolled::Refused(first),
-        Checked::Fine => search_checked(rows, columns, grid, work, draws, rounds),
+        Checked::Fine => search_checked(rows, columns, grid, work, draws, mode, rounds),
     }
 }

@@ -49,9 +49,9 @@ part i k = place i (deref (T′.mir erased) ∷ field k ∷ [])
 abbrev pub read : ℕ → ℕ → ℕ → Body → Body
 read i k j rest = seq (assign (place j []) (rvOpd (copy (part i k)))) rest
 
--- the reader behind the reference i moves on by the answer, which is in 7, from the place that is read to j to the place in p; the answer is returned
+-- the reader behind the reference i moves on by the answer, which is in 8, from the place that is read to j to the place in p; the answer is returned
 abbrev pub moves-on : ℕ → ℕ → ℕ → Body
-moves-on i j p = read i 1 j (seq (call #reader-calls·place-after (var 7 ∷ var j ∷ []) (place p [])) (seq (assign (part i 1) (rvOpd (var p))) (seq (assign (place 0 []) (rvOpd (var 7))) return)))
+moves-on i j p = read i 1 j (seq (call #reader-calls·place-after (var 8 ∷ var j ∷ []) (place p [])) (seq (assign (part i 1) (rvOpd (var p))) (seq (assign (place 0 []) (rvOpd (var 8))) return)))
 
 -- ---- the call of `place_after`, at the answer r with the machine value u, for a reader that stood at a place
 

@@ -52,6 +52,10 @@ use Rattle.answers.specs.Answers.{Keeps, rolledAnswer}
 use Rattle.answers.specs.declared.Rolled.{Rolled}
 use Rattle.answers.proofs.Rolled as S
 use Rattle.answers.proofs.Rolled.Laws as S′
+use Rattle.draws.specs.Answers.{modeOf}
+use Rattle.draws.specs.declared.Mode.{Mode}
+use Rattle.draws.proofs.Mode as Modes
+use Rattle.draws.proofs.Mode.Laws as Modes′
 use Rattle.draw_reader.specs.declared.DrawReader.{DrawReader}
 use Rattle.draw_reader.proofs.DrawReader as T
 use Rattle.draw_reader.proofs.DrawReader.Laws as T′
@@ -81,7 +85,7 @@ abbrev behind : Slot 4
 behind = plain (λ κs. T.the-row (namedLft 4 3 tt κs))
 
 abbrev stayed : Stays (f.ended .signature .params) (f.ended .kept)
-stayed = (stay-none (λ _. usize) yes, (stay-none (λ _. usize) yes, (stay-none-slice (0 ∷ []) tt (plain (λ _. i32)) yes, (gave-slice (1 ∷ []) tt (plain (λ _. i32)), (stay-ref (2 ∷ []) tt behind, (stay-none (λ _. usize) yes, tt))))))
+stayed = (stay-none (λ _. usize) yes, (stay-none (λ _. usize) yes, (stay-none-slice (0 ∷ []) tt (plain (λ _. i32)) yes, (gave-slice (1 ∷ []) tt (plain (λ _. i32)), (stay-ref (2 ∷ []) tt behind, (stay-none (λ _. Modes.the-row) yes, (stay-none (λ _. usize) yes, tt)))))))
 
 -- ---- the MIR of both functions, by the flag, as Rattle makes it
 
@@ -93,21 +97,21 @@ abbrev function : Bool → Fn
 function strict = record {
   lifetimes = 4;
   outlives = (3, 2) ∷ [];
-  params = 6;
-  locals = value S′.mir ∷ value (tyInt w64) ∷ value (tyInt w64) ∷ slice (named 0) imm (tyInt w32) ∷ slice (named 1) mut (tyInt w32) ∷ value (tyRef (named 2) mut reader) ∷ value (tyInt w64) ∷ value S′.mir
+  params = 7;
+  locals = value S′.mir ∷ value (tyInt w64) ∷ value (tyInt w64) ∷ slice (named 0) imm (tyInt w32) ∷ slice (named 1) mut (tyInt w32) ∷ value (tyRef (named 2) mut reader) ∷ value Modes′.mir ∷ value (tyInt w64) ∷ value S′.mir
       ∷ pointer mut (tyInt w32) ∷ slice erased mut (tyInt w32) ∷ slice erased imm (tyInt w8) ∷ value (tyInt w64) ∷ value (tyInt w64) ∷ [];
-  body = lent-on 4 8 9 (tyInt w32) (read 5 0 10 (read 5 1 11 (seq (call #reader-calls·search-in-form (var 1 ∷ var 2 ∷ var 3 ∷ var 9 ∷ var 10 ∷ var 11 ∷ var 6 ∷ flag strict ∷ []) (place 7 [])) (moves-on 5 12 11))));
+  body = lent-on 4 9 10 (tyInt w32) (read 5 0 11 (read 5 1 12 (seq (call #reader-calls·search-in-form (var 1 ∷ var 2 ∷ var 3 ∷ var 10 ∷ var 11 ∷ var 12 ∷ var 6 ∷ var 7 ∷ flag strict ∷ []) (place 8 [])) (moves-on 5 13 12))));
 }
 
 -- ---- the contract of both, by the flag. They have one signature: `f` is `random_search`
 
 abbrev clauses : {M : Type 1} (𝓤 : URA M) → Bool → Clauses 𝓤 f.ended
 clauses 𝓤 strict κs a =
-    let g = gridOf (a .0) (a .1 .0) (now (a .1 .1 .0)) in let ws = now (a .1 .1 .1 .0) in let h = now (a .1 .1 .1 .1 .0) in let rounds = a .1 .1 .1 .1 .1 .0 in
+    let g = gridOf (a .0) (a .1 .0) (now (a .1 .1 .0)) in let ws = now (a .1 .1 .1 .0) in let h = now (a .1 .1 .1 .1 .0) in let mode = modeOf (a .1 .1 .1 .1 .1 .0) in let rounds = a .1 .1 .1 .1 .1 .1 .0 in
     record {
       ghost = Unit {0};
       requires = λ _. emp 𝓤;
-      ensures = λ _ r e. fact 𝓤 (Keeps (inForm strict (kept ws) g (randomSearchCall g ws (drop-list (h .place) (now (h .bytes))) rounds)) (rolledAnswer r) (now (e .1 .1 .1 .0)) × (now (e .1 .1 .1 .1 .0) ≡ readOn h r));
+      ensures = λ _ r e. fact 𝓤 (Keeps (inForm strict (kept ws) g (randomSearchCall mode g ws (drop-list (h .place) (now (h .bytes))) rounds)) (rolledAnswer r) (now (e .1 .1 .1 .0)) × (now (e .1 .1 .1 .1 .0) ≡ readOn h r));
     }
 
 module _ {M : Type 1} (𝓤 : URA M) (H : Heap 𝓤) (A : Atoms 𝓤) (at-mem : Memory → SProp 𝓤) (run : Routine → Fun 𝓤) where
@@ -117,23 +121,26 @@ module _ {M : Type 1} (𝓤 : URA M) (H : Heap 𝓤) (A : Atoms 𝓤) (at-mem : 
 
 module _ {M : Type 1} (𝓤 : URA M) (H : Heap 𝓤) (A : Atoms 𝓤) (W : Given 𝓤 H A) (at-mem : Memory → SProp 𝓤) (run : Routine → Fun 𝓤) (strict : Bool)
     (κg κw κ κ′ : Lft) (qg qw q q′ : Share) (bounds : AllOutlive 4 (f.signature .outlives) (κg, (κw, (κ, (κ′, tt)))))
-    (rows columns : ℕ) (grid : RefT (List ℤ)) (work : RefT (List ℤ)) (b o : ℕ) (γ : GName) (h : DrawReader) (rounds : ℕ)
-    (fits-rows : rows < 2 ^ 64) (fits-columns : columns < 2 ^ 64) (fits-grid : length (grid .now) < 2 ^ 64) (room-work : Room i32 (length (work .now))) (fits-rounds : rounds < 2 ^ 64) where
+    (rows columns : ℕ) (grid : RefT (List ℤ)) (work : RefT (List ℤ)) (b o : ℕ) (γ : GName) (h : DrawReader) (mode : Mode) (rounds : ℕ)
+    (fits-rows : rows < 2 ^ 64) (fits-columns : columns < 2 ^ 64) (fits-grid : length (grid .now) < 2 ^ 64) (room-work : Room i32 (length (work .now))) (is-mode : Is Modes.the-row mode (EL.vals Modes.the-type Modes′.the-laws mode)) (fits-rounds : rounds < 2 ^ 64) where
   abbrev Arg : Type 0
-  Arg = ℕ × (ℕ × (RefT (List ℤ) × (RefT (List ℤ) × (RefT DrawReader × (ℕ × Unit {0})))))
+  Arg = ℕ × (ℕ × (RefT (List ℤ) × (RefT (List ℤ) × (RefT DrawReader × (Mode × (ℕ × Unit {0}))))))
 
   abbrev x : Arg
-  x = (rows, (columns, (grid, (work, (record { ptr = (b, o); name = γ; now = h }, (rounds, tt))))))
+  x = (rows, (columns, (grid, (work, (record { ptr = (b, o); name = γ; now = h }, (mode, (rounds, tt)))))))
 
-  -- the machine values of the slices
+  -- the machine values of the slices and of the mode
   abbrev vg : Val
   vg = sliceVal (grid .ptr) (length (grid .now))
 
   abbrev vw : Val
   vw = sliceVal (work .ptr) (length (work .now))
 
-  abbrev at : List Val × (List Val × (List Val × (List Val × (List Val × (List Val × Unit {0})))))
-  at = (vint w64 rows ∷ [], (vint w64 columns ∷ [], (vg ∷ [], (vw ∷ [], (vptr b o ∷ [], (vint w64 rounds ∷ [], tt))))))
+  abbrev vm : Val
+  vm = EL.val Modes.the-type Modes′.the-laws mode
+
+  abbrev at : List Val × (List Val × (List Val × (List Val × (List Val × (List Val × (List Val × Unit {0}))))))
+  at = (vint w64 rows ∷ [], (vint w64 columns ∷ [], (vg ∷ [], (vw ∷ [], (vptr b o ∷ [], (vm ∷ [], (vint w64 rounds ∷ [], tt)))))))
 
   abbrev Post : Val → SProp 𝓤
   Post = walkOf 𝓤 H A f.ended stayed (clauses 𝓤 strict) .post (((κg, (κw, (κ, (κ′, tt)))), (qg, (qw, (q, (q′, tt)))), bounds, x, at), tt)
@@ -144,7 +151,7 @@ module _ {M : Type 1} (𝓤 : URA M) (H : Heap 𝓤) (A : Atoms 𝓤) (W : Given
 
   -- what the call keeps
   abbrev Promised : Rolled → List ℤ → Type 0
-  Promised r w = Keeps (inForm strict (kept (now work)) (gridOf rows columns (now grid)) (randomSearchCall (gridOf rows columns (now grid)) (now work) (drop-list (h .place) (now (h .bytes))) rounds)) (rolledAnswer r) w
+  Promised r w = Keeps (inForm strict (kept (now work)) (gridOf rows columns (now grid)) (randomSearchCall (modeOf mode) (gridOf rows columns (now grid)) (now work) (drop-list (h .place) (now (h .bytes))) rounds)) (rolledAnswer r) w
 
   abbrev Own : Fml
   Own = OwnReader (α κ′) h
@@ -162,11 +169,11 @@ module _ {M : Type 1} (𝓤 : URA M) (H : Heap 𝓤) (A : Atoms 𝓤) (W : Given
   L = T′.the-laws (α κ′)
 
   -- the call of `search_in_form`
-  abbrev passed : ℕ × (ℕ × (RefT (List ℤ) × (RefT (List ℤ) × (RefT (List ℕ) × (ℕ × (ℕ × (Bool × Unit {0})))))))
-  passed = (rows, (columns, (grid, (work, (h .bytes, (h .place, (rounds, (strict, tt))))))))
+  abbrev passed : ℕ × (ℕ × (RefT (List ℤ) × (RefT (List ℤ) × (RefT (List ℕ) × (ℕ × (Mode × (ℕ × (Bool × Unit {0}))))))))
+  passed = (rows, (columns, (grid, (work, (h .bytes, (h .place, (mode, (rounds, (strict, tt)))))))))
 
-  abbrev at-search : List Val × (List Val × (List Val × (List Val × (List Val × (List Val × (List Val × (List Val × Unit {0})))))))
-  at-search = (vint w64 rows ∷ [], (vint w64 columns ∷ [], (vg ∷ [], (vw ∷ [], (sliceVal (h .bytes .ptr) (length (h .bytes .now)) ∷ [], (vint w64 (h .place) ∷ [], (vint w64 rounds ∷ [], (vbool strict ∷ [], tt))))))))
+  abbrev at-search : List Val × (List Val × (List Val × (List Val × (List Val × (List Val × (List Val × (List Val × (List Val × Unit {0}))))))))
+  at-search = (vint w64 rows ∷ [], (vint w64 columns ∷ [], (vg ∷ [], (vw ∷ [], (sliceVal (h .bytes .ptr) (length (h .bytes .now)) ∷ [], (vint w64 (h .place) ∷ [], (vm ∷ [], (vint w64 rounds ∷ [], (vbool strict ∷ [], tt)))))))))
 
   abbrev to-search : Search 𝓤 H A at-mem run .Ghost
   to-search = (((κg, (κw, (κ′, tt))), (qg, (qw, (q′, tt))), tt, passed, at-search), tt)
@@ -180,89 +187,89 @@ module _ {M : Type 1} (𝓤 : URA M) (H : Heap 𝓤) (A : Atoms 𝓤) (W : Given
       -- [what the reader owns; the work area; the grid twice; the tokens]
       use1 W (‵ (OwnBytes (α κ′) h) ⊛ ‵ Own) (bytes-out 𝓤 H A W (α κ′) h) $ split ! $
       -- [what the bytes own; what the reader owns; the work area; the grid twice; the tokens]
-      nothing ! $ owned ! bool (Is bool) (bool-makes 𝓤 H A W) strict _ refl $ fjoin ! $ owned ! usize (Is usize) (uint-makes 𝓤 H A W w64) rounds _ (refl, fits-rounds) $ fjoin ! $ owned ! usize (Is usize) (uint-makes 𝓤 H A W w64) (h .place) _ (refl, fits) $ fjoin ! $ move ! (1 ∷ 0 ∷ []) $ fjoin ! $ move ! (2 ∷ 0 ∷ []) $ fjoin ! $ move ! (2 ∷ 0 ∷ []) $ fjoin ! $
+      nothing ! $ owned ! bool (Is bool) (bool-makes 𝓤 H A W) strict _ refl $ fjoin ! $ owned ! usize (Is usize) (uint-makes 𝓤 H A W w64) rounds _ (refl, fits-rounds) $ fjoin ! $ owned ! Modes.the-row (Is Modes.the-row) (EL.makes Modes.the-type Modes′.the-plain 𝓤 H A) mode _ is-mode $ fjoin ! $ owned ! usize (Is usize) (uint-makes 𝓤 H A W w64) (h .place) _ (refl, fits) $ fjoin ! $ move ! (1 ∷ 0 ∷ []) $ fjoin ! $ move ! (2 ∷ 0 ∷ []) $ fjoin ! $ move ! (2 ∷ 0 ∷ []) $ fjoin ! $
       owned ! usize (Is usize) (uint-makes 𝓤 H A W w64) columns _ (refl, fits-columns) $ fjoin ! $ owned ! usize (Is usize) (uint-makes 𝓤 H A W w64) rows _ (refl, fits-rows) $ fjoin ! $
       -- [what is passed; what the reader owns; the grid; the tokens]
       move ! (3 ∷ 0 ∷ []) $ use2 W (raw (Search 𝓤 H A at-mem run .pre to-search))
-      (qed W ((‵ (flft κg qg) ⊛ (‵ (flft κw qw) ⊛ (‵ (flft κ′ q′) ⊛ ‵ ftrue))) ∷ ‵ (owns (usize ∷ usize ∷ ShrSlice (named 0) κg i32 ∷ MutSlice (named 1) κw i32 ∷ ShrSlice (named 2) κ′ u8 ∷ usize ∷ usize ∷ bool ∷ []) passed at-search) ∷ []) ∵ join ! $ frame ! $ done !) $
+      (qed W ((‵ (flft κg qg) ⊛ (‵ (flft κw qw) ⊛ (‵ (flft κ′ q′) ⊛ ‵ ftrue))) ∷ ‵ (owns (usize ∷ usize ∷ ShrSlice (named 0) κg i32 ∷ MutSlice (named 1) κw i32 ∷ ShrSlice (named 2) κ′ u8 ∷ usize ∷ Modes.the-row ∷ usize ∷ bool ∷ []) passed at-search) ∷ []) ∵ join ! $ frame ! $ done !) $
       move ! (2 ∷ 1 ∷ []) $ fjoin ! $ move ! (1 ∷ 0 ∷ []) $ frame ! $ done !
 
   exits : (r : Rolled) (u : Val) (w : List ℤ) → length w ≡ length (work .now) → Promised r w
       → ent 𝓤 (⋆ 𝓤 H A (‵ (fobs γ (B κ′ .coded .code (h′ r))) ∷ ‵ (fbor κ (Body (mem (B κ′)) b o γ)) ∷ ‵ (flft κ q) ∷ (‵ (flft κg qg) ⊛ (‵ (flft κw qw) ⊛ (‵ (flft κ′ q′) ⊛ ‵ ftrue))) ∷ ‵ OwnGrid ∷ ‵ (finally i32 (work .name) w) ∷ ‵ (S.the-row .own r (u ∷ [])) ∷ [])) (Post u)
   exits r u w len e =
       qed W (‵ (fobs γ (B κ′ .coded .code (h′ r))) ∷ ‵ (fbor κ (Body (mem (B κ′)) b o γ)) ∷ ‵ (flft κ q) ∷ (‵ (flft κg qg) ⊛ (‵ (flft κw qw) ⊛ (‵ (flft κ′ q′) ⊛ ‵ ftrue))) ∷ ‵ OwnGrid ∷ ‵ (finally i32 (work .name) w) ∷ ‵ (S.the-row .own r (u ∷ [])) ∷ []) ∵
-      suffices ! _ (ends-at 𝓤 H A f.ended stayed (clauses 𝓤 strict) W (((κg, (κw, (κ, (κ′, tt)))), (qg, (qw, (q, (q′, tt)))), bounds, x, at), tt) u r (tt, (tt, (tt, (w, (h′ r, (tt, tt)))))) (tt, (tt, (tt, (len, (tt, (tt, tt))))))) $ says ! (e, refl) $
+      suffices ! _ (ends-at 𝓤 H A f.ended stayed (clauses 𝓤 strict) W (((κg, (κw, (κ, (κ′, tt)))), (qg, (qw, (q, (q′, tt)))), bounds, x, at), tt) u r (tt, (tt, (tt, (w, (h′ r, (tt, (tt, tt))))))) (tt, (tt, (tt, (len, (tt, (tt, (tt, tt)))))))) $ says ! (e, refl) $
       move ! (3 ∷ []) $ split ! $ move ! (1 ∷ []) $ split ! $ move ! (5 ∷ 1 ∷ []) $ join ! $ move ! (1 ∷ 0 ∷ []) $ join ! $ move ! (1 ∷ 0 ∷ []) $ join ! $ frame ! $
       -- [obs; the borrow; the grid; the work area's last value; the answer]
-      feqI ! (List Val) (vptr b o ∷ []) (vptr b o ∷ []) refl $ fjoin3 ! $ nothing ! $ owned ! usize (Is usize) (uint-makes 𝓤 H A W w64) rounds _ (refl, fits-rounds) $ fjoin ! $ move ! (1 ∷ 0 ∷ []) $ fjoin ! $ move ! (2 ∷ 0 ∷ []) $ fjoin ! $ move ! (1 ∷ 0 ∷ []) $ fjoin ! $
+      feqI ! (List Val) (vptr b o ∷ []) (vptr b o ∷ []) refl $ fjoin3 ! $ nothing ! $ owned ! usize (Is usize) (uint-makes 𝓤 H A W w64) rounds _ (refl, fits-rounds) $ fjoin ! $ owned ! Modes.the-row (Is Modes.the-row) (EL.makes Modes.the-type Modes′.the-plain 𝓤 H A) mode _ is-mode $ fjoin ! $ move ! (1 ∷ 0 ∷ []) $ fjoin ! $ move ! (2 ∷ 0 ∷ []) $ fjoin ! $ move ! (1 ∷ 0 ∷ []) $ fjoin ! $
       owned ! usize (Is usize) (uint-makes 𝓤 H A W w64) columns _ (refl, fits-columns) $ fjoin ! $ owned ! usize (Is usize) (uint-makes 𝓤 H A W w64) rows _ (refl, fits-rows) $ fjoin ! $ frame ! $ done !
 
   abbrev Ends : Type 0
-  Ends = Unit {0} × (Unit {0} × (Unit {0} × (List ℤ × (Unit {0} × (Unit {0} × (Unit {0} × (Unit {0} × Unit {0})))))))
+  Ends = Unit {0} × (Unit {0} × (Unit {0} × (List ℤ × (Unit {0} × (Unit {0} × (Unit {0} × (Unit {0} × (Unit {0} × Unit {0}))))))))
 
   module _ (C : Calls 𝓤 H) (Λ : Loops 𝓤 H) (fm : FmC 𝓤 H (W .laws) C) (known-search : Triple 𝓤 (C #reader-calls·search-in-form) (Search 𝓤 H A at-mem run)) (known-after : Triple 𝓤 (C #reader-calls·place-after) (After 𝓤 H A at-mem run)) where
-    walk : ent 𝓤 (onEntry 𝓤 H A f.signature (κg, (κw, (κ, (κ′, tt)))) (qg, (qw, (q, (q′, tt)))) x at) (WpFn 𝓤 H C Λ (function strict) (vint w64 rows ∷ vint w64 columns ∷ vg ∷ vw ∷ vptr b o ∷ vint w64 rounds ∷ []) Post)
+    walk : ent 𝓤 (onEntry 𝓤 H A f.signature (κg, (κw, (κ, (κ′, tt)))) (qg, (qw, (q, (q′, tt)))) x at) (WpFn 𝓤 H C Λ (function strict) (vint w64 rows ∷ vint w64 columns ∷ vg ∷ vw ∷ vptr b o ∷ vm ∷ vint w64 rounds ∷ []) Post)
     walk =
-        qed W ((‵ (flft κg qg) ⊛ (‵ (flft κw qw) ⊛ (‵ (flft κ q) ⊛ (‵ (flft κ′ q′) ⊛ ‵ ftrue)))) ∷ ‵ (owns (usize ∷ usize ∷ ShrSlice (named 0) κg i32 ∷ MutSlice (named 1) κw i32 ∷ MutRef (named 2) κ (B κ′) ∷ usize ∷ []) x at) ∷ []) ∵ enter ! C Λ (function strict) (vint w64 rows ∷ vint w64 columns ∷ vg ∷ vw ∷ vptr b o ∷ vint w64 rounds ∷ []) _ $
-        alloc1 ! (λ l₀. alloc1 ! (λ l₁. alloc1 ! (λ l₂. alloc1 ! (λ l₃. alloc1 ! (λ l₄. alloc1 ! (λ l₅. alloc1 ! (λ l₆. alloc1 ! (λ l₇. alloc1 ! (λ l₈. alloc1 ! (λ l₉. alloc1 ! (λ la. alloc1 ! (λ lb. alloc1 ! (λ lc. alloc0 ! $ params1 ! $
-        pass1 ! (init ! 22 refl (tt, record { fits = fits-rows })) $ pass1 ! (init ! 20 refl (tt, record { fits = fits-columns })) $ pass1 ! (init ! 18 refl (tt, (tt, (record { fits = fits-grid }, tt)))) $ pass1 ! (init ! 16 refl (tt, (tt, (record { fits = room-work .0 }, tt)))) $ pass1 ! (init ! 14 refl (tt, tt)) $ pass1 ! (init ! 12 refl (tt, record { fits = fits-rounds })) $ pass0 ! $
+        qed W ((‵ (flft κg qg) ⊛ (‵ (flft κw qw) ⊛ (‵ (flft κ q) ⊛ (‵ (flft κ′ q′) ⊛ ‵ ftrue)))) ∷ ‵ (owns (usize ∷ usize ∷ ShrSlice (named 0) κg i32 ∷ MutSlice (named 1) κw i32 ∷ MutRef (named 2) κ (B κ′) ∷ Modes.the-row ∷ usize ∷ []) x at) ∷ []) ∵ enter ! C Λ (function strict) (vint w64 rows ∷ vint w64 columns ∷ vg ∷ vw ∷ vptr b o ∷ vm ∷ vint w64 rounds ∷ []) _ $
+        alloc1 ! (λ l₀. alloc1 ! (λ l₁. alloc1 ! (λ l₂. alloc1 ! (λ l₃. alloc1 ! (λ l₄. alloc1 ! (λ l₅. alloc1 ! (λ l₆. alloc1 ! (λ l₇. alloc1 ! (λ l₈. alloc1 ! (λ l₉. alloc1 ! (λ la. alloc1 ! (λ lb. alloc1 ! (λ lc. alloc1 ! (λ ld. alloc0 ! $ params1 ! $
+        pass1 ! (init ! 24 refl (tt, record { fits = fits-rows })) $ pass1 ! (init ! 22 refl (tt, record { fits = fits-columns })) $ pass1 ! (init ! 20 refl (tt, (tt, (record { fits = fits-grid }, tt)))) $ pass1 ! (init ! 18 refl (tt, (tt, (record { fits = room-work .0 }, tt)))) $ pass1 ! (init ! 16 refl (tt, tt)) $ pass1 ! (init ! 14 refl (EL.lawful Modes.the-type Modes′.the-laws 𝓤 H A W tt .typed mode _ is-mode .0)) $ pass1 ! (init ! 12 refl (tt, record { fits = fits-rounds })) $ pass0 ! $
         -- the work area, to be passed on
-        assigns ! (addr ! (from ! (fld ! refl (hop ! (look-in ! 16 (sub ! 0 refl (whole !))) (stop !))))) (from ! (stop !)) (init ! 8 refl (tt, tt)) $
-        assigns ! (agg ! (and-then ! (load ! (from ! (stop !)) (look ! 8 refl)) (and-then ! (load ! (from ! (fld ! refl (stop !))) (look-in ! 16 (sub ! 1 refl (whole !)))) (no-more !)))) (from ! (stop !)) (init ! 6 refl (tt, (tt, (record { fits = room-work .0 }, tt)))) $
+        assigns ! (addr ! (from ! (fld ! refl (hop ! (look-in ! 18 (sub ! 0 refl (whole !))) (stop !))))) (from ! (stop !)) (init ! 8 refl (tt, tt)) $
+        assigns ! (agg ! (and-then ! (load ! (from ! (stop !)) (look ! 8 refl)) (and-then ! (load ! (from ! (fld ! refl (stop !))) (look-in ! 18 (sub ! 1 refl (whole !)))) (no-more !)))) (from ! (stop !)) (init ! 6 refl (tt, (tt, (record { fits = room-work .0 }, tt)))) $
         -- what the parameters own, apart; the reader's borrow is opened
-        move ! (27 ∷ []) $ fsplit ! $ drop ! $ fsplit ! $ drop ! $ fsplit ! $ move ! (1 ∷ []) $ fsplit ! $ move ! (1 ∷ []) $ fsplit ! $ fsplit3 ! $ drop ! $
-        move ! (31 ∷ []) $ split ! $ move ! (1 ∷ []) $ split ! $ move ! (1 ∷ []) $ split ! $ move ! (4 ∷ 5 ∷ 0 ∷ []) $
+        move ! (29 ∷ []) $ fsplit ! $ drop ! $ fsplit ! $ drop ! $ fsplit ! $ move ! (1 ∷ []) $ fsplit ! $ move ! (1 ∷ []) $ fsplit ! $ fsplit3 ! $ drop ! $
+        move ! (33 ∷ []) $ split ! $ move ! (1 ∷ []) $ split ! $ move ! (1 ∷ []) $ split ! $ move ! (4 ∷ 5 ∷ 0 ∷ []) $
         opens ! tt (B κ′) {h = h} b o (λ vs. spelt ! (B κ′) (Is (B κ′)) (shows 𝓤 H A (B κ′)) (LL.vals D L) (LL.tells D L) fullShare h vs b o $
         move ! (1 ∷ []) $ peeks ! (B κ′) (Is (B κ′)) (shows 𝓤 H A (B κ′)) h (T′.lowered h ∷ []) (λ was. move ! (1 ∷ 0 ∷ []) $
         let wt = LL.lawful D L 𝓤 H A W .typed h _ was .0 in
         let at-fits = was .1 .1 .1 .0 .1 in
         use1 W (‵ (fat fullShare (T′.mir erased) b o (T′.lowered h))) (W .laws .raw-at fullShare (T′.mir erased) b o (T′.lowered h)) $
-        -- [the reader's cell; what it owns; the open borrow; obs; auth; 'a's token; 'w's; 'g's; the number's facts; the work area; the grid; _12; …; room for _0; …]
-        assigns ! (of-opd ! (load ! (from ! (hop ! (look ! 25 refl) (fld ! refl (stop !)))) (look-in ! 0 (sub ! 0 refl (whole !))))) (from ! (stop !)) (init ! 15 refl (tt, wt .1 .0)) $
-        assigns ! (of-opd ! (load ! (from ! (hop ! (look ! 25 refl) (fld ! refl (stop !)))) (look-in ! 0 (sub ! 1 refl (whole !))))) (from ! (stop !)) (init ! 13 refl (tt, record { fits = at-fits })) $
+        -- [the reader's cell; what it owns; the open borrow; obs; auth; 'a's token; 'w's; 'g's; the mode's and the number's facts; the work area; the grid; _13; …; room for _0; …]
+        assigns ! (of-opd ! (load ! (from ! (hop ! (look ! 27 refl) (fld ! refl (stop !)))) (look-in ! 0 (sub ! 0 refl (whole !))))) (from ! (stop !)) (init ! 15 refl (tt, wt .1 .0)) $
+        assigns ! (of-opd ! (load ! (from ! (hop ! (look ! 27 refl) (fld ! refl (stop !)))) (look-in ! 0 (sub ! 1 refl (whole !))))) (from ! (stop !)) (init ! 13 refl (tt, record { fits = at-fits })) $
         move ! (6 ∷ 5 ∷ []) $ join ! $ move ! (6 ∷ 0 ∷ []) $ join ! $ move ! (7 ∷ 2 ∷ []) $ fjoin ! $ move ! (7 ∷ 0 ∷ []) $ fjoin ! $
-        -- [the grid, the work area and the reader; the tokens; the cell; the open borrow; obs; auth; the number's facts; _12; …]
+        -- [the grid, the work area and the reader; the tokens; the cell; the open borrow; obs; auth; the mode's and the number's facts; _13; …]
         move ! (1 ∷ 0 ∷ []) $ use2 W (raw (Search 𝓤 H A at-mem run .pre to-search) ⊛ ‵ (fsep OwnGrid Own)) (goes-search at-fits) $ split ! $
-        calls-at ! fm (Search 𝓤 H A at-mem run) known-search to-search (and-then ! (load ! (from ! (stop !)) (look ! 29 refl)) (and-then ! (load ! (from ! (stop !)) (look ! 27 refl)) (and-then ! (load ! (from ! (stop !)) (look ! 25 refl)) (and-then ! (load ! (from ! (stop !)) (look ! 13 refl)) (and-then ! (load ! (from ! (stop !)) (look ! 11 refl)) (and-then ! (load ! (from ! (stop !)) (look ! 9 refl)) (and-then ! (load ! (from ! (stop !)) (look ! 19 refl)) (and-then ! (flag-lit ! strict) (no-more !))))))))) (λ u.
+        calls-at ! fm (Search 𝓤 H A at-mem run) known-search to-search (and-then ! (load ! (from ! (stop !)) (look ! 31 refl)) (and-then ! (load ! (from ! (stop !)) (look ! 29 refl)) (and-then ! (load ! (from ! (stop !)) (look ! 27 refl)) (and-then ! (load ! (from ! (stop !)) (look ! 13 refl)) (and-then ! (load ! (from ! (stop !)) (look ! 11 refl)) (and-then ! (load ! (from ! (stop !)) (look ! 9 refl)) (and-then ! (load ! (from ! (stop !)) (look ! 21 refl)) (and-then ! (load ! (from ! (stop !)) (look ! 19 refl)) (and-then ! (flag-lit ! strict) (no-more !)))))))))) (λ u.
         use1 W (later (some (λ (r : Rolled). ((‵ (flft κg qg) ⊛ (‵ (flft κw qw) ⊛ (‵ (flft κ′ q′) ⊛ ‵ ftrue))) ⊛ ‵ (S.the-row .own r (u ∷ []))) ⊛ raw (ensured 𝓤 H A inf.ended (inf.clauses 𝓤 H A at-mem run) (κg, (κw, (κ′, tt))) passed tt r)))) (id⊢ 𝓤 _) $ await ! tt $ pick ! (λ r.
         split ! $ move ! (1 ∷ []) $ use1 W (some (λ (ends : Ends). ‵ (lasts inf.ended (κg, (κw, (κ′, tt))) passed ends) ⊛ raw (fact 𝓤 (Promised r (ends .1 .1 .1 .0) × (standsAt r (h .place) < 2 ^ 64))))) (id⊢ 𝓤 _) $ pick ! (λ ends.
         split ! $ move ! (1 ∷ []) $ heard ! (Promised r (ends .1 .1 .1 .0) × (standsAt r (h .place) < 2 ^ 64)) (λ e.
         fsplit ! $ drop ! $ fsplit ! $ drop ! $ fsplit ! $ drop ! $ fsplit ! $ fsplit ! $ move ! (1 ∷ []) $ feqL ! (λ len. move ! (1 ∷ []) $ drop ! $
-        -- [the work area's last value; the tokens and the answer; the grid and the reader; the cell; the open borrow; obs; auth; the number's facts; _12; …]
+        -- [the work area's last value; the tokens and the answer; the grid and the reader; the cell; the open borrow; obs; auth; the mode's and the number's facts; _13; …]
         move ! (1 ∷ []) $ split ! $ move ! (1 ∷ []) $
         peeks ! S.the-row (Is S.the-row) (shows 𝓤 H A S.the-row) r (u ∷ []) (λ is.
         let typed-r = EL.lawful S.the-type S′.the-laws 𝓤 H A W tt .typed r _ is .0 in
         land ! (from ! (stop !)) (init ! 19 refl typed-r) $
-        -- [the answer; the tokens; the work area's last value; the grid and the reader; the cell; the open borrow; obs; auth; the number's facts; _12; …]
-        assigns ! (of-opd ! (load ! (from ! (hop ! (look ! 23 refl) (fld ! refl (stop !)))) (look-in ! 4 (sub ! 1 refl (whole !))))) (from ! (stop !)) (init ! 9 refl (tt, record { fits = at-fits })) $
+        -- [the answer; the tokens; the work area's last value; the grid and the reader; the cell; the open borrow; obs; auth; the mode's and the number's facts; _13; …]
+        assigns ! (of-opd ! (load ! (from ! (hop ! (look ! 25 refl) (fld ! refl (stop !)))) (look-in ! 4 (sub ! 1 refl (whole !))))) (from ! (stop !)) (init ! 9 refl (tt, record { fits = at-fits })) $
         use1 W (raw (After 𝓤 H A at-mem run .pre (to-after 𝓤 H A W at-mem run r (h .place) u)) ⊛ ‵ (S.the-row .own r (u ∷ []))) (goes-after 𝓤 H A W at-mem run r (h .place) u at-fits (e .1)) $ split ! $
         calls-at ! fm (After 𝓤 H A at-mem run) known-after (to-after 𝓤 H A W at-mem run r (h .place) u) (and-then ! (load ! (from ! (stop !)) (look ! 20 refl)) (and-then ! (load ! (from ! (stop !)) (look ! 10 refl)) (no-more !))) (λ u₂.
         use1 W (later (some (λ (p : ℕ). (‵ ftrue ⊛ ‵ (usize .own p (u₂ ∷ []))) ⊛ raw (ensured 𝓤 H A aft.ended (aft.clauses 𝓤 H A at-mem run) tt (r, (h .place, tt)) tt p)))) (id⊢ 𝓤 _) $ await ! tt $ pick ! (λ p.
         split ! $ move ! (1 ∷ []) $ use1 W (raw (fact 𝓤 (p ≡ standsAt r (h .place)))) (after-said 𝓤 H A W at-mem run r (h .place) p) $ heard ! (p ≡ standsAt r (h .place)) (λ e₂. split ! $ move ! (1 ∷ []) $
-        -- [the place; true; the answer; the tokens; the work area's last value; the grid and the reader; the cell; the open borrow; obs; auth; the number's facts; _12; …]
+        -- [the place; true; the answer; the tokens; the work area's last value; the grid and the reader; the cell; the open borrow; obs; auth; the mode's and the number's facts; _13; …]
         peeks ! usize (Is usize) (shows 𝓤 H A usize) p (u₂ ∷ []) (λ is₂.
         land ! (from ! (stop !)) (store ! 13 refl (uint-lawful 𝓤 H A W w64 .typed p _ is₂ .0)) $
-        rewrite ! 13 (λ (v : Val). ‵ (fat fullShare (tyInt w64) lb 0 v)) (ap only (is₂ .0) ∙ ap (vint w64) e₂) refl $
-        assigns ! (of-opd ! (load ! (from ! (stop !)) (look ! 13 refl))) (from ! (hop ! (look ! 25 refl) (fld ! refl (stop !)))) (store-in ! 6 (sub ! 1 refl (whole !)) (tt, record { fits = e .1 })) $
-        assigns ! (of-opd ! (load ! (from ! (stop !)) (look ! 21 refl))) (from ! (stop !)) (init ! 35 refl typed-r) $
+        rewrite ! 13 (λ (v : Val). ‵ (fat fullShare (tyInt w64) lc 0 v)) (ap only (is₂ .0) ∙ ap (vint w64) e₂) refl $
+        assigns ! (of-opd ! (load ! (from ! (stop !)) (look ! 13 refl))) (from ! (hop ! (look ! 27 refl) (fld ! refl (stop !)))) (store-in ! 6 (sub ! 1 refl (whole !)) (tt, record { fits = e .1 })) $
+        assigns ! (of-opd ! (load ! (from ! (stop !)) (look ! 21 refl))) (from ! (stop !)) (init ! 37 refl typed-r) $
         move ! (5 ∷ []) $ fsplit ! $ move ! (1 ∷ []) $ use1 W (‵ (B κ′ .own (h′ r) (T′.lowered (h′ r) ∷ []))) (again 𝓤 H A W (α κ′) h r (e .1)) $ move ! (7 ∷ 0 ∷ 8 ∷ 9 ∷ 10 ∷ []) $
         use1 W (‵ (cellAt fullShare (B κ′ .mir) (T′.lowered (h′ r) ∷ []) b o)) (W .laws .at-raw fullShare (T′.mir erased) b o (T′.lowered (h′ r))) $ closes ! tt (B κ′) (h′ r) (T′.lowered (h′ r) ∷ []) b o $
-        -- [obs; the borrow; the token; the grid; the place; true; the answer; the tokens; the work area's last value; the number's facts; _12; …]
-        returns ! (look ! 34 refl) $ forget ! 10 refl $ forget ! 12 refl $ forget ! 14 refl $ forget ! 16 refl $ forget ! 18 refl $ forget ! 20 refl $ forget ! 22 refl $ forget ! 24 refl $ forget ! 26 refl $ forget ! 28 refl $ forget ! 30 refl $ forget ! 32 refl $ forget ! 34 refl $
-        move ! (34 ∷ 35 ∷ []) $ free1 ! $ move ! (32 ∷ 33 ∷ []) $ free1 ! $ move ! (30 ∷ 31 ∷ []) $ free1 ! $ move ! (28 ∷ 29 ∷ []) $ free1 ! $ move ! (26 ∷ 27 ∷ []) $ free1 ! $ move ! (24 ∷ 25 ∷ []) $ free1 ! $ move ! (22 ∷ 23 ∷ []) $ free1 ! $ move ! (20 ∷ 21 ∷ []) $ free1 ! $ move ! (18 ∷ 19 ∷ []) $ free1 ! $ move ! (16 ∷ 17 ∷ []) $ free1 ! $ move ! (14 ∷ 15 ∷ []) $ free1 ! $ move ! (12 ∷ 13 ∷ []) $ free1 ! $ move ! (10 ∷ 11 ∷ []) $ free1 ! $ free0 ! $
-        keep ! (0 ∷ 1 ∷ 2 ∷ 7 ∷ 3 ∷ 8 ∷ 6 ∷ []) $ by ! (exits r u (ends .1 .1 .1 .0) len (e .0)))))))))))))))))))))))))))
+        -- [obs; the borrow; the token; the grid; the place; true; the answer; the tokens; the work area's last value; the mode's and the number's facts; _13; …]
+        returns ! (look ! 36 refl) $ forget ! 10 refl $ forget ! 12 refl $ forget ! 14 refl $ forget ! 16 refl $ forget ! 18 refl $ forget ! 20 refl $ forget ! 22 refl $ forget ! 24 refl $ forget ! 26 refl $ forget ! 28 refl $ forget ! 30 refl $ forget ! 32 refl $ forget ! 34 refl $ forget ! 36 refl $
+        move ! (36 ∷ 37 ∷ []) $ free1 ! $ move ! (34 ∷ 35 ∷ []) $ free1 ! $ move ! (32 ∷ 33 ∷ []) $ free1 ! $ move ! (30 ∷ 31 ∷ []) $ free1 ! $ move ! (28 ∷ 29 ∷ []) $ free1 ! $ move ! (26 ∷ 27 ∷ []) $ free1 ! $ move ! (24 ∷ 25 ∷ []) $ free1 ! $ move ! (22 ∷ 23 ∷ []) $ free1 ! $ move ! (20 ∷ 21 ∷ []) $ free1 ! $ move ! (18 ∷ 19 ∷ []) $ free1 ! $ move ! (16 ∷ 17 ∷ []) $ free1 ! $ move ! (14 ∷ 15 ∷ []) $ free1 ! $ move ! (12 ∷ 13 ∷ []) $ free1 ! $ move ! (10 ∷ 11 ∷ []) $ free1 ! $ free0 ! $
+        keep ! (0 ∷ 1 ∷ 2 ∷ 7 ∷ 3 ∷ 8 ∷ 6 ∷ []) $ by ! (exits r u (ends .1 .1 .1 .0) len (e .0))))))))))))))))))))))))))))
 
 module _ {M : Type 1} (𝓤 : URA M) (H : Heap 𝓤) (A : Atoms 𝓤) (W : Given 𝓤 H A) (at-mem : Memory → SProp 𝓤) (run : Routine → Fun 𝓤) (strict : Bool) (𝓣 : Tables 𝓤 H)
     (known-search : Triple 𝓤 (𝓣 .C #reader-calls·search-in-form) (Search 𝓤 H A at-mem run)) (known-after : Triple 𝓤 (𝓣 .C #reader-calls·place-after) (After 𝓤 H A at-mem run)) where
   walks : Walks 𝓤 H A f.ended stayed (WpFn 𝓤 H (𝓣 .C) (𝓣 .Λ) (function strict)) (clauses 𝓤 strict)
-  walks = walked 𝓤 H A f.ended stayed (clauses 𝓤 strict) (WpFn 𝓤 H (𝓣 .C) (𝓣 .Λ) (function strict)) (λ κs. (uint-vals w64, (uint-vals w64, (slice-vals, (slice-vals, (ptr-vals, (uint-vals w64, tt)))))))
-      (λ κs. (uint-tells w64, (uint-tells w64, (shr-slice-tells (named 0) (κs .0) i32, (mut-slice-tells (named 1) (κs .1 .0) i32, (mut-tells (named 2) (κs .1 .1 .0) (B (κs .1 .1 .1 .0)), (uint-tells w64, tt)))))))
+  walks = walked 𝓤 H A f.ended stayed (clauses 𝓤 strict) (WpFn 𝓤 H (𝓣 .C) (𝓣 .Λ) (function strict)) (λ κs. (uint-vals w64, (uint-vals w64, (slice-vals, (slice-vals, (ptr-vals, (EL.vals Modes.the-type Modes′.the-laws, (uint-vals w64, tt))))))))
+      (λ κs. (uint-tells w64, (uint-tells w64, (shr-slice-tells (named 0) (κs .0) i32, (mut-slice-tells (named 1) (κs .1 .0) i32, (mut-tells (named 2) (κs .1 .1 .0) (B (κs .1 .1 .1 .0)), (EL.tells Modes.the-type Modes′.the-laws, (uint-tells w64, tt))))))))
       (λ κs qs bounds a _ are. via 𝓤 _ (fst∗ 𝓤 _ (emp 𝓤)) (walk 𝓤 H A W at-mem run strict (κs .0) (κs .1 .0) (κs .1 .1 .0) (κs .1 .1 .1 .0) (qs .0) (qs .1 .0) (qs .1 .1 .0) (qs .1 .1 .1 .0) bounds
-      (a .0) (a .1 .0) (a .1 .1 .0) (a .1 .1 .1 .0) (a .1 .1 .1 .1 .0 .ptr .0) (a .1 .1 .1 .1 .0 .ptr .1) (a .1 .1 .1 .1 .0 .name) (a .1 .1 .1 .1 .0 .now) (a .1 .1 .1 .1 .1 .0)
-      (are .0 .1) (are .1 .0 .1) (are .1 .1 .0 .0 .1 .0) (are .1 .1 .1 .0 .0 .1) (are .1 .1 .1 .1 .1 .0 .1) (𝓣 .C) (𝓣 .Λ) (fmOf 𝓤 H (W .laws) 𝓣) known-search known-after))
+      (a .0) (a .1 .0) (a .1 .1 .0) (a .1 .1 .1 .0) (a .1 .1 .1 .1 .0 .ptr .0) (a .1 .1 .1 .1 .0 .ptr .1) (a .1 .1 .1 .1 .0 .name) (a .1 .1 .1 .1 .0 .now) (a .1 .1 .1 .1 .1 .0) (a .1 .1 .1 .1 .1 .1 .0)
+      (are .0 .1) (are .1 .0 .1) (are .1 .1 .0 .0 .1 .0) (are .1 .1 .1 .0 .0 .1) (are .1 .1 .1 .1 .1 .0) (are .1 .1 .1 .1 .1 .1 .0 .1) (𝓣 .C) (𝓣 .Λ) (fmOf 𝓤 H (W .laws) 𝓣) known-search known-after))
 
   meets : Meets 𝓤 H A f.signature (WpFn 𝓤 H (𝓣 .C) (𝓣 .Λ) (function strict)) (closing 𝓤 H A f.ended (clauses 𝓤 strict))
-  meets = walk-meets 𝓤 H A f.ended stayed W (goes-none 𝓤 H A W 4 (λ _. usize) yes (λ κs x f. refl), (goes-none 𝓤 H A W 4 (λ _. usize) yes (λ κs x f. refl), (goes-none-slice 𝓤 H A W 4 (0 ∷ []) tt (plain (λ _. i32)) yes, (goes-gave-slice 𝓤 H A W 4 1 tt (plain (λ _. i32)), (goes-ref 𝓤 H A W 4 2 tt behind, (goes-none 𝓤 H A W 4 (λ _. usize) yes (λ κs x f. refl), tt))))))
+  meets = walk-meets 𝓤 H A f.ended stayed W (goes-none 𝓤 H A W 4 (λ _. usize) yes (λ κs x f. refl), (goes-none 𝓤 H A W 4 (λ _. usize) yes (λ κs x f. refl), (goes-none-slice 𝓤 H A W 4 (0 ∷ []) tt (plain (λ _. i32)) yes, (goes-gave-slice 𝓤 H A W 4 1 tt (plain (λ _. i32)), (goes-ref 𝓤 H A W 4 2 tt behind, (goes-none 𝓤 H A W 4 (λ _. Modes.the-row) yes (λ κs x f. refl), (goes-none 𝓤 H A W 4 (λ _. usize) yes (λ κs x f. refl), tt)))))))
       (clauses 𝓤 strict) (WpFn 𝓤 H (𝓣 .C) (𝓣 .Λ) (function strict)) (WpFn-mono 𝓤 H (W .laws) 𝓣 (function strict)) walks
 
 -- a function of this MIR meets this contract in every environment that has its callees

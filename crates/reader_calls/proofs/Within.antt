@@ -8,7 +8,7 @@ use mathlib.Core.Option.{Option, none, some}
 use lib.IntN.{ℤ}
 use lib.ListN.{List·getD-eq-default, drop, drop-of-length-le, getD, length, length-drop, take}
 use lib.Seq.{take-all}
-use Rattle.game.specs.Draws.{lent}
+use Rattle.game.specs.Draws.{Mode, lent}
 use Rattle.game.specs.Grid.{Grid}
 use Rattle.game.specs.Rounds.{Round, Searched, randomRound, randomSearch}
 use Rattle.game.specs.Calls.{Answer, Refusal, drawnRound, drawnSearch, firstGiven, gridChecks, listCheck, namedBy, randomRoundCall, randomSearchCall, refuses, roundsCheck, unless, unlessListed}
@@ -36,23 +36,23 @@ told a = getD (a .values) 1 0
 refused-told : (f : Refusal) (n : ℕ) → told (refuses f) ≤ n
 refused-told f n = omega (arith, List·getD-eq-default (namedBy f) 0 {n = 1} (names-one f))
 
-round-told : (g : Grid) (w : List ℤ) (l bytes : List ℕ) → told (randomRoundCall g w l bytes .answer) ≤ length bytes
+round-told : (mode : Mode) (g : Grid) (w : List ℤ) (l bytes : List ℕ) → told (randomRoundCall mode g w l bytes .answer) ≤ length bytes
 unfolding randomRoundCall
-round-told g w l bytes = go (firstGiven (gridChecks g w ++ listCheck g l ∷ [])) (randomRound g (lent bytes) 0) refl
+round-told mode g w l bytes = go (firstGiven (gridChecks g w ++ listCheck g l ∷ [])) (randomRound g (lent mode bytes) 0) refl
   where
-    go : (f : Option Refusal) (o : Option Round) → randomRound g (lent bytes) 0 ≡ o → told (unlessListed f w l (drawnRound g o w l) .answer) ≤ length bytes
+    go : (f : Option Refusal) (o : Option Round) → randomRound g (lent mode bytes) 0 ≡ o → told (unlessListed f w l (drawnRound g o w l) .answer) ≤ length bytes
     go (some f) o e = refused-told f (length bytes)
     go none none e = zero-le
-    go none (some r) e = random-within g bytes 0 r e zero-le .1
+    go none (some r) e = random-within g mode bytes 0 r e zero-le .1
 
-search-told : (g : Grid) (w : List ℤ) (bytes : List ℕ) (n : ℕ) → told (randomSearchCall g w bytes n .answer) ≤ length bytes
+search-told : (mode : Mode) (g : Grid) (w : List ℤ) (bytes : List ℕ) (n : ℕ) → told (randomSearchCall mode g w bytes n .answer) ≤ length bytes
 unfolding randomSearchCall
-search-told g w bytes n = go (firstGiven (gridChecks g w ++ roundsCheck n ∷ [])) (randomSearch g (lent bytes) n) refl
+search-told mode g w bytes n = go (firstGiven (gridChecks g w ++ roundsCheck n ∷ [])) (randomSearch g (lent mode bytes) n) refl
   where
-    go : (f : Option Refusal) (o : Option Searched) → randomSearch g (lent bytes) n ≡ o → told (unless f w (drawnSearch g o w) .answer) ≤ length bytes
+    go : (f : Option Refusal) (o : Option Searched) → randomSearch g (lent mode bytes) n ≡ o → told (unless f w (drawnSearch g o w) .answer) ≤ length bytes
     go (some f) o e = refused-told f (length bytes)
     go none none e = zero-le
-    go none (some r) e = search-within g bytes n r e
+    go none (some r) e = search-within g mode bytes n r e
 
 -- a place that was moved on by no more than the bytes left fits
 moved-fits : (r : Rolled) (place n : ℕ) → place < 2 ^ 64 → n < 2 ^ 64 → told (rolledAnswer r) ≤ n - place → standsAt r place < 2 ^ 64
@@ -63,8 +63,8 @@ module _ (r : Rolled) (place : ℕ) (bytes : List ℕ) (k : place < 2 ^ 64) (h :
   fits : (a : Answer) → rolledAnswer r ≡ a → told a ≤ length (drop place bytes) → standsAt r place < 2 ^ 64
   fits a e l = moved-fits r place (length bytes) k h (subst (λ (j : ℕ). told (rolledAnswer r) ≤ j) (length-drop place bytes) (subst (λ (b : Answer). told b ≤ length (drop place bytes)) (sym e) l))
 
-  pub round-fits : (g : Grid) (w : List ℤ) (ms : List ℕ) → rolledAnswer r ≡ randomRoundCall g w ms (drop place bytes) .answer → standsAt r place < 2 ^ 64
-  round-fits g w ms e = fits (randomRoundCall g w ms (drop place bytes) .answer) e (round-told g w ms (drop place bytes))
+  pub round-fits : (mode : Mode) (g : Grid) (w : List ℤ) (ms : List ℕ) → rolledAnswer r ≡ randomRoundCall mode g w ms (drop place bytes) .answer → standsAt r place < 2 ^ 64
+  round-fits mode g w ms e = fits (randomRoundCall mode g w ms (drop place bytes) .answer) e (round-told mode g w ms (drop place bytes))
 
-  pub search-fits : (g : Grid) (w : List ℤ) (n : ℕ) → rolledAnswer r ≡ randomSearchCall g w (drop place bytes) n .answer → standsAt r place < 2 ^ 64
-  search-fits g w n e = fits (randomSearchCall g w (drop place bytes) n .answer) e (search-told g w (drop place bytes) n)
+  pub search-fits : (mode : Mode) (g : Grid) (w : List ℤ) (n : ℕ) → rolledAnswer r ≡ randomSearchCall mode g w (drop place bytes) n .answer → standsAt r place < 2 ^ 64
+  search-fits mode g w n e = fits (randomSearchCall mode g w (drop place bytes) n .answer) e (search-told mode g w (drop place bytes) n)

@@ -1,11 +1,13 @@
 // The random calls with a reader of draw bytes, as they are and in the strict form: they read on from its place, and it then stands where the bytes used say.
 use draw_reader::DrawReader;
+use draws::Mode;
 use refusals::Checked;
 use zini::Rolled;
 ghost use mathlib.Core.Path.{_≡_};
 ghost use Prim.Native.Nat.{_<_, _^_};
 ghost use lib.ListN.{drop};
 ghost use Rattle.game.specs.Calls.{kept, keptListed, randomRoundCall, randomSearchCall, strictRandomRoundCall, strictRandomSearchCall};
+ghost use Rattle.draws.specs.Answers.{modeOf};
 ghost use Rattle.area.specs.Numbers.{gridOf};
 ghost use Rattle.answers.specs.Answers.{Keeps, KeepsList, rolledAnswer};
 ghost use Rattle.number_check.specs.Forms.{inForm};
@@ -27,11 +29,12 @@ pub fn round_from(
     list: &mut [u32],
     bytes: &[u8],
     place: usize,
+    mode: Mode,
 ) -> Rolled
-    ensures { λ r. ⌜ KeepsList (randomRoundCall (gridOf rows columns (now (grid .entry))) (now (work .entry)) (now (list .entry)) (drop place (now (bytes .entry)))) (rolledAnswer r) (now (work .exit)) (now (list .exit)) × (standsAt r place < 2 ^ 64) ⌝ }
+    ensures { λ r. ⌜ KeepsList (randomRoundCall (modeOf mode) (gridOf rows columns (now (grid .entry))) (now (work .entry)) (now (list .entry)) (drop place (now (bytes .entry)))) (rolledAnswer r) (now (work .exit)) (now (list .exit)) × (standsAt r place < 2 ^ 64) ⌝ }
 {
     let start = start_at(place, bytes.len());
-    zini::random_calls::random_round(rows, columns, grid, work, list, &bytes[start..])
+    zini::random_calls::random_round(rows, columns, grid, work, list, &bytes[start..], mode)
 }
 
 // Random search by the bytes from a place on.
@@ -42,12 +45,13 @@ pub fn search_from(
     work: &mut [i32],
     bytes: &[u8],
     place: usize,
+    mode: Mode,
     rounds: usize,
 ) -> Rolled
-    ensures { λ r. ⌜ Keeps (randomSearchCall (gridOf rows columns (now (grid .entry))) (now (work .entry)) (drop place (now (bytes .entry))) rounds) (rolledAnswer r) (now (work .exit)) × (standsAt r place < 2 ^ 64) ⌝ }
+    ensures { λ r. ⌜ Keeps (randomSearchCall (modeOf mode) (gridOf rows columns (now (grid .entry))) (now (work .entry)) (drop place (now (bytes .entry))) rounds) (rolledAnswer r) (now (work .exit)) × (standsAt r place < 2 ^ 64) ⌝ }
 {
     let start = start_at(place, bytes.len());
-    zini::random_calls::random_search(rows, columns, grid, work, &bytes[start..], rounds)
+    zini::random_calls::random_search(rows, columns, grid, work, &bytes[start..], mode, rounds)
 }
 
 // A single random round by the bytes from a place on, in the strict form or as it is.
@@ -59,14 +63,15 @@ pub(crate) fn round_in_form(
     list: &mut [u32],
     bytes: &[u8],
     place: usize,
+    mode: Mode,
     strict: bool,
 ) -> Rolled
-    ensures { λ r. ⌜ KeepsList (inForm «strict» (keptListed (now (work .entry)) (now (list .entry))) (gridOf rows columns (now (grid .entry))) (randomRoundCall (gridOf rows columns (now (grid .entry))) (now (work .entry)) (now (list .entry)) (drop place (now (bytes .entry))))) (rolledAnswer r) (now (work .exit)) (now (list .exit)) × (standsAt r place < 2 ^ 64) ⌝ }
+    ensures { λ r. ⌜ KeepsList (inForm «strict» (keptListed (now (work .entry)) (now (list .entry))) (gridOf rows columns (now (grid .entry))) (randomRoundCall (modeOf mode) (gridOf rows columns (now (grid .entry))) (now (work .entry)) (now (list .entry)) (drop place (now (bytes .entry))))) (rolledAnswer r) (now (work .exit)) (now (list .exit)) × (standsAt r place < 2 ^ 64) ⌝ }
 {
     let checked = number_check::check_form(rows, columns, grid, strict);
     match checked {
         Checked::Refused(first) => Rolled::Refused(first),
-        Checked::Fine => round_from(rows, columns, grid, work, list, bytes, place),
+        Checked::Fine => round_from(rows, columns, grid, work, list, bytes, place, mode),
     }
 }
 
@@ -78,15 +83,16 @@ pub(crate) fn search_in_form(
     work: &mut [i32],
     bytes: &[u8],
     place: usize,
+    mode: Mode,
     rounds: usize,
     strict: bool,
 ) -> Rolled
-    ensures { λ r. ⌜ Keeps (inForm «strict» (kept (now (work .entry))) (gridOf rows columns (now (grid .entry))) (randomSearchCall (gridOf rows columns (now (grid .entry))) (now (work .entry)) (drop place (now (bytes .entry))) rounds)) (rolledAnswer r) (now (work .exit)) × (standsAt r place < 2 ^ 64) ⌝ }
+    ensures { λ r. ⌜ Keeps (inForm «strict» (kept (now (work .entry))) (gridOf rows columns (now (grid .entry))) (randomSearchCall (modeOf mode) (gridOf rows columns (now (grid .entry))) (now (work .entry)) (drop place (now (bytes .entry))) rounds)) (rolledAnswer r) (now (work .exit)) × (standsAt r place < 2 ^ 64) ⌝ }
 {
     let checked = number_check::check_form(rows, columns, grid, strict);
     match checked {
         Checked::Refused(first) => Rolled::Refused(first),
-        Checked::Fine => search_from(rows, columns, grid, work, bytes, place, rounds),
+        Checked::Fine => search_from(rows, columns, grid, work, bytes, place, mode, rounds),
     }
 }
 
@@ -99,10 +105,11 @@ pub fn strict_round_from(
     list: &mut [u32],
     bytes: &[u8],
     place: usize,
+    mode: Mode,
 ) -> Rolled
-    ensures { λ r. ⌜ KeepsList (strictRandomRoundCall (gridOf rows columns (now (grid .entry))) (now (work .entry)) (now (list .entry)) (drop place (now (bytes .entry)))) (rolledAnswer r) (now (work .exit)) (now (list .exit)) × (standsAt r place < 2 ^ 64) ⌝ }
+    ensures { λ r. ⌜ KeepsList (strictRandomRoundCall (modeOf mode) (gridOf rows columns (now (grid .entry))) (now (work .entry)) (now (list .entry)) (drop place (now (bytes .entry)))) (rolledAnswer r) (now (work .exit)) (now (list .exit)) × (standsAt r place < 2 ^ 64) ⌝ }
 {
-    round_in_form(rows, columns, grid, work, list, bytes, place, true)
+    round_in_form(rows, columns, grid, work, list, bytes, place, mode, true)
 }
 
 // Random search in the strict form, by the bytes from a place on.
@@ -113,11 +120,12 @@ pub fn strict_search_from(
     work: &mut [i32],
     bytes: &[u8],
     place: usize,
+    mode: Mode,
     rounds: usize,
 ) -> Rolled
-    ensures { λ r. ⌜ Keeps (strictRandomSearchCall (gridOf rows columns (now (grid .entry))) (now (work .entry)) (drop place (now (bytes .entry))) rounds) (rolledAnswer r) (now (work .exit)) × (standsAt r place < 2 ^ 64) ⌝ }
+    ensures { λ r. ⌜ Keeps (strictRandomSearchCall (modeOf mode) (gridOf rows columns (now (grid .entry))) (now (work .entry)) (drop place (now (bytes .entry))) rounds) (rolledAnswer r) (now (work .exit)) × (standsAt r place < 2 ^ 64) ⌝ }
 {
-    search_in_form(rows, columns, grid, work, bytes, place, rounds, true)
+    search_in_form(rows, columns, grid, work, bytes, place, mode, rounds, true)
 }
 
 // Where a reader stands after a random call: on by the bytes used, or where it was after a refusal.
@@ -139,8 +147,9 @@ pub fn random_round<'g, 'w, 'l, 's, 'a>(
     work: &'w mut [i32],
     list: &'l mut [u32],
     reader: &'s mut DrawReader<'a>,
+    mode: Mode,
 ) -> Rolled
-    ensures { λ r. ⌜ KeepsList (randomRoundCall (gridOf rows columns (now (grid .entry))) (now (work .entry)) (now (list .entry)) (drop (now (reader .entry) .place) (now (now (reader .entry) .bytes)))) (rolledAnswer r) (now (work .exit)) (now (list .exit)) × (now (reader .exit) ≡ readOn (now (reader .entry)) r) ⌝ }
+    ensures { λ r. ⌜ KeepsList (randomRoundCall (modeOf mode) (gridOf rows columns (now (grid .entry))) (now (work .entry)) (now (list .entry)) (drop (now (reader .entry) .place) (now (now (reader .entry) .bytes)))) (rolledAnswer r) (now (work .exit)) (now (list .exit)) × (now (reader .exit) ≡ readOn (now (reader .entry)) r) ⌝ }
 {
     let rolled = round_in_form(
         rows,
@@ -150,6 +159,7 @@ pub fn random_round<'g, 'w, 'l, 's, 'a>(
         list,
         reader.bytes,
         reader.place,
+        mode,
         false,
     );
     reader.place = place_after(rolled, reader.place);
@@ -164,8 +174,9 @@ pub fn strict_random_round<'g, 'w, 'l, 's, 'a>(
     work: &'w mut [i32],
     list: &'l mut [u32],
     reader: &'s mut DrawReader<'a>,
+    mode: Mode,
 ) -> Rolled
-    ensures { λ r. ⌜ KeepsList (strictRandomRoundCall (gridOf rows columns (now (grid .entry))) (now (work .entry)) (now (list .entry)) (drop (now (reader .entry) .place) (now (now (reader .entry) .bytes)))) (rolledAnswer r) (now (work .exit)) (now (list .exit)) × (now (reader .exit) ≡ readOn (now (reader .entry)) r) ⌝ }
+    ensures { λ r. ⌜ KeepsList (strictRandomRoundCall (modeOf mode) (gridOf rows columns (now (grid .entry))) (now (work .entry)) (now (list .entry)) (drop (now (reader .entry) .place) (now (now (reader .entry) .bytes)))) (rolledAnswer r) (now (work .exit)) (now (list .exit)) × (now (reader .exit) ≡ readOn (now (reader .entry)) r) ⌝ }
 {
     let rolled = round_in_form(
         rows,
@@ -175,6 +186,7 @@ pub fn strict_random_round<'g, 'w, 'l, 's, 'a>(
         list,
         reader.bytes,
         reader.place,
+        mode,
         true,
     );
     reader.place = place_after(rolled, reader.place);
@@ -188,9 +200,10 @@ pub fn random_search<'g, 'w, 's, 'a>(
     grid: &'g [i32],
     work: &'w mut [i32],
     reader: &'s mut DrawReader<'a>,
+    mode: Mode,
     rounds: usize,
 ) -> Rolled
-    ensures { λ r. ⌜ Keeps (randomSearchCall (gridOf rows columns (now (grid .entry))) (now (work .entry)) (drop (now (reader .entry) .place) (now (now (reader .entry) .bytes))) rounds) (rolledAnswer r) (now (work .exit)) × (now (reader .exit) ≡ readOn (now (reader .entry)) r) ⌝ }
+    ensures { λ r. ⌜ Keeps (randomSearchCall (modeOf mode) (gridOf rows columns (now (grid .entry))) (now (work .entry)) (drop (now (reader .entry) .place) (now (now (reader .entry) .bytes))) rounds) (rolledAnswer r) (now (work .exit)) × (now (reader .exit) ≡ readOn (now (reader .entry)) r) ⌝ }
 {
     let rolled = search_in_form(
         rows,
@@ -199,6 +212,7 @@ pub fn random_search<'g, 'w, 's, 'a>(
         work,
         reader.bytes,
         reader.place,
+        mode,
         rounds,
         false,
     );
@@ -213,9 +227,10 @@ pub fn strict_random_search<'g, 'w, 's, 'a>(
     grid: &'g [i32],
     work: &'w mut [i32],
     reader: &'s mut DrawReader<'a>,
+    mode: Mode,
     rounds: usize,
 ) -> Rolled
-    ensures { λ r. ⌜ Keeps (strictRandomSearchCall (gridOf rows columns (now (grid .entry))) (now (work .entry)) (drop (now (reader .entry) .place) (now (now (reader .entry) .bytes))) rounds) (rolledAnswer r) (now (work .exit)) × (now (reader .exit) ≡ readOn (now (reader .entry)) r) ⌝ }
+    ensures { λ r. ⌜ Keeps (strictRandomSearchCall (modeOf mode) (gridOf rows columns (now (grid .entry))) (now (work .entry)) (drop (now (reader .entry) .place) (now (now (reader .entry) .bytes))) rounds) (rolledAnswer r) (now (work .exit)) × (now (reader .exit) ≡ readOn (now (reader .entry)) r) ⌝ }
 {
     let rolled = search_in_form(
         rows,
@@ -224,6 +239,7 @@ pub fn strict_random_search<'g, 'w, 's, 'a>(
         work,
         reader.bytes,
         reader.place,
+        mode,
         rounds,
         true,
     );

@@ -1,9 +1,11 @@
 // The rounds and the replay over runs of move records, each as it is and in a strict form: in a round the flat list that is lent beside the run is written by the covered call, and its words become the run's records.
+use draws::Mode;
 use records::MoveRecord;
 use zini::Priced;
 use zini::Replayed;
 use zini::Rolled;
 ghost use mathlib.Core.Bool.{false, true};
+ghost use Rattle.draws.specs.Answers.{modeOf};
 ghost use Rattle.area.specs.Numbers.{gridOf};
 ghost use Rattle.answers.specs.Answers.{KeepsList, pricedAnswer, replayedAnswer, rolledAnswer};
 ghost use Rattle.record_checks.specs.Promises.{KeepsRecords, priceRecordsCall, randomRecordsCall, replayRecordsCall, strictPriceRecordsCall, strictRandomRecordsCall, strictReplayRecordsCall};
@@ -69,8 +71,9 @@ pub fn random_round_records(
     list: &mut [u32],
     run: &mut [MoveRecord],
     draws: &[u8],
+    mode: Mode,
 ) -> Rolled
-    ensures { λ r. ⌜ KeepsRecords (randomRecordsCall (gridOf rows columns (now (grid .entry))) (now (work .entry)) (now (list .entry)) (now (run .entry)) (now (draws .entry))) (rolledAnswer r) (now (work .exit)) (now (list .exit)) (now (run .exit)) ⌝ }
+    ensures { λ r. ⌜ KeepsRecords (randomRecordsCall (modeOf mode) (gridOf rows columns (now (grid .entry))) (now (work .entry)) (now (list .entry)) (now (run .entry)) (now (draws .entry))) (rolledAnswer r) (now (work .exit)) (now (list .exit)) (now (run .exit)) ⌝ }
 {
     let rolled = record_checks::random_in_form(
         rows,
@@ -79,6 +82,7 @@ pub fn random_round_records(
         work,
         list,
         draws,
+        mode,
         run.len(),
         false,
     );
@@ -175,8 +179,9 @@ pub fn strict_random_round_records(
     list: &mut [u32],
     run: &mut [MoveRecord],
     draws: &[u8],
+    mode: Mode,
 ) -> Rolled
-    ensures { λ r. ⌜ KeepsRecords (strictRandomRecordsCall (gridOf rows columns (now (grid .entry))) (now (work .entry)) (now (list .entry)) (now (run .entry)) (now (draws .entry))) (rolledAnswer r) (now (work .exit)) (now (list .exit)) (now (run .exit)) ⌝ }
+    ensures { λ r. ⌜ KeepsRecords (strictRandomRecordsCall (modeOf mode) (gridOf rows columns (now (grid .entry))) (now (work .entry)) (now (list .entry)) (now (run .entry)) (now (draws .entry))) (rolledAnswer r) (now (work .exit)) (now (list .exit)) (now (run .exit)) ⌝ }
 {
     let rolled = record_checks::random_in_form(
         rows,
@@ -185,6 +190,7 @@ pub fn strict_random_round_records(
         work,
         list,
         draws,
+        mode,
         run.len(),
         true,
     );

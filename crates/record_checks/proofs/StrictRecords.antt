@@ -6,6 +6,7 @@ use mathlib.Core.List.{List, [], _∷_, map}
 use mathlib.Core.Option.{Option, none, some}
 use lib.IntN.{ℤ}
 use lib.ListN.{length, take}
+use Rattle.game.specs.Draws.{Mode}
 use Rattle.game.specs.Grid.{Grid}
 use Rattle.game.specs.Calls.{ListOutcome, Refusal, aboveCheck, boardChecks, firstGiven, keptListed, priceCall, randomRoundCall, replayCall, roomCheck, strictly, unless, workCheck}
 use Rattle.game.proofs.Checks.{first-decides}
@@ -26,8 +27,8 @@ module _ (g : Grid) (r : AllRight g) (ws : List ℤ) (ms : List ℕ) (run : List
   pub right-price : (openingsFirst : Bool) → strictPriceRecordsCall openingsFirst g ws ms run ≡ priceRecordsCall openingsFirst g ws ms run
   right-price openingsFirst = right-round (priceCall openingsFirst g ws ms)
 
-  pub right-random : (bytes : List ℕ) → strictRandomRecordsCall g ws ms run bytes ≡ randomRecordsCall g ws ms run bytes
-  right-random bytes = right-round (randomRoundCall g ws ms bytes)
+  pub right-random : (mode : Mode) (bytes : List ℕ) → strictRandomRecordsCall mode g ws ms run bytes ≡ randomRecordsCall mode g ws ms run bytes
+  right-random mode bytes = right-round (randomRoundCall mode g ws ms bytes)
 
   -- SHAPE or BOARD of a replay copies no word
   replay-board : (n : ℕ) (f : Refusal) → firstGiven (boardChecks g) ≡ some f → replayRecordsCall g ws ms run n ≡ keptListed ws ms f

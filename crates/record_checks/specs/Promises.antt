@@ -7,6 +7,7 @@ use mathlib.Core.Option.{Option, none, some}
 use lib.IntN.{ℤ}
 use lib.Dec.{eqb}
 use lib.ListN.{getD, length, take}
+use Rattle.game.specs.Draws.{Mode}
 use Rattle.game.specs.Grid.{Grid}
 use Rattle.game.specs.Calls.{Answer, Check, ListOutcome, Outcome, Refusal, aboveCheck, draws, firstGiven, gridChecks, keptListed, numberOf, priceCall, randomRoundCall, replayCall, roomCheck, strictly, unless, unlessListed}
 use Rattle.answers.specs.Answers.{KeepsList}
@@ -39,8 +40,8 @@ abbrev pub priceRecordsCall : Bool → Grid → List ℤ → List ℕ → List M
 priceRecordsCall openingsFirst g ws ms run = inRecords g (within g ws ms (length run) (priceCall openingsFirst g ws ms)) run
 
 -- a single random round over a run
-abbrev pub randomRecordsCall : Grid → List ℤ → List ℕ → List MoveRecord → List ℕ → RecordsOutcome
-randomRecordsCall g ws ms run bytes = inRecords g (within g ws ms (length run) (randomRoundCall g ws ms bytes)) run
+abbrev pub randomRecordsCall : Mode → Grid → List ℤ → List ℕ → List MoveRecord → List ℕ → RecordsOutcome
+randomRecordsCall mode g ws ms run bytes = inRecords g (within g ws ms (length run) (randomRoundCall mode g ws ms bytes)) run
 
 -- a refusal changes nothing lent: the work area, the list and the run stay
 abbrev pub keptRecords : List ℤ → List ℕ → List MoveRecord → Refusal → RecordsOutcome
@@ -51,8 +52,8 @@ abbrev pub strictPriceRecordsCall : Bool → Grid → List ℤ → List ℕ → 
 strictPriceRecordsCall openingsFirst g ws ms run = strictly (keptRecords ws ms run) g (priceRecordsCall openingsFirst g ws ms run)
 
 -- a single random round over a run, strictly
-abbrev pub strictRandomRecordsCall : Grid → List ℤ → List ℕ → List MoveRecord → List ℕ → RecordsOutcome
-strictRandomRecordsCall g ws ms run bytes = strictly (keptRecords ws ms run) g (randomRecordsCall g ws ms run bytes)
+abbrev pub strictRandomRecordsCall : Mode → Grid → List ℤ → List ℕ → List MoveRecord → List ℕ → RecordsOutcome
+strictRandomRecordsCall mode g ws ms run bytes = strictly (keptRecords ws ms run) g (randomRecordsCall mode g ws ms run bytes)
 
 -- a call over a run keeps its promise: that of the flat call, and the run's
 pub record KeepsRecords (promise : RecordsOutcome) (answer : Answer) (work : List ℤ) (list : List ℕ) (run : List MoveRecord) : Type 0 where

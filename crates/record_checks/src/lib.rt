@@ -1,4 +1,5 @@
 // What the calls over runs of move records decide before and after the flat call: by the run's length whether it is refused, and how many records are written or copied. No user calls these: `record_calls` does.
+use draws::Mode;
 use refusals::Checked;
 use refusals::Refusal;
 use zini::Priced;
@@ -11,6 +12,7 @@ ghost use lib.IntN.{ℤ};
 ghost use lib.ListN.{length};
 ghost use Rattle.game.specs.Calls.{firstGiven, keptListed, priceCall, randomRoundCall, refuses, replayCall, unless};
 ghost use Rattle.area.specs.Numbers.{gridOf};
+ghost use Rattle.draws.specs.Answers.{modeOf};
 ghost use Rattle.refusals.specs.Names.{named, refusalOf};
 ghost use Rattle.number_check.specs.Forms.{inForm};
 ghost use Rattle.answers.specs.Answers.{Keeps, KeepsList, pricedAnswer, replayedAnswer, rolledAnswer};
@@ -43,14 +45,23 @@ pub fn random_within(
     work: &mut [i32],
     list: &mut [u32],
     draws: &[u8],
+    mode: Mode,
     room: usize,
 ) -> Rolled
-    ensures { λ r. ⌜ KeepsList (within (gridOf rows columns (now (grid .entry))) (now (work .entry)) (now (list .entry)) room (randomRoundCall (gridOf rows columns (now (grid .entry))) (now (work .entry)) (now (list .entry)) (now (draws .entry)))) (rolledAnswer r) (now (work .exit)) (now (list .exit)) ⌝ }
+    ensures { λ r. ⌜ KeepsList (within (gridOf rows columns (now (grid .entry))) (now (work .entry)) (now (list .entry)) room (randomRoundCall (modeOf mode) (gridOf rows columns (now (grid .entry))) (now (work .entry)) (now (list .entry)) (now (draws .entry)))) (rolledAnswer r) (now (work .exit)) (now (list .exit)) ⌝ }
 {
     let checked = checks::check_room(rows, columns, grid, work, room);
     match checked {
         Checked::Refused(refusal) => Rolled::Refused(refusal),
-        Checked::Fine => zini::random_calls::random_round(rows, columns, grid, work, list, draws),
+        Checked::Fine => zini::random_calls::random_round(
+            rows,
+            columns,
+            grid,
+            work,
+            list,
+            draws,
+            mode,
+        ),
     }
 }
 
@@ -82,15 +93,16 @@ pub fn random_in_form(
     work: &mut [i32],
     list: &mut [u32],
     draws: &[u8],
+    mode: Mode,
     room: usize,
     strict: bool,
 ) -> Rolled
-    ensures { λ r. ⌜ KeepsList (inForm «strict» (keptListed (now (work .entry)) (now (list .entry))) (gridOf rows columns (now (grid .entry))) (within (gridOf rows columns (now (grid .entry))) (now (work .entry)) (now (list .entry)) room (randomRoundCall (gridOf rows columns (now (grid .entry))) (now (work .entry)) (now (list .entry)) (now (draws .entry))))) (rolledAnswer r) (now (work .exit)) (now (list .exit)) ⌝ }
+    ensures { λ r. ⌜ KeepsList (inForm «strict» (keptListed (now (work .entry)) (now (list .entry))) (gridOf rows columns (now (grid .entry))) (within (gridOf rows columns (now (grid .entry))) (now (work .entry)) (now (list .entry)) room (randomRoundCall (modeOf mode) (gridOf rows columns (now (grid .entry))) (now (work .entry)) (now (list .entry)) (now (draws .entry))))) (rolledAnswer r) (now (work .exit)) (now (list .exit)) ⌝ }
 {
     let checked = number_check::check_form(rows, columns, grid, strict);
     match checked {
         Checked::Refused(refusal) => Rolled::Refused(refusal),
-        Checked::Fine => random_within(rows, columns, grid, work, list, draws, room),
+        Checked::Fine => random_within(rows, columns, grid, work, list, draws, mode, room),
     }
 }
 

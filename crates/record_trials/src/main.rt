@@ -1,5 +1,6 @@
-// Runs the calls over move records and by a draw reader on P7 and P11, as they are and in the strict form, and their refusals: each prints its answer and what was lent.
+// Runs the calls over move records and by a draw reader on P7 and P11, as they are and in the strict form, in both modes of the draws, and their refusals: each prints its answer and what was lent.
 use draws::Drawn;
+use draws::Mode;
 use records::MoveRecord;
 use trials::plain;
 use trials::plain::Plain;
@@ -8,6 +9,7 @@ use zini::Replayed;
 use zini::Rolled;
 ghost use mathlib.Core.Bool.{false, true};
 ghost use Rattle.area.specs.Numbers.{gridOf};
+ghost use Rattle.draws.specs.Answers.{modeOf};
 ghost use Rattle.answers.specs.Answers.{KeepsList, pricedAnswer, replayedAnswer, rolledAnswer};
 ghost use Rattle.record_checks.specs.Promises.{KeepsRecords, priceRecordsCall, randomRecordsCall, replayRecordsCall, strictPriceRecordsCall, strictRandomRecordsCall, strictReplayRecordsCall};
 ghost use Rattle.record_trials.specs.Readings.{Twice};
@@ -72,8 +74,9 @@ fn random_run(
     list: &mut [u32],
     run: [MoveRecord; 9],
     draws: &[u8],
+    mode: Mode,
 ) -> RolledRun
-    ensures { λ r. ⌜ KeepsRecords (randomRecordsCall (gridOf rows columns (now (grid .entry))) (now (work .entry)) (now (list .entry)) run (now (draws .entry))) (rolledAnswer (r .answer)) (now (work .exit)) (now (list .exit)) (r .run) ⌝ }
+    ensures { λ r. ⌜ KeepsRecords (randomRecordsCall (modeOf mode) (gridOf rows columns (now (grid .entry))) (now (work .entry)) (now (list .entry)) run (now (draws .entry))) (rolledAnswer (r .answer)) (now (work .exit)) (now (list .exit)) (r .run) ⌝ }
 {
     let mut lent = run;
     let answer = record_calls::random_round_records(
@@ -84,6 +87,7 @@ fn random_run(
         list,
         &mut lent,
         draws,
+        mode,
     );
     RolledRun { answer, run: lent }
 }
@@ -112,13 +116,14 @@ fn read_twice(
     list: &mut [u32],
     bytes: &[u8],
     place: usize,
+    mode: Mode,
     rounds: usize,
 ) -> ReadTwice
-    ensures { λ r. ⌜ Twice false (gridOf rows columns (now (grid .entry))) (now (work .entry)) (now (list .entry)) (now (bytes .entry)) place rounds (r .round) (r .search) (r .place) (now (work .exit)) (now (list .exit)) ⌝ }
+    ensures { λ r. ⌜ Twice false (modeOf mode) (gridOf rows columns (now (grid .entry))) (now (work .entry)) (now (list .entry)) (now (bytes .entry)) place rounds (r .round) (r .search) (r .place) (now (work .exit)) (now (list .exit)) ⌝ }
 {
     let mut reader = draw_reader::reader(bytes, place);
-    let round = reader_calls::random_round(rows, columns, grid, work, list, &mut reader);
-    let search = reader_calls::random_search(rows, columns, grid, work, &mut reader, rounds);
+    let round = reader_calls::random_round(rows, columns, grid, work, list, &mut reader, mode);
+    let search = reader_calls::random_search(rows, columns, grid, work, &mut reader, mode, rounds);
     ReadTwice {
         round,
         search,
@@ -174,8 +179,9 @@ fn strict_random_run(
     list: &mut [u32],
     run: [MoveRecord; 9],
     draws: &[u8],
+    mode: Mode,
 ) -> RolledRun
-    ensures { λ r. ⌜ KeepsRecords (strictRandomRecordsCall (gridOf rows columns (now (grid .entry))) (now (work .entry)) (now (list .entry)) run (now (draws .entry))) (rolledAnswer (r .answer)) (now (work .exit)) (now (list .exit)) (r .run) ⌝ }
+    ensures { λ r. ⌜ KeepsRecords (strictRandomRecordsCall (modeOf mode) (gridOf rows columns (now (grid .entry))) (now (work .entry)) (now (list .entry)) run (now (draws .entry))) (rolledAnswer (r .answer)) (now (work .exit)) (now (list .exit)) (r .run) ⌝ }
 {
     let mut lent = run;
     let answer = record_calls::strict_random_round_records(
@@ -186,6 +192,7 @@ fn strict_random_run(
         list,
         &mut lent,
         draws,
+        mode,
     );
     RolledRun { answer, run: lent }
 }
@@ -214,13 +221,30 @@ fn strict_read_twice(
     list: &mut [u32],
     bytes: &[u8],
     place: usize,
+    mode: Mode,
     rounds: usize,
 ) -> ReadTwice
-    ensures { λ r. ⌜ Twice true (gridOf rows columns (now (grid .entry))) (now (work .entry)) (now (list .entry)) (now (bytes .entry)) place rounds (r .round) (r .search) (r .place) (now (work .exit)) (now (list .exit)) ⌝ }
+    ensures { λ r. ⌜ Twice true (modeOf mode) (gridOf rows columns (now (grid .entry))) (now (work .entry)) (now (list .entry)) (now (bytes .entry)) place rounds (r .round) (r .search) (r .place) (now (work .exit)) (now (list .exit)) ⌝ }
 {
     let mut reader = draw_reader::reader(bytes, place);
-    let round = reader_calls::strict_random_round(rows, columns, grid, work, list, &mut reader);
-    let search = reader_calls::strict_random_search(rows, columns, grid, work, &mut reader, rounds);
+    let round = reader_calls::strict_random_round(
+        rows,
+        columns,
+        grid,
+        work,
+        list,
+        &mut reader,
+        mode,
+    );
+    let search = reader_calls::strict_random_search(
+        rows,
+        columns,
+        grid,
+        work,
+        &mut reader,
+        mode,
+        rounds,
+    );
     ReadTwice {
         round,
         search,
@@ -309,11 +333,12 @@ fn random_in_form(
     work: &mut [i32],
     list: &mut [u32],
     draws: &[u8],
+    mode: Mode,
 ) -> RolledRun {
     if strict {
-        return strict_random_run(rows, columns, grid, work, list, unwritten(), draws);
+        return strict_random_run(rows, columns, grid, work, list, unwritten(), draws, mode);
     }
-    random_run(rows, columns, grid, work, list, unwritten(), draws)
+    random_run(rows, columns, grid, work, list, unwritten(), draws, mode)
 }
 
 // A replay of records, in the strict form or as it is.
@@ -341,12 +366,13 @@ fn twice_in_form(
     list: &mut [u32],
     bytes: &[u8],
     place: usize,
+    mode: Mode,
     rounds: usize,
 ) -> ReadTwice {
     if strict {
-        return strict_read_twice(3, 3, grid, work, list, bytes, place, rounds);
+        return strict_read_twice(3, 3, grid, work, list, bytes, place, mode, rounds);
     }
-    read_twice(3, 3, grid, work, list, bytes, place, rounds)
+    read_twice(3, 3, grid, work, list, bytes, place, mode, rounds)
 }
 
 // A random round on three rows of three by the bytes from a place on, in the strict form or as it is.
@@ -357,11 +383,12 @@ fn round_in_form(
     list: &mut [u32],
     bytes: &[u8],
     place: usize,
+    mode: Mode,
 ) -> Rolled {
     if strict {
-        return reader_calls::strict_round_from(3, 3, grid, work, list, bytes, place);
+        return reader_calls::strict_round_from(3, 3, grid, work, list, bytes, place, mode);
     }
-    reader_calls::round_from(3, 3, grid, work, list, bytes, place)
+    reader_calls::round_from(3, 3, grid, work, list, bytes, place, mode)
 }
 
 // A search on three rows of three by the bytes from a place on, in the strict form or as it is.
@@ -371,12 +398,13 @@ fn search_in_form(
     work: &mut [i32],
     bytes: &[u8],
     place: usize,
+    mode: Mode,
     rounds: usize,
 ) -> Rolled {
     if strict {
-        return reader_calls::strict_search_from(3, 3, grid, work, bytes, place, rounds);
+        return reader_calls::strict_search_from(3, 3, grid, work, bytes, place, mode, rounds);
     }
-    reader_calls::search_from(3, 3, grid, work, bytes, place, rounds)
+    reader_calls::search_from(3, 3, grid, work, bytes, place, mode, rounds)
 }
 
 // Greedy over a run: its answer, and what was lent.
@@ -423,8 +451,9 @@ fn rolls(
     work: &mut [i32],
     list: &mut [u32],
     draws: &[u8],
+    mode: Mode,
 ) {
-    let rolled = random_in_form(strict, rows, columns, grid, work, list, draws);
+    let rolled = random_in_form(strict, rows, columns, grid, work, list, draws, mode);
     let answer = rolled.answer;
     let run = rolled.run;
     report(strict, name, plain::of_rolled(answer));
@@ -485,6 +514,7 @@ fn seven(strict: bool) {
         &mut w3,
         &mut l3,
         &draws,
+        Mode::Old,
     );
 }
 
@@ -525,18 +555,19 @@ fn eleven(strict: bool) {
 }
 
 // A random round on P11 over a run.
-fn round_11(strict: bool, name: &[u8], draws: &[u8]) {
+fn round_11(strict: bool, name: &[u8], draws: &[u8], mode: Mode) {
     let grid = p11(strict);
     let mut work = [7i32; 46];
     let mut list = [4294967295u32; 10];
-    rolls(strict, name, 3, 3, &grid, &mut work, &mut list, draws);
+    rolls(strict, name, 3, 3, &grid, &mut work, &mut list, draws, mode);
 }
 
 // The random rounds of RULES 11.3 on P11, and DRAWS.
 fn rounds_11(strict: bool) {
-    round_11(strict, b"P11, 12 zero bytes", &[0u8; 12]);
-    round_11(strict, b"P11, 11 zero bytes", &[0u8; 11]);
-    round_11(strict, b"P11, 07 and seven 00", &[7u8, 0, 0, 0, 0, 0, 0, 0]);
+    round_11(strict, b"P11, 12 zero bytes", &[0u8; 12], Mode::Old);
+    round_11(strict, b"P11, 11 zero bytes", &[0u8; 11], Mode::Old);
+    let bytes = [7u8, 0, 0, 0, 0, 0, 0, 0];
+    round_11(strict, b"P11, 07 and seven 00", &bytes, Mode::Old);
 }
 
 // Nine records for ten cells: TRACE, or NUMBER where a value is wrong.
@@ -545,7 +576,17 @@ fn short_run(strict: bool, name: &[u8], grid: &[i32]) {
     let mut l = [4294967295u32; 10];
     greedy(strict, name, 2, 5, grid, &mut w, &mut l);
     openings_first(strict, b" openings-first", 2, 5, grid, &mut w, &mut l);
-    rolls(strict, b" random", 2, 5, grid, &mut w, &mut l, &[0u8; 12]);
+    rolls(
+        strict,
+        b" random",
+        2,
+        5,
+        grid,
+        &mut w,
+        &mut l,
+        &[0u8; 12],
+        Mode::Old,
+    );
 }
 
 // TRACE: a list of eight words for nine cells.
@@ -555,7 +596,17 @@ fn short_list(strict: bool) {
     let mut l = [4294967295u32; 8];
     greedy(strict, b"P11, eight words", 3, 3, &grid, &mut w, &mut l);
     openings_first(strict, b" openings-first", 3, 3, &grid, &mut w, &mut l);
-    rolls(strict, b" random", 3, 3, &grid, &mut w, &mut l, &[0u8; 12]);
+    rolls(
+        strict,
+        b" random",
+        3,
+        3,
+        &grid,
+        &mut w,
+        &mut l,
+        &[0u8; 12],
+        Mode::Old,
+    );
 }
 
 // P11's greedy moves as records, and the rest of the run as it is lent.
@@ -606,9 +657,10 @@ fn reads(
     list: &mut [u32],
     bytes: &[u8],
     place: usize,
+    mode: Mode,
     rounds: usize,
 ) {
-    let both = twice_in_form(strict, grid, work, list, bytes, place, rounds);
+    let both = twice_in_form(strict, grid, work, list, bytes, place, mode, rounds);
     let first = both.round;
     let second = both.search;
     report(strict, name, plain::of_rolled(first));
@@ -621,7 +673,7 @@ fn reads(
 }
 
 // Two calls on P11 by one reader.
-fn reads_11(strict: bool, name: &[u8], bytes: &[u8], place: usize, rounds: usize) {
+fn reads_11(strict: bool, name: &[u8], bytes: &[u8], place: usize, mode: Mode, rounds: usize) {
     let grid = p11(strict);
     let mut work = [7i32; 46];
     let mut list = [4294967295u32; 10];
@@ -633,6 +685,7 @@ fn reads_11(strict: bool, name: &[u8], bytes: &[u8], place: usize, rounds: usize
         &mut list,
         bytes,
         place,
+        mode,
         rounds,
     );
 }
@@ -640,11 +693,11 @@ fn reads_11(strict: bool, name: &[u8], bytes: &[u8], place: usize, rounds: usize
 // A reader goes on over two calls, stays where it is after ROUNDS and DRAWS, and may stand past its bytes.
 fn readers(strict: bool) {
     let bytes = [7u8, 0, 0, 0, 0, 0, 0, 0, 0, 0, 0, 0, 0, 0, 0, 0, 0, 0, 0, 0];
-    reads_11(strict, b"20 bytes", &bytes, 0, 1);
-    reads_11(strict, b"no rounds", &bytes, 0, 0);
-    reads_11(strict, b"two rounds", &bytes, 0, 2);
-    reads_11(strict, b"from 8", &bytes, 8, 1);
-    reads_11(strict, b"from 21", &bytes, 21, 1);
+    reads_11(strict, b"20 bytes", &bytes, 0, Mode::Old, 1);
+    reads_11(strict, b"no rounds", &bytes, 0, Mode::Old, 0);
+    reads_11(strict, b"two rounds", &bytes, 0, Mode::Old, 2);
+    reads_11(strict, b"from 8", &bytes, 8, Mode::Old, 1);
+    reads_11(strict, b"from 21", &bytes, 21, Mode::Old, 1);
 }
 
 // The random calls by the bytes from a place on.
@@ -656,30 +709,67 @@ fn reads_from(
     list: &mut [u32],
     bytes: &[u8],
     place: usize,
+    mode: Mode,
     rounds: usize,
 ) {
-    let rolled = round_in_form(strict, grid, work, list, bytes, place);
+    let rolled = round_in_form(strict, grid, work, list, bytes, place, mode);
     report(strict, name, plain::of_rolled(rolled));
     trials::print_list(list);
     trials::print_area(work);
-    let searched = search_in_form(strict, grid, work, bytes, place, rounds);
+    let searched = search_in_form(strict, grid, work, bytes, place, mode, rounds);
     report(strict, b" a search", plain::of_rolled(searched));
     trials::print_area(work);
 }
 
 // The random calls on P11 by the bytes from a place on.
-fn from_11(strict: bool, name: &[u8], bytes: &[u8], place: usize) {
+fn from_11(strict: bool, name: &[u8], bytes: &[u8], place: usize, mode: Mode) {
     let grid = p11(strict);
     let mut work = [7i32; 46];
     let mut list = [4294967295u32; 10];
-    reads_from(strict, name, &grid, &mut work, &mut list, bytes, place, 1);
+    reads_from(
+        strict,
+        name,
+        &grid,
+        &mut work,
+        &mut list,
+        bytes,
+        place,
+        mode,
+        1,
+    );
 }
 
 // The bytes from 4 and from past their end on.
 fn froms(strict: bool) {
     let bytes = [9u8, 9, 9, 9, 7, 0, 0, 0, 0, 0, 0, 0];
-    from_11(strict, b"from 4", &bytes, 4);
-    from_11(strict, b"from 13", &bytes, 13);
+    from_11(strict, b"from 4", &bytes, 4, Mode::Old);
+    from_11(strict, b"from 13", &bytes, 13, Mode::Old);
+}
+
+// Eight words, each 0 but the third, which a fair draw among 3 spends.
+fn third_spent() -> [u8; 32] {
+    let mut bytes = [0u8; 32];
+    bytes[8] = 255;
+    bytes[9] = 255;
+    bytes[10] = 255;
+    bytes[11] = 255;
+    bytes
+}
+
+// P11 in the fair mode, whose draws are among 4, 3 and 2: no word is spent, one is, the draws run dry by it; a reader goes on over one, and stays before one that leaves too few.
+fn fair_11(strict: bool) {
+    let bytes = third_spent();
+    round_11(strict, b"P11, fair, 12 zero bytes", &[0u8; 12], Mode::Fair);
+    round_11(
+        strict,
+        b"P11, fair, a word spent",
+        &bytes[4..20],
+        Mode::Fair,
+    );
+    round_11(strict, b"P11, fair, then dry", &bytes[4..16], Mode::Fair);
+    reads_11(strict, b"fair, from 4", &bytes, 4, Mode::Fair, 1);
+    reads_11(strict, b"fair, 15 bytes", &bytes[0..15], 4, Mode::Fair, 1);
+    from_11(strict, b"fair, the bytes from 4", &bytes, 4, Mode::Fair);
 }
 
 // The calls over P7 and P11, each in the strict form or as it is.
@@ -693,13 +783,24 @@ fn calls(strict: bool) {
     replayed_11(strict);
     readers(strict);
     froms(strict);
+    fair_11(strict);
 }
 
 // NUMBER: each strict call over a run, on three rows of three.
 fn wrong_runs(name: &[u8], grid: &[i32], work: &mut [i32], list: &mut [u32], count: usize) {
     greedy(true, name, 3, 3, grid, work, list);
     openings_first(true, b" openings-first", 3, 3, grid, work, list);
-    rolls(true, b" random", 3, 3, grid, work, list, &[0u8; 12]);
+    rolls(
+        true,
+        b" random",
+        3,
+        3,
+        grid,
+        work,
+        list,
+        &[0u8; 12],
+        Mode::Old,
+    );
     replays(
         true,
         b" replayed",
@@ -716,8 +817,28 @@ fn wrong_runs(name: &[u8], grid: &[i32], work: &mut [i32], list: &mut [u32], cou
 // NUMBER: each strict call by a reader that stands at 4, and by the bytes from 4 on.
 fn wrong_reads(grid: &[i32], work: &mut [i32], list: &mut [u32], rounds: usize) {
     let bytes = [0u8; 24];
-    reads(true, b" by a reader", grid, work, list, &bytes, 4, rounds);
-    reads_from(true, b" from 4", grid, work, list, &bytes, 4, rounds);
+    reads(
+        true,
+        b" by a reader",
+        grid,
+        work,
+        list,
+        &bytes,
+        4,
+        Mode::Old,
+        rounds,
+    );
+    reads_from(
+        true,
+        b" from 4",
+        grid,
+        work,
+        list,
+        &bytes,
+        4,
+        Mode::Old,
+        rounds,
+    );
 }
 
 // P11 with its numbers, but a 2 at row 0, column 1, and one at row 2, column 0: that is cell 2, the lower.
@@ -753,9 +874,9 @@ fn wrong() {
     short_run(true, b"2 by 5, two wrong, nine records", &grid);
 }
 
-// A draw among 8 by a reader at a place: what is taken, and where the next draw reads.
-fn drawn(bytes: &[u8], place: usize) {
-    let draw = draw_reader::draw_from(bytes, place, 8);
+// A draw among n by a reader at a place: what is taken, and where the next draw reads.
+fn drawn(bytes: &[u8], place: usize, mode: Mode, n: usize) {
+    let draw = draw_reader::draw_from(bytes, place, mode, n);
     trials::print_number(place as u64);
     match draw {
         Drawn::Place(taken, _) => {
@@ -771,13 +892,45 @@ fn drawn(bytes: &[u8], place: usize) {
     io::write_all(1, b"\n");
 }
 
-// The draws of a reader from three places.
+// The draws of a reader among 8 from three places.
 fn draws_of(name: &[u8], bytes: &[u8]) {
     io::write_all(1, name);
     io::write_all(1, b"\n");
-    drawn(bytes, 0);
-    drawn(bytes, 4);
-    drawn(bytes, 8);
+    drawn(bytes, 0, Mode::Old, 8);
+    drawn(bytes, 4, Mode::Old, 8);
+    drawn(bytes, 8, Mode::Old, 8);
+}
+
+// A draw among n in the old mode and in the fair one, of a word at the top with this low byte, and then one of 1.
+fn both_modes(low: u8, n: usize) {
+    let bytes = [low, 255, 255, 255, 1, 0, 0, 0];
+    io::write_all(1, b"among");
+    trials::print_number(n as u64);
+    io::write_all(1, b", low byte");
+    trials::print_number(low as u64);
+    io::write_all(1, b"\n");
+    drawn(&bytes, 0, Mode::Old, n);
+    drawn(&bytes, 0, Mode::Fair, n);
+    drawn(&bytes[0..7], 0, Mode::Fair, n);
+}
+
+// The highest word among 1 to 8; the bound itself among 6 and 7, and one below it among 3, 5, 6 and 7.
+fn fair_draws() {
+    io::write_all(1, b"old, fair, and fair with a byte less\n");
+    both_modes(255, 1);
+    both_modes(255, 2);
+    both_modes(255, 3);
+    both_modes(255, 4);
+    both_modes(255, 5);
+    both_modes(255, 6);
+    both_modes(255, 7);
+    both_modes(255, 8);
+    both_modes(252, 6);
+    both_modes(252, 7);
+    both_modes(254, 3);
+    both_modes(254, 5);
+    both_modes(251, 6);
+    both_modes(251, 7);
 }
 
 // A word's record, and the word that it is replayed as: kind and index.
@@ -809,6 +962,7 @@ fn main() {
     draws_of(b"12 zero bytes", &[0u8; 12]);
     draws_of(b"11 zero bytes", &[0u8; 11]);
     draws_of(b"07 and seven 00", &[7u8, 0, 0, 0, 0, 0, 0, 0]);
+    fair_draws();
     words();
     calls(true);
     wrong();

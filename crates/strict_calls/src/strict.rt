@@ -3,9 +3,11 @@ use answers::Counted;
 use answers::Priced;
 use answers::Replayed;
 use answers::Rolled;
+use draws::Mode;
 use refusals::Checked;
 ghost use mathlib.Core.Bool.{false, true};
 ghost use Rattle.game.specs.Calls.{strictPriceCall, strictRandomRoundCall, strictRandomSearchCall, strictReplayCall, strictThreeBVCall};
+ghost use Rattle.draws.specs.Answers.{modeOf};
 ghost use Rattle.area.specs.Numbers.{gridOf};
 ghost use Rattle.answers.specs.Answers.{Keeps, KeepsList, countedAnswer, pricedAnswer, replayedAnswer, rolledAnswer};
 
@@ -79,13 +81,22 @@ pub fn random_round(
     work: &mut [i32],
     list: &mut [u32],
     draws: &[u8],
+    mode: Mode,
 ) -> Rolled
-    ensures { λ r. ⌜ KeepsList (strictRandomRoundCall (gridOf rows columns (now (grid .entry))) (now (work .entry)) (now (list .entry)) (now (draws .entry))) (rolledAnswer r) (now (work .exit)) (now (list .exit)) ⌝ }
+    ensures { λ r. ⌜ KeepsList (strictRandomRoundCall (modeOf mode) (gridOf rows columns (now (grid .entry))) (now (work .entry)) (now (list .entry)) (now (draws .entry))) (rolledAnswer r) (now (work .exit)) (now (list .exit)) ⌝ }
 {
     let checked = number_check::check_numbers(rows, columns, grid);
     match checked {
         Checked::Refused(refusal) => Rolled::Refused(refusal),
-        Checked::Fine => random_round_call::random_round(rows, columns, grid, work, list, draws),
+        Checked::Fine => random_round_call::random_round(
+            rows,
+            columns,
+            grid,
+            work,
+            list,
+            draws,
+            mode,
+        ),
     }
 }
 
@@ -96,9 +107,10 @@ pub fn random_search(
     grid: &[i32],
     work: &mut [i32],
     draws: &[u8],
+    mode: Mode,
     rounds: usize,
 ) -> Rolled
-    ensures { λ r. ⌜ Keeps (strictRandomSearchCall (gridOf rows columns (now (grid .entry))) (now (work .entry)) (now (draws .entry)) rounds) (rolledAnswer r) (now (work .exit)) ⌝ }
+    ensures { λ r. ⌜ Keeps (strictRandomSearchCall (modeOf mode) (gridOf rows columns (now (grid .entry))) (now (work .entry)) (now (draws .entry)) rounds) (rolledAnswer r) (now (work .exit)) ⌝ }
 {
     let checked = number_check::check_numbers(rows, columns, grid);
     match checked {
@@ -109,6 +121,7 @@ pub fn random_search(
             grid,
             work,
             draws,
+            mode,
             rounds,
         ),
     }

@@ -3,6 +3,7 @@ use trials::fields::byte_at;
 use trials::plain;
 use trials::plain::Plain;
 use zini::Priced;
+use zini::random_calls::Mode;
 ghost use Prim.Native.Nat.{_≤_};
 
 // What is said of a line.
@@ -161,7 +162,7 @@ fn search_differs(number: u64, line: &[u8], search: Plain) -> u64
         + differs(number, b": search bytes ", search.second, pair_at(line, 10))
 }
 
-// Random search beside the Rust.
+// Random search beside the Rust, which has the old mode alone.
 fn random_search(number: u64, line: &[u8], grid: &[i32], draws: &mut [u8]) -> u64
     ensures { λ r. ⌜ r ≤ 3 ⌝ }
 {
@@ -173,6 +174,7 @@ fn random_search(number: u64, line: &[u8], grid: &[i32], draws: &mut [u8]) -> u6
         grid,
         &mut work,
         draws,
+        Mode::Old,
         byte_at(line, 2),
     );
     search_differs(number, line, plain::of_rolled(answer))

@@ -9,7 +9,7 @@ use lib.IntN.{ℤ}
 use lib.ListN.{drop, getD, length, length-map, take}
 use lib.Seq.{take-at}
 use borrow.Author.Tests.{ne-eqb}
-use Rattle.game.specs.Draws.{lent}
+use Rattle.game.specs.Draws.{Mode, lent}
 use Rattle.game.specs.Grid.{Grid, size}
 use Rattle.game.specs.Area.{listOf}
 use Rattle.game.specs.Moves.{replayFrom, word}
@@ -68,25 +68,25 @@ pub openings-first-written : (g : Grid) (w w′ : List ℤ) (l l′ : List ℕ) 
 unfolding priceCall
 openings-first-written g w w′ l l′ n k = played-written g (openingsFirstSteps g) w w′ l l′ n (openings-first-sound g) k
 
-pub random-written : (g : Grid) (w w′ : List ℤ) (l l′ bytes : List ℕ) (n used : ℕ) → KeepsList (randomRoundCall g w l bytes) (gives (n ∷ used ∷ [])) w′ l′ → Written g n l′
+pub random-written : (mode : Mode) (g : Grid) (w w′ : List ℤ) (l l′ bytes : List ℕ) (n used : ℕ) → KeepsList (randomRoundCall mode g w l bytes) (gives (n ∷ used ∷ [])) w′ l′ → Written g n l′
 unfolding randomRoundCall
-random-written g w w′ l l′ bytes n used k =
-    let p = not-refused (firstGiven (gridChecks g w ++ listCheck g l ∷ [])) w w′ l l′ (drawnRound g (randomRound g (lent bytes) 0) w l) (n ∷ used ∷ []) k in
-    go (randomRound g (lent bytes) 0) (λ r e. random-sound g (lent bytes) (lent-places bytes) 0 r e) (small g w l (p .0)) (p .1)
+random-written mode g w w′ l l′ bytes n used k =
+    let p = not-refused (firstGiven (gridChecks g w ++ listCheck g l ∷ [])) w w′ l l′ (drawnRound g (randomRound g (lent mode bytes) 0) w l) (n ∷ used ∷ []) k in
+    go (randomRound g (lent mode bytes) 0) (λ r e. random-sound g (lent mode bytes) (lent-places mode bytes) 0 r e) (small g w l (p .0)) (p .1)
   where
     go : (o : Option Round) → ((r : Round) → o ≡ some r → Sound g (r .steps)) → size g ≤ 65536 → KeepsList (drawnRound g o w l) (gives (n ∷ used ∷ [])) w′ l′ → Written g n l′
     go none d h k = absurd (let e : 0 ≡ numberOf draws = ap (λ (a : Answer). a .number) (k .answers) in omega arith)
     go (some r) d h k = stands-written g (r .steps) l l′ n h (d r refl) (ap (λ (a : Answer). getD (a .values) 0 0) (k .answers)) (k .lists)
 
 -- each round of a search
-pub search-told : (g : Grid) (w w′ : List ℤ) (bytes : List ℕ) (n clicks used : ℕ) → Keeps (randomSearchCall g w bytes n) (gives (clicks ∷ used ∷ [])) w′ → Told g bytes n clicks used
+pub search-told : (mode : Mode) (g : Grid) (w w′ : List ℤ) (bytes : List ℕ) (n clicks used : ℕ) → Keeps (randomSearchCall mode g w bytes n) (gives (clicks ∷ used ∷ [])) w′ → Told mode g bytes n clicks used
 unfolding randomSearchCall
-search-told g w w′ bytes n clicks used k =
-    let p = not-turned-down (firstGiven (gridChecks g w ++ roundsCheck n ∷ [])) w w′ (drawnSearch g (randomSearch g (lent bytes) n) w) (clicks ∷ used ∷ []) k in
+search-told mode g w w′ bytes n clicks used k =
+    let p = not-turned-down (firstGiven (gridChecks g w ++ roundsCheck n ∷ [])) w w′ (drawnSearch g (randomSearch g (lent mode bytes) n) w) (clicks ∷ used ∷ []) k in
     let h : 1 ≤ n = all-passed g w n 1 rounds (ap (λ (b : Bool). firstGiven (gridChecks g w ++ record { given = b; refusal = rounds } ∷ [])) (none-below n) ∙ p .0) .1 in
-    go (randomSearch g (lent bytes) n) (λ r e. search-sound g (lent bytes) (lent-places bytes) n r h e) refl (p .1)
+    go (randomSearch g (lent mode bytes) n) (λ r e. search-sound g (lent mode bytes) (lent-places mode bytes) n r h e) refl (p .1)
   where
-    go : (o : Option Searched) → ((r : Searched) → o ≡ some r → SoundSearch g (lent bytes) n r) → randomSearch g (lent bytes) n ≡ o → Keeps (drawnSearch g o w) (gives (clicks ∷ used ∷ [])) w′ → Told g bytes n clicks used
+    go : (o : Option Searched) → ((r : Searched) → o ≡ some r → SoundSearch g (lent mode bytes) n r) → randomSearch g (lent mode bytes) n ≡ o → Keeps (drawnSearch g o w) (gives (clicks ∷ used ∷ [])) w′ → Told mode g bytes n clicks used
     go none d e k = absurd (let e : 0 ≡ numberOf draws = ap (λ (a : Answer). a .number) (k .answers) in omega arith)
     go (some r) d e k =
         record {
@@ -98,29 +98,29 @@ search-told g w w′ bytes n clicks used k =
         }
 
 -- two searches, the second with the bytes that the first left, answer together what one search of all their rounds answers
-pub searches-join : (g : Grid) (w w′ v v′ : List ℤ) (bytes : List ℕ) (m n clicks used clicks′ used′ : ℕ)
-    → Keeps (randomSearchCall g w bytes m) (gives (clicks ∷ used ∷ [])) w′ → Keeps (randomSearchCall g v (drop used bytes) n) (gives (clicks′ ∷ used′ ∷ [])) v′
-    → randomSearchCall g w bytes (m + n) .answer ≡ gives (min clicks clicks′ ∷ (used + used′) ∷ [])
+pub searches-join : (mode : Mode) (g : Grid) (w w′ v v′ : List ℤ) (bytes : List ℕ) (m n clicks used clicks′ used′ : ℕ)
+    → Keeps (randomSearchCall mode g w bytes m) (gives (clicks ∷ used ∷ [])) w′ → Keeps (randomSearchCall mode g v (drop used bytes) n) (gives (clicks′ ∷ used′ ∷ [])) v′
+    → randomSearchCall mode g w bytes (m + n) .answer ≡ gives (min clicks clicks′ ∷ (used + used′) ∷ [])
 unfolding randomSearchCall
-searches-join g w w′ v v′ bytes m n clicks used clicks′ used′ k k′ =
-    ap (λ (o : Option Refusal). unless o w (drawnSearch g (randomSearch g (lent bytes) (m + n)) w) .answer) (given-as (m + n) m (omega (arith, a .sound .as-many)) (omega (arith, a .sound .as-many)) ∙ fine .0)
+searches-join mode g w w′ v v′ bytes m n clicks used clicks′ used′ k k′ =
+    ap (λ (o : Option Refusal). unless o w (drawnSearch g (randomSearch g (lent mode bytes) (m + n)) w) .answer) (given-as (m + n) m (omega (arith, a .sound .as-many)) (omega (arith, a .sound .as-many)) ∙ fine .0)
     ∙ ap (λ (o : Option Searched). drawnSearch g o w .answer) whole
     ∙ ap₂ (λ (c u : ℕ). gives (c ∷ u ∷ [])) (ap₂ min (sym (a .clicks-are)) (sym (b .clicks-are))) (ap₂ _+_ (sym (a .used-are)) (sym (b .used-are)))
   where
-    a : Told g bytes m clicks used
-    a = search-told g w w′ bytes m clicks used k
+    a : Told mode g bytes m clicks used
+    a = search-told mode g w w′ bytes m clicks used k
 
-    b : Told g (drop used bytes) n clicks′ used′
-    b = search-told g v v′ (drop used bytes) n clicks′ used′ k′
+    b : Told mode g (drop used bytes) n clicks′ used′
+    b = search-told mode g v v′ (drop used bytes) n clicks′ used′ k′
 
-    fine : (firstGiven (gridChecks g w ++ roundsCheck m ∷ []) ≡ none) × Keeps (drawnSearch g (randomSearch g (lent bytes) m) w) (gives (clicks ∷ used ∷ [])) w′
-    fine = not-turned-down (firstGiven (gridChecks g w ++ roundsCheck m ∷ [])) w w′ (drawnSearch g (randomSearch g (lent bytes) m) w) (clicks ∷ used ∷ []) k
+    fine : (firstGiven (gridChecks g w ++ roundsCheck m ∷ []) ≡ none) × Keeps (drawnSearch g (randomSearch g (lent mode bytes) m) w) (gives (clicks ∷ used ∷ [])) w′
+    fine = not-turned-down (firstGiven (gridChecks g w ++ roundsCheck m ∷ [])) w w′ (drawnSearch g (randomSearch g (lent mode bytes) m) w) (clicks ∷ used ∷ []) k
 
     given-as : (i j : ℕ) → 1 ≤ i → 1 ≤ j → firstGiven (gridChecks g w ++ roundsCheck i ∷ []) ≡ firstGiven (gridChecks g w ++ roundsCheck j ∷ [])
     given-as i j h l =
         ap (λ (x : Bool). firstGiven (gridChecks g w ++ record { given = x; refusal = rounds } ∷ [])) (ne-eqb i 0 (λ e. omega arith) ∙ sym (ne-eqb j 0 (λ e. omega arith)))
 
-    whole : randomSearch g (lent bytes) (m + n) ≡ some (joined (a .came-to) (b .came-to))
+    whole : randomSearch g (lent mode bytes) (m + n) ≡ some (joined (a .came-to) (b .came-to))
     whole =
-        search-parts g bytes m n (a .came-to) (b .came-to) (omega (arith, a .sound .as-many)) (omega (arith, b .sound .as-many)) (a .searched)
-        (ap (λ (i : ℕ). randomSearch g (lent (drop i bytes)) n) (sym (a .used-are)) ∙ b .searched)
+        search-parts g mode bytes m n (a .came-to) (b .came-to) (omega (arith, a .sound .as-many)) (omega (arith, b .sound .as-many)) (a .searched)
+        (ap (λ (i : ℕ). randomSearch g (lent mode (drop i bytes)) n) (sym (a .used-are)) ∙ b .searched)

@@ -4,6 +4,9 @@ use Rattle.c_answers.proofs.Returns.{returned-list-two}
 use Rattle.lavgerin.proofs.lavgerin_random_round.Statement.{statement}
 use Rattle.lavgerin.proofs.lavgerin_random_round.Tie as tie
 
+mode-by-requires : tie.Need-mode-by-requires
+mode-by-requires c κs = search needs
+
 random-round-requires : tie.Need-random-round-requires
 random-round-requires c κs = search needs
 
@@ -17,8 +20,8 @@ same-length-2 : tie.Need-same-length-2
 same-length-2 c = search needs
 
 returns : tie.Need-returns
-returns c = returned-list-two (c .before .before .before .before .before .before .random-round .ensures) (c .tell-roll .ensures)
+returns c = returned-list-two (rw (c .before .before .before .before .before .before .before .before .before .mode-by .ensures) at (c .before .before .before .before .before .before .random-round .ensures)) (c .tell-roll .ensures)
 
 pub lavgerin-random-round-spec : {M : Type 1} → statement M
 lavgerin-random-round-spec =
-    tie.close (tie.spec random-round-requires tell-roll-requires same-length same-length-2 returns)
+    tie.close (tie.spec mode-by-requires random-round-requires tell-roll-requires same-length same-length-2 returns)

@@ -10,17 +10,18 @@ use Rattle.game.specs.Moves.{after}
 use Rattle.game.specs.Position.{untouched}
 use Rattle.game.proofs.Draws.{lent-places}
 use Rattle.moves.proofs.Partway.{partway-few}
+use Rattle.draws.specs.Answers.{modeOf}
 use Rattle.random.proofs.Courses.{RoundMidway, course-breaks, course-ends, course-falls, course-goes-on, fresh, midway-begins}
 use Rattle.random.proofs.roll_on.Statement.{statement}
 use Rattle.random.proofs.roll_on.Tie as tie
 
 abbrev Inv-loop : tie.InvT-loop
-Inv-loop work₀ rows columns list₀ draws tops₀ units₀ safe next state₀ at₀ work list tops units state at =
+Inv-loop work₀ rows columns list₀ draws mode tops₀ units₀ safe next state₀ at₀ work list tops units state at =
     (length work ≡ length work₀) × (length list ≡ length list₀) × (length tops ≡ length tops₀) × (length units ≡ length units₀)
-    × RoundMidway rows columns work₀ (lent draws) safe next list₀ work list state at × TopsKnown false work rows columns tops × UnitsKnown work rows columns tops units
+    × RoundMidway rows columns work₀ (lent (modeOf mode) draws) safe next list₀ work list state at × TopsKnown false work rows columns tops × UnitsKnown work rows columns tops units
 
 abbrev μ-loop : tie.MeasureT-loop
-μ-loop work₀ rows columns list₀ draws tops₀ units₀ safe next state₀ at₀ work list tops units state at = state .closed
+μ-loop work₀ rows columns list₀ draws mode tops₀ units₀ safe next state₀ at₀ work list tops units state at = state .closed
 
 loop-holds : tie.Need-loop-holds Inv-loop μ-loop
 loop-holds c =
@@ -30,7 +31,7 @@ loop-holds c =
       refl,
       refl,
       refl,
-      midway-begins (a .rows) (a .columns) (a .work .now) (lent (a .draws .now)) (a .safe) (a .next) (a .list .now) (b .pre .1 .1 .0),
+      midway-begins (a .rows) (a .columns) (a .work .now) (lent (modeOf (a .mode)) (a .draws .now)) (a .safe) (a .next) (a .list .now) (b .pre .1 .1 .0),
       b .pre .1 .1 .1 .0,
       b .pre .1 .1 .1 .1,
     )
@@ -79,7 +80,7 @@ returns c =
     let k = x .before .before .before .before .before in
     let l = k .before .before in
     let a = l .before .before .before .before .before .args in
-    λ g old st. course-breaks (a .rows) (a .columns) g old (lent (a .draws .now)) (a .safe) (a .next) (a .list .now) (l .loop .work) (l .loop .list) (l .loop .state) (l .loop .at) (l .loop .inv .4 .course g old st)
+    λ g old st. course-breaks (a .rows) (a .columns) g old (lent (modeOf (a .mode)) (a .draws .now)) (a .safe) (a .next) (a .list .now) (l .loop .work) (l .loop .list) (l .loop .state) (l .loop .at) (l .loop .inv .4 .course g old st)
     (x .step .last .0) (x .step .last .1 .1 .1 .0) (x .step .result) (k .if1 .taken) (λ s v f h e. x .step .ensures g s old v f h e .0) (c .enum-told .given .1)
 
 loop-less : tie.Need-loop-less Inv-loop μ-loop
@@ -90,8 +91,8 @@ loop-less c =
     let b = l .before .before .before .before .before in
     let a = b .args in
     let f = b .pre .1 .1 .0 in
-    course-falls (a .rows) (a .columns) (f .grid) (f .old) (lent (a .draws .now)) (a .safe) (a .next) (a .list .now) (l .loop .work) (l .loop .list) (l .loop .state) (l .loop .at)
-    (l .loop .inv .4 .course (f .grid) (f .old) (f .stands)) (x .step .last .0) (x .step .last .1 .1 .1 .0) (x .step .result) (k .if1 .taken) (λ s v p h e. x .step .ensures (f .grid) s (f .old) v p h e .0) (lent-places (a .draws .now)) _ (c .before .before .stepped .given .1)
+    course-falls (a .rows) (a .columns) (f .grid) (f .old) (lent (modeOf (a .mode)) (a .draws .now)) (a .safe) (a .next) (a .list .now) (l .loop .work) (l .loop .list) (l .loop .state) (l .loop .at)
+    (l .loop .inv .4 .course (f .grid) (f .old) (f .stands)) (x .step .last .0) (x .step .last .1 .1 .1 .0) (x .step .result) (k .if1 .taken) (λ s v p h e. x .step .ensures (f .grid) s (f .old) v p h e .0) (lent-places (modeOf (a .mode)) (a .draws .now)) _ (c .before .before .stepped .given .1)
 
 loop-again : tie.Need-loop-again Inv-loop μ-loop
 loop-again c = (
@@ -104,8 +105,8 @@ loop-again c = (
       let l = k .before .before in
       let a = l .before .before .before .before .before .args in
       record {
-        course = λ g old st. course-goes-on (a .rows) (a .columns) g old (lent (a .draws .now)) (a .safe) (a .next) (a .list .now) (l .loop .work) (l .loop .list) (l .loop .state) (l .loop .at)
-            (l .loop .inv .4 .course g old st) (x .step .last .0) (x .step .last .1 .1 .1 .0) (x .step .result) (k .if1 .taken) (λ s v f h e. x .step .ensures g s old v f h e .0) (lent-places (a .draws .now)) _ (c .before .before .stepped .given .1);
+        course = λ g old st. course-goes-on (a .rows) (a .columns) g old (lent (modeOf (a .mode)) (a .draws .now)) (a .safe) (a .next) (a .list .now) (l .loop .work) (l .loop .list) (l .loop .state) (l .loop .at)
+            (l .loop .inv .4 .course g old st) (x .step .last .0) (x .step .last .1 .1 .1 .0) (x .step .result) (k .if1 .taken) (λ s v f h e. x .step .ensures g s old v f h e .0) (lent-places (modeOf (a .mode)) (a .draws .now)) _ (c .before .before .stepped .given .1);
       },
   let x = c .before .before .before .before .before .before .before .before .before .before .before in
       let k = x .before .before .before .before .before in
@@ -137,7 +138,7 @@ returns-2 : tie.Need-returns-2 Inv-loop μ-loop
 returns-2 c =
     let l = c .before .before in
     let a = l .before .before .before .before .before .args in
-    λ g old st. course-ends (a .rows) (a .columns) g old (lent (a .draws .now)) (a .safe) (a .next) (a .list .now) (l .loop .work) (l .loop .list) (l .loop .state) (l .loop .at) (l .loop .inv .4 .course g old st) (omega arith)
+    λ g old st. course-ends (a .rows) (a .columns) g old (lent (modeOf (a .mode)) (a .draws .now)) (a .safe) (a .next) (a .list .now) (l .loop .work) (l .loop .list) (l .loop .state) (l .loop .at) (l .loop .inv .4 .course g old st) (omega arith)
 
 pub roll-on-spec : {M : Type 1} → statement M
 roll-on-spec =

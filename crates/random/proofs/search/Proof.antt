@@ -4,6 +4,7 @@ use mathlib.Core.Option.{Option}
 use Rattle.game.specs.Draws.{lent}
 use Rattle.game.specs.Rounds.{Searched}
 use Rattle.random.specs.Promises.{Searching}
+use Rattle.draws.specs.Answers.{modeOf}
 use Rattle.random.proofs.Searches.{first-breaks, first-ends}
 use borrow.Author.Needs.{needs}
 use Rattle.random.proofs.search.Statement.{statement}
@@ -25,7 +26,7 @@ returns : tie.Need-returns
 returns c =
     let x = c .before .before .before in
     let a = x .before .before .before .args in
-    λ g old st. first-breaks (a .rows) (a .columns) g old (lent (a .draws .now)) (x .unlisted .last .0) (x .unlisted .result) (x .unlisted .ensures g old st) (a .rounds) (c .enum-told .given .1)
+    λ g old st. first-breaks (a .rows) (a .columns) g old (lent (modeOf (a .mode)) (a .draws .now)) (x .unlisted .last .0) (x .unlisted .result) (x .unlisted .ensures g old st) (a .rounds) (c .enum-told .given .1)
 
 sub-rounds-left : tie.Need-sub-rounds-left
 sub-rounds-left c = search needs
@@ -41,7 +42,7 @@ search-on-requires c κs =
     let b = x .before .before .before in
     let a = b .args in
     let f = b .pre .1 .1 in
-    let d = first-ends (a .rows) (a .columns) (f .grid) (f .old) (lent (a .draws .now)) (x .unlisted .last .0) (x .unlisted .result) (x .unlisted .ensures (f .grid) (f .old) (f .stands)) (a .rounds)
+    let d = first-ends (a .rows) (a .columns) (f .grid) (f .old) (lent (modeOf (a .mode)) (a .draws .now)) (x .unlisted .last .0) (x .unlisted .result) (x .unlisted .ensures (f .grid) (f .old) (f .stands)) (a .rounds)
     _ _ (z .rounds-left .result) (o .rolled .given .1) (z .rounds-left .ensures .0) in
     (b .pre .0, (search needs, record { grid = f .grid; old = f .old; moves = d .moves; stands = d .stands; counts = f .counts }))
 
@@ -56,7 +57,7 @@ returns-2 c =
     let x = o .before .before .before in
     let a = x .before .before .before .args in
     λ g old st.
-    let d = first-ends (a .rows) (a .columns) g old (lent (a .draws .now)) (x .unlisted .last .0) (x .unlisted .result) (x .unlisted .ensures g old st) (a .rounds)
+    let d = first-ends (a .rows) (a .columns) g old (lent (modeOf (a .mode)) (a .draws .now)) (x .unlisted .last .0) (x .unlisted .result) (x .unlisted .ensures g old st) (a .rounds)
     _ _ (z .rounds-left .result) (o .rolled .given .1) (z .rounds-left .ensures .0) in
     subst (λ (s : Option Searched). Searching (a .rows) (a .columns) g old s (y .search-on .last .0) (y .search-on .result)) (sym (d .rest)) (y .search-on .ensures g old (d .moves) (d .stands))
 

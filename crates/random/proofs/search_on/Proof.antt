@@ -7,16 +7,17 @@ use Rattle.game.specs.Draws.{lent}
 use Rattle.game.specs.Moves.{after}
 use Rattle.game.specs.Position.{untouched}
 use Rattle.game.specs.Rounds.{searchFrom}
+use Rattle.draws.specs.Answers.{modeOf}
 use Rattle.random.proofs.Searches.{SearchMidway, search-breaks, search-ends, search-goes-on, still-counted, turns, turns-fall}
 use Rattle.random.proofs.search_on.Statement.{statement}
 use Rattle.random.proofs.search_on.Tie as tie
 
 abbrev Inv-loop : tie.InvT-loop
-Inv-loop work₀ rows columns draws safe clicks next more least₀ at₀ left₀ work least at left =
-    (length work ≡ length work₀) × SearchMidway rows columns work₀ (lent draws) clicks next more work least at left
+Inv-loop work₀ rows columns draws mode safe clicks next more least₀ at₀ left₀ work least at left =
+    (length work ≡ length work₀) × SearchMidway rows columns work₀ (lent (modeOf mode) draws) clicks next more work least at left
 
 abbrev μ-loop : tie.MeasureT-loop
-μ-loop work₀ rows columns draws safe clicks next more least₀ at₀ left₀ work least at left = turns (length draws) at left
+μ-loop work₀ rows columns draws mode safe clicks next more least₀ at₀ left₀ work least at left = turns (length draws) at left
 
 loop-holds : tie.Need-loop-holds Inv-loop μ-loop
 loop-holds c = (refl, record { sofar = λ g old ms st. record { moves = ms; stands = st; rest = refl } })
@@ -29,7 +30,7 @@ again-requires c κs =
       b .pre .0,
       (
         search needs,
-        still-counted (a .rows) (a .columns) (a .work .now) (lent (a .draws .now)) (a .clicks) (a .next) (a .more) (l .loop .work) (l .loop .least) (l .loop .at) (l .loop .left) (a .safe)
+        still-counted (a .rows) (a .columns) (a .work .now) (lent (modeOf (a .mode)) (a .draws .now)) (a .clicks) (a .next) (a .more) (l .loop .work) (l .loop .least) (l .loop .at) (l .loop .left) (a .safe)
             (l .loop .inv .1) (b .pre .1 .1),
       ),
     )
@@ -51,8 +52,8 @@ returns c =
     let a = l .before .before .args in
     λ g old ms st.
     let f = l .loop .inv .1 .sofar g old ms st in
-    search-breaks (a .rows) (a .columns) g old (lent (a .draws .now)) (l .loop .at) (x .again .last .0) (x .again .result) (x .again .ensures g (after g (untouched g) (f .moves)) old (f .stands))
-    (searchFrom (a .more) g (lent (a .draws .now)) (record { least = a .clicks; next = a .next; moves = ms })) (l .loop .work) (l .loop .least) (l .loop .left) f (omega arith) (c .enum-told .given .1)
+    search-breaks (a .rows) (a .columns) g old (lent (modeOf (a .mode)) (a .draws .now)) (l .loop .at) (x .again .last .0) (x .again .result) (x .again .ensures g (after g (untouched g) (f .moves)) old (f .stands))
+    (searchFrom (a .more) g (lent (modeOf (a .mode)) (a .draws .now)) (record { least = a .clicks; next = a .next; moves = ms })) (l .loop .work) (l .loop .least) (l .loop .left) f (omega arith) (c .enum-told .given .1)
 
 fewer-requires : tie.Need-fewer-requires Inv-loop μ-loop
 fewer-requires c κs = search needs
@@ -70,9 +71,9 @@ loop-less c =
     let l = x .before .before .before in
     let b = l .before .before in
     let a = b .args in
-    let f = still-counted (a .rows) (a .columns) (a .work .now) (lent (a .draws .now)) (a .clicks) (a .next) (a .more) (l .loop .work) (l .loop .least) (l .loop .at) (l .loop .left) (a .safe)
+    let f = still-counted (a .rows) (a .columns) (a .work .now) (lent (modeOf (a .mode)) (a .draws .now)) (a .clicks) (a .next) (a .more) (l .loop .work) (l .loop .least) (l .loop .at) (l .loop .left) (a .safe)
     (l .loop .inv .1) (b .pre .1 .1) in
-    turns-fall (a .rows) (a .columns) (a .draws .now) (l .loop .at) (l .loop .work) (x .again .last .0) (x .again .result) (a .safe) f (x .again .ensures)
+    turns-fall (a .rows) (a .columns) (modeOf (a .mode)) (a .draws .now) (l .loop .at) (l .loop .work) (x .again .last .0) (x .again .result) (a .safe) f (x .again .ensures)
     _ _ (l .loop .left) (c .rounds-left .result) (o .rolled .given .1) (omega arith) (c .rounds-left .ensures .0)
 
 loop-again : tie.Need-loop-again Inv-loop μ-loop
@@ -86,8 +87,8 @@ loop-again c =
       record {
         sofar = λ g old ms st.
             let f = l .loop .inv .1 .sofar g old ms st in
-            search-goes-on (a .rows) (a .columns) g old (lent (a .draws .now)) (l .loop .at) (x .again .last .0) (x .again .result) (x .again .ensures g (after g (untouched g) (f .moves)) old (f .stands))
-            (searchFrom (a .more) g (lent (a .draws .now)) (record { least = a .clicks; next = a .next; moves = ms })) (l .loop .work) (l .loop .least) (l .loop .left) f (omega arith)
+            search-goes-on (a .rows) (a .columns) g old (lent (modeOf (a .mode)) (a .draws .now)) (l .loop .at) (x .again .last .0) (x .again .result) (x .again .ensures g (after g (untouched g) (f .moves)) old (f .stands))
+            (searchFrom (a .more) g (lent (modeOf (a .mode)) (a .draws .now)) (record { least = a .clicks; next = a .next; moves = ms })) (l .loop .work) (l .loop .least) (l .loop .left) f (omega arith)
             _ _ (c .before .fewer .result) (c .rounds-left .result) (o .rolled .given .1) (c .before .fewer .ensures) (c .rounds-left .ensures .0);
       },
     )
@@ -99,7 +100,7 @@ returns-2 : tie.Need-returns-2 Inv-loop μ-loop
 returns-2 c =
     let l = c .before in
     let a = l .before .before .args in
-    λ g old ms st. search-ends (a .rows) (a .columns) g old (lent (a .draws .now)) (searchFrom (a .more) g (lent (a .draws .now)) (record { least = a .clicks; next = a .next; moves = ms }))
+    λ g old ms st. search-ends (a .rows) (a .columns) g old (lent (modeOf (a .mode)) (a .draws .now)) (searchFrom (a .more) g (lent (modeOf (a .mode)) (a .draws .now)) (record { least = a .clicks; next = a .next; moves = ms }))
     (l .loop .work) (l .loop .least) (l .loop .at) (l .loop .left) (l .loop .inv .1 .sofar g old ms st) (omega arith)
 
 pub search-on-spec : {M : Type 1} → statement M

@@ -1,6 +1,7 @@
 -- `random::step`: as many are drawn among as the choice has, so the drawn place is one of its places, and it is taken. Assumes nothing.
 use Rattle.game.specs.Draws.{lent}
 use Rattle.game.proofs.Draws.{lent-places}
+use Rattle.draws.specs.Answers.{modeOf}
 use Rattle.random.proofs.Takes.{any-marks, drawn-inside, step-dry, step-went}
 use borrow.Author.Needs.{needs}
 use Rattle.random.proofs.step.Statement.{statement}
@@ -33,7 +34,7 @@ returns c =
     let n = d .before .before .before .before .before in
     let a = n .before .before .before .before .before .before .before .before .args in
     λ g s old st f h e. (
-      step-dry (a .rows) (a .columns) g s old (a .work .now) (lent (a .draws .now)) (a .next) (n .count-candidates .result .count) (a .list .now) (a .state) (d .draw-from .result)
+      step-dry (a .rows) (a .columns) g s old (a .work .now) (lent (modeOf (a .mode)) (a .draws .now)) (a .next) (n .count-candidates .result .count) (a .list .now) (a .state) (d .draw-from .result)
           (n .count-candidates .ensures .1 .1 g s old st .1) (d .draw-from .ensures) (c .enum-told .given .1),
       n .count-candidates .ensures .0 .1,
       any-marks (a .work .now) (a .rows) (a .columns) _ _ (n .count-candidates .ensures .1 .0 .1),
@@ -67,10 +68,10 @@ returns-2 c =
     let y = m .take-place in
     λ g s old st f h e.
     let k = n .count-candidates .ensures .1 .1 g s old st in
-    let i = drawn-inside (a .rows) (a .columns) g s old (a .work .now) (lent (a .draws .now)) (a .next) (n .count-candidates .result .count) (a .list .now) (a .state) (d .draw-from .result)
-    (k .1) (d .draw-from .ensures) _ _ (o .drawn .given .1) (lent-places (a .draws .now)) f h in
+    let i = drawn-inside (a .rows) (a .columns) g s old (a .work .now) (lent (modeOf (a .mode)) (a .draws .now)) (a .next) (n .count-candidates .result .count) (a .list .now) (a .state) (d .draw-from .result)
+    (k .1) (d .draw-from .ensures) _ _ (o .drawn .given .1) (lent-places (modeOf (a .mode)) (a .draws .now)) f h in
     let z = y .ensures g s old st f (k .0) i e in (
-      step-went (a .rows) (a .columns) g s old (a .work .now) (lent (a .draws .now)) (a .next) (n .count-candidates .result .count) (a .list .now) (a .state) (d .draw-from .result)
+      step-went (a .rows) (a .columns) g s old (a .work .now) (lent (modeOf (a .mode)) (a .draws .now)) (a .next) (n .count-candidates .result .count) (a .list .now) (a .state) (d .draw-from .result)
           (k .1) (d .draw-from .ensures) _ _ (o .drawn .given .1) (y .last .0) (y .last .1 .1 .1 .0) (y .result) (z .0),
       z .1,
       z .2,

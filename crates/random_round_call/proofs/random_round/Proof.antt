@@ -13,6 +13,7 @@ use Rattle.checks.proofs.More.{reaches}
 use Rattle.checks.proofs.Verdict.{all-passed}
 use Rattle.answers.proofs.Promises.{list-else, list-refused}
 use borrow.Author.Needs.{needs}
+use Rattle.draws.specs.Answers.{modeOf}
 use Rattle.random_round_call.proofs.random_round.Statement.{statement}
 use Rattle.random_round_call.proofs.random_round.Tie as tie
 
@@ -25,7 +26,7 @@ given c =
 abbrev come : tie.Start → ListOutcome
 come c =
     let g = gridOf (c .args .rows) (c .args .columns) (c .args .grid .now) in
-    drawnRound g (randomRound g (lent (c .args .draws .now)) 0) (c .args .work .now) (c .args .list .now)
+    drawnRound g (randomRound g (lent (modeOf (c .args .mode)) (c .args .draws .now)) 0) (c .args .work .now) (c .args .list .now)
 
 -- where nothing is refused
 verdict : (c : tie.After-enum-told) → given (c .before .before .before .before .before .before) ≡ none

@@ -7,6 +7,7 @@ use Rattle.area.specs.Numbers.{gridOf}
 use Rattle.area.specs.Stages.{Stands}
 use Rattle.start.proofs.Begun.{fresh}
 use borrow.Author.Needs.{needs}
+use Rattle.draws.specs.Answers.{modeOf}
 use Rattle.random_round_call.proofs.roll_checked.Statement.{statement}
 use Rattle.random_round_call.proofs.roll_checked.Tie as tie
 
@@ -37,7 +38,7 @@ returns : tie.Need-returns
 returns c =
     let a = c .before .before .before .before .before .before .before .before .before .before .before .before .before .before .before .before .before .args in
     let g = gridOf (a .rows) (a .columns) (a .grid .now) in
-    c .before .before .before .end-round .ensures g (lent (a .draws .now)) (a .work .now) (a .list .now) (lent-places (a .draws .now)) refl (c .before .before .before .before .before .before .before .before .before .before .before .before .before .before .before .before .before .pre .1 .1) (c .before .before .before .before .before .before .before .before .before .before .before .before .before .before .before .before .before .pre .1 .2)
+    c .before .before .before .end-round .ensures g (lent (modeOf (a .mode)) (a .draws .now)) (a .work .now) (a .list .now) (lent-places (modeOf (a .mode)) (a .draws .now)) refl (c .before .before .before .before .before .before .before .before .before .before .before .before .before .before .before .before .before .pre .1 .1) (c .before .before .before .before .before .before .before .before .before .before .before .before .before .before .before .before .before .pre .1 .2)
     (c .before .before .before .before .before .before .before .before .before .round .ensures g (a .work .now) (begun (c .before .before .before .before .before .before .before .before .before .before .before .before .before)))
 
 pub roll-checked-spec : {M : Type 1} → statement M

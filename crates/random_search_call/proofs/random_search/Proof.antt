@@ -14,6 +14,7 @@ use Rattle.checks.proofs.More.{none-below}
 use Rattle.checks.proofs.Verdict.{all-passed}
 use Rattle.answers.proofs.Promises.{keeps-else, keeps-refused}
 use borrow.Author.Needs.{needs}
+use Rattle.draws.specs.Answers.{modeOf}
 use Rattle.random_search_call.proofs.random_search.Statement.{statement}
 use Rattle.random_search_call.proofs.random_search.Tie as tie
 
@@ -23,7 +24,7 @@ given c none-at-all = firstGiven (gridChecks (gridOf (c .args .rows) (c .args .c
 
 -- what the call comes to where none is
 abbrev come : tie.Start → Outcome
-come c = let g = gridOf (c .args .rows) (c .args .columns) (c .args .grid .now) in drawnSearch g (randomSearch g (lent (c .args .draws .now)) (c .args .rounds)) (c .args .work .now)
+come c = let g = gridOf (c .args .rows) (c .args .columns) (c .args .grid .now) in drawnSearch g (randomSearch g (lent (modeOf (c .args .mode)) (c .args .draws .now)) (c .args .rounds)) (c .args .work .now)
 
 -- where nothing is refused
 verdict : (c : tie.After-enum-told) → given (c .before .before .before .before .before) (ltb (c .before .before .before .before .before .args .rounds) 1) ≡ none

@@ -7,6 +7,7 @@ use Rattle.area.specs.Numbers.{gridOf}
 use Rattle.area.specs.Stages.{Stands}
 use Rattle.start.proofs.Begun.{fresh}
 use borrow.Author.Needs.{needs}
+use Rattle.draws.specs.Answers.{modeOf}
 use Rattle.random_search_call.proofs.search_checked.Statement.{statement}
 use Rattle.random_search_call.proofs.search_checked.Tie as tie
 
@@ -34,7 +35,7 @@ returns : tie.Need-returns
 returns c =
     let a = c .before .before .before .before .before .before .before .before .before .before .args in
     let g = gridOf (a .rows) (a .columns) (a .grid .now) in
-    c .before .end-search .ensures g (randomSearch g (lent (a .draws .now)) (a .rounds)) (a .work .now) refl (c .before .before .before .before .before .before .before .before .before .before .pre .1 .1)
+    c .before .end-search .ensures g (randomSearch g (lent (modeOf (a .mode)) (a .draws .now)) (a .rounds)) (a .work .now) refl (c .before .before .before .before .before .before .before .before .before .before .pre .1 .1)
     (c .before .before .before .before .search .ensures g (a .work .now) (begun (c .before .before .before .before .before .before .before)))
 
 pub search-checked-spec : {M : Type 1} → statement M

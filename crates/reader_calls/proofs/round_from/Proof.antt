@@ -5,6 +5,7 @@ use Prim.Native.Nat.{ℕ}
 use denote.Ref.{now}
 use borrow.Author.Needs.{needs}
 use Rattle.game.specs.Calls.{randomRoundCall}
+use Rattle.draws.specs.Answers.{modeOf}
 use Rattle.area.specs.Numbers.{gridOf}
 use Rattle.answers.specs.Answers.{KeepsList, rolledAnswer}
 use Rattle.reader_calls.proofs.Within.{from-place, round-fits}
@@ -39,9 +40,9 @@ returns c =
     let start = c .before .before .before .before .before .before .before .start-at in
     let rolled = c .before .before .before .random-round in
     let g = gridOf (a .rows) (a .columns) (now (a .grid)) in
-    let k = subst (λ (l : List ℕ). KeepsList (randomRoundCall g (now (a .work)) (now (a .list)) l) (rolledAnswer (rolled .result)) (rolled .last .1 .1 .1 .0) (rolled .last .1 .1 .1 .1 .0))
+    let k = subst (λ (l : List ℕ). KeepsList (randomRoundCall (modeOf (a .mode)) g (now (a .work)) (now (a .list)) l) (rolledAnswer (rolled .result)) (rolled .last .1 .1 .1 .0) (rolled .last .1 .1 .1 .1 .0))
     (from-place (now (a .bytes)) (a .place) (start .result) (start .ensures)) (rolled .ensures) in
-    (k, round-fits (rolled .result) (a .place) (now (a .bytes)) (s .fits .place .fits) (s .good .1 .1 .1 .1 .1 .0 .0) g (now (a .work)) (now (a .list)) (k .answers))
+    (k, round-fits (rolled .result) (a .place) (now (a .bytes)) (s .fits .place .fits) (s .good .1 .1 .1 .1 .1 .0 .0) (modeOf (a .mode)) g (now (a .work)) (now (a .list)) (k .answers))
 
 pub round-from-spec : {M : Type 1} → statement M
 round-from-spec =

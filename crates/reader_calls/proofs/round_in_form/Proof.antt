@@ -5,6 +5,7 @@ use denote.Ref.{now}
 use lib.ListN.{drop}
 use borrow.Author.Needs.{needs}
 use Rattle.game.specs.Calls.{ListOutcome, Refusal, randomRoundCall}
+use Rattle.draws.specs.Answers.{modeOf}
 use Rattle.area.specs.Numbers.{gridOf}
 use Rattle.refusals.specs.Names.{refusalOf}
 use Rattle.answers.proofs.Promises.{list-else, list-refused}
@@ -20,7 +21,7 @@ given s = formRefusal (s .args .strict) (gridOf (s .args .rows) (s .args .column
 abbrev come : tie.Start → ListOutcome
 come s =
     let a = s .args in
-    randomRoundCall (gridOf (a .rows) (a .columns) (now (a .grid))) (now (a .work)) (now (a .list)) (drop (a .place) (now (a .bytes)))
+    randomRoundCall (modeOf (a .mode)) (gridOf (a .rows) (a .columns) (now (a .grid))) (now (a .work)) (now (a .list)) (drop (a .place) (now (a .bytes)))
 
 check-form-requires : tie.Need-check-form-requires
 check-form-requires c κs = search needs

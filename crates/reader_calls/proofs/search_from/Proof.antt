@@ -5,6 +5,7 @@ use Prim.Native.Nat.{ℕ}
 use denote.Ref.{now}
 use borrow.Author.Needs.{needs}
 use Rattle.game.specs.Calls.{randomSearchCall}
+use Rattle.draws.specs.Answers.{modeOf}
 use Rattle.area.specs.Numbers.{gridOf}
 use Rattle.answers.specs.Answers.{Keeps, rolledAnswer}
 use Rattle.reader_calls.proofs.Within.{from-place, search-fits}
@@ -36,9 +37,9 @@ returns c =
     let start = c .before .before .before .before .start-at in
     let rolled = c .before .random-search in
     let g = gridOf (a .rows) (a .columns) (now (a .grid)) in
-    let k = subst (λ (l : List ℕ). Keeps (randomSearchCall g (now (a .work)) l (a .rounds)) (rolledAnswer (rolled .result)) (rolled .last .1 .1 .1 .0))
+    let k = subst (λ (l : List ℕ). Keeps (randomSearchCall (modeOf (a .mode)) g (now (a .work)) l (a .rounds)) (rolledAnswer (rolled .result)) (rolled .last .1 .1 .1 .0))
     (from-place (now (a .bytes)) (a .place) (start .result) (start .ensures)) (rolled .ensures) in
-    (k, search-fits (rolled .result) (a .place) (now (a .bytes)) (s .fits .place .fits) (s .good .1 .1 .1 .1 .0 .0) g (now (a .work)) (a .rounds) (k .answers))
+    (k, search-fits (rolled .result) (a .place) (now (a .bytes)) (s .fits .place .fits) (s .good .1 .1 .1 .1 .0 .0) (modeOf (a .mode)) g (now (a .work)) (a .rounds) (k .answers))
 
 pub search-from-spec : {M : Type 1} → statement M
 search-from-spec =

@@ -5,6 +5,7 @@ use denote.Ref.{now}
 use lib.ListN.{drop}
 use borrow.Author.Needs.{needs}
 use Rattle.game.specs.Calls.{Outcome, Refusal, randomSearchCall}
+use Rattle.draws.specs.Answers.{modeOf}
 use Rattle.area.specs.Numbers.{gridOf}
 use Rattle.refusals.specs.Names.{refusalOf}
 use Rattle.answers.proofs.Promises.{keeps-else, keeps-refused}
@@ -20,7 +21,7 @@ given s = formRefusal (s .args .strict) (gridOf (s .args .rows) (s .args .column
 abbrev come : tie.Start → Outcome
 come s =
     let a = s .args in
-    randomSearchCall (gridOf (a .rows) (a .columns) (now (a .grid))) (now (a .work)) (drop (a .place) (now (a .bytes))) (a .rounds)
+    randomSearchCall (modeOf (a .mode)) (gridOf (a .rows) (a .columns) (now (a .grid))) (now (a .work)) (drop (a .place) (now (a .bytes))) (a .rounds)
 
 check-form-requires : tie.Need-check-form-requires
 check-form-requires c κs = search needs

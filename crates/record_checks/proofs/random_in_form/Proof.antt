@@ -6,6 +6,7 @@ use borrow.Author.Needs.{needs}
 use Rattle.game.specs.Calls.{ListOutcome, Refusal, randomRoundCall}
 use Rattle.game.specs.Grid.{Grid}
 use Rattle.area.specs.Numbers.{gridOf}
+use Rattle.draws.specs.Answers.{modeOf}
 use Rattle.refusals.specs.Names.{refusalOf}
 use Rattle.number_check.specs.Forms.{formRefusal}
 use Rattle.answers.proofs.Promises.{list-else, list-refused}
@@ -23,7 +24,7 @@ given s = formRefusal (s .args .strict) (grid s)
 
 -- what the call comes to as it is
 abbrev come : tie.Start → ListOutcome
-come s = within (grid s) (now (s .args .work)) (now (s .args .list)) (s .args .room) (randomRoundCall (grid s) (now (s .args .work)) (now (s .args .list)) (now (s .args .draws)))
+come s = within (grid s) (now (s .args .work)) (now (s .args .list)) (s .args .room) (randomRoundCall (modeOf (s .args .mode)) (grid s) (now (s .args .work)) (now (s .args .list)) (now (s .args .draws)))
 
 check-form-requires : tie.Need-check-form-requires
 check-form-requires c κs = search needs

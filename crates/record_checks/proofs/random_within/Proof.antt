@@ -6,6 +6,7 @@ use denote.Ref.{now}
 use borrow.Author.Needs.{needs}
 use Rattle.game.specs.Calls.{ListOutcome, Refusal, firstGiven, randomRoundCall, gridChecks, roomCheck}
 use Rattle.area.specs.Numbers.{gridOf}
+use Rattle.draws.specs.Answers.{modeOf}
 use Rattle.refusals.specs.Names.{refusalOf}
 use Rattle.answers.proofs.Promises.{list-else, list-refused}
 use Rattle.record_checks.proofs.random_within.Statement.{statement}
@@ -19,7 +20,7 @@ given s =
 
 -- what the call comes to where none is
 abbrev come : tie.Start → ListOutcome
-come s = randomRoundCall (gridOf (s .args .rows) (s .args .columns) (now (s .args .grid))) (now (s .args .work)) (now (s .args .list)) (now (s .args .draws))
+come s = randomRoundCall (modeOf (s .args .mode)) (gridOf (s .args .rows) (s .args .columns) (now (s .args .grid))) (now (s .args .work)) (now (s .args .list)) (now (s .args .draws))
 
 check-room-requires : tie.Need-check-room-requires
 check-room-requires c κs = search needs

@@ -8,6 +8,7 @@ use Rattle.game.specs.Calls.{ListOutcome, Refusal, firstGiven, randomRoundCall,
 use Rattle.area.specs.Numbers.{gridOf}
 use Rattle.refusals.specs.Names.{refusalOf}
 use Rattle.answers.proofs.Promises.{list-else, list-refused}
+use Rattle.draws.specs.Answers.{modeOf}
 use Rattle.strict_calls.proofs.strict.random_round.Statement.{statement}
 use Rattle.strict_calls.proofs.strict.random_round.Tie as tie
 
@@ -21,7 +22,7 @@ given s = firstGiven (strictChecks (grid s))
 
 -- what the call comes to where none is
 abbrev come : tie.Start → ListOutcome
-come s = randomRoundCall (grid s) (now (s .args .work)) (now (s .args .list)) (now (s .args .draws))
+come s = randomRoundCall (modeOf (s .args .mode)) (grid s) (now (s .args .work)) (now (s .args .list)) (now (s .args .draws))
 
 check-numbers-requires : tie.Need-check-numbers-requires
 check-numbers-requires c κs = search needs

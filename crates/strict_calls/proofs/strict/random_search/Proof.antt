@@ -8,6 +8,7 @@ use Rattle.game.specs.Calls.{Outcome, Refusal, firstGiven, randomSearchCall, st
 use Rattle.area.specs.Numbers.{gridOf}
 use Rattle.refusals.specs.Names.{refusalOf}
 use Rattle.answers.proofs.Promises.{keeps-else, keeps-refused}
+use Rattle.draws.specs.Answers.{modeOf}
 use Rattle.strict_calls.proofs.strict.random_search.Statement.{statement}
 use Rattle.strict_calls.proofs.strict.random_search.Tie as tie
 
@@ -21,7 +22,7 @@ given s = firstGiven (strictChecks (grid s))
 
 -- what the call comes to where none is
 abbrev come : tie.Start → Outcome
-come s = randomSearchCall (grid s) (now (s .args .work)) (now (s .args .draws)) (s .args .rounds)
+come s = randomSearchCall (modeOf (s .args .mode)) (grid s) (now (s .args .work)) (now (s .args .draws)) (s .args .rounds)
 
 check-numbers-requires : tie.Need-check-numbers-requires
 check-numbers-requires c κs = search needs

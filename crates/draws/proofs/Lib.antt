@@ -1,0 +1,2 @@
+-- Words one after another.
+pub mod Words

@@ -1,0 +1,202 @@
+#!/usr/bin/env python3
+"""Random rounds and searches once more (docs/RULES.md, 4, 5 and 8) in both modes of the draws, a second program beside the library,
+by the rules as oracle/replays.py has them. It runs target/bin/cases (rt check cases).
+
+fair.py cases         holds each random case of crates/cases, but the strict ones, beside its own answer
+fair.py random [N]    the same for N random cases (default 2000): boards up to 5 by 6, bytes of which many are FF, both modes
+fair.py widths CASE   says for a case, a line as in crates/cases/stdin, among how many each draw is and which words are spent"""
+import importlib.util, os, random, re, subprocess, sys
+
+ROOT = os.path.join(os.path.dirname(os.path.abspath(__file__)), "..")
+
+
+def module(*path):
+    """A program of this project as a module."""
+    name = os.path.basename(path[-1])[:-3]
+    spec = importlib.util.spec_from_file_location(name, os.path.join(ROOT, *path))
+    found = importlib.util.module_from_spec(spec)
+    spec.loader.exec_module(found)
+    return found
+
+
+rules = module("oracle", "replays.py")
+SHAPE, BOARD, WORK, TRACE, ROUNDS, DRAWS = 1, 2, 3, 4, 5, 6
+
+
+class Dry(Exception):
+    """Four bytes are needed and fewer are left."""
+
+
+class Draws:
+    """Lent bytes, read from the first on."""
+
+    def __init__(self, data, fair):
+        self.data, self.fair, self.used, self.told = data, fair, 0, []
+
+    def among(self, n):
+        if n == 1:
+            return 0
+        spent = []
+        while True:
+            four = self.data[self.used:self.used + 4]
+            if len(four) < 4:
+                self.told.append((n, spent, None))
+                raise Dry
+            self.used += 4
+            word = sum(byte << 8 * k for k, byte in enumerate(four))
+            if not self.fair or word < 2**32 - 2**32 % n:
+                self.told.append((n, spent, word))
+                return word % n
+            spent.append(word)
+
+
+def step(game, draws):
+    """The words of a step that is drawn."""
+    five = game.numbers()
+    safe = [i for i in game.cells if not game.mine[i]]
+    best = max(five[5 * i + 2] for i in safe)
+    if best < 0:
+        units = [i for i in safe if game.state[i] == rules.CLOSED and (game.number[i] == 0 or five[5 * i] == 0)]
+        return [rules.LEFT * 65536 + units[draws.among(len(units))]]
+    tops = [i for i in safe if five[5 * i + 2] == best]
+    i = tops[draws.among(len(tops))]
+    near = sorted(game.square[i], key=lambda j: (j % game.rows, j // game.rows))
+    flags = [rules.FLAG * 65536 + j for j in near if game.mine[j] and game.state[j] != rules.FLAGGED]
+    return [rules.LEFT * 65536 + i] * (game.state[i] == rules.CLOSED) + flags + [rules.CHORD * 65536 + i]
+
+
+def play(rows, columns, board, draws):
+    """A round: its words, and the game at its end."""
+    game, words = rules.Game(rows, columns, board), []
+    while game.closed:
+        for word in step(game, draws):
+            assert game.is_legal(word)
+            game.play(word)
+            words.append(word)
+    return words, game
+
+
+def values(run, kind):
+    """The numbers of a run: a pattern, or a pattern, x and a length."""
+    pattern, x, length = run.partition("x")
+    if kind == "bytes":
+        parts = [int(pattern[i:i + 2], 16) for i in range(0, len(pattern) // 2 * 2, 2)]
+    elif pattern[:1] in ("*", "."):
+        parts = [-1 if c == "*" else 0 for c in pattern]
+    else:
+        parts = [int(p) for p in pattern.split(",") if p]
+    count = int(length) if x else len(parts)
+    return [parts[k % len(parts)] for k in range(count)] if parts else []
+
+
+class Case:
+    """A random case by its fields."""
+
+    def __init__(self, line):
+        self.name, rest = line.split(": ", 1)
+        words = rest.split(" ")
+        self.call, found = words[0], dict(w.split("=", 1) for w in words[1:])
+        self.rows, self.columns = int(found["rows"]), int(found["columns"])
+        self.rounds, self.fair = int(found.get("rounds", 0)), int(found.get("fair", 0)) != 0
+        self.board, self.work, self.list = (values(found.get(f, ""), "numbers") for f in ("board", "work", "list"))
+        if "last" in found and self.board:
+            self.board[-1] = int(found["last"])
+        self.draws = Draws(values(found.get("draws", ""), "bytes"), self.fair)
+
+    def refusal(self):
+        cells, search = self.rows * self.columns, self.call == "random-search"
+        checks = ((SHAPE, 1 <= self.rows <= 255 and 1 <= self.columns <= 255), (BOARD, len(self.board) == cells), (WORK, 5 * cells <= len(self.work)),
+                  (TRACE, search or cells <= len(self.list)), (ROUNDS, not search or self.rounds > 0))
+        return next((number for number, passes in checks if not passes), 0)
+
+    def outcome(self):
+        """The answer, and the list and the work area then."""
+        number, cells = self.refusal(), self.rows * self.columns
+        if number:
+            return (number, 0, 0), self.list, self.work
+        try:
+            least, rounds, before = None, max(self.rounds, 1), None
+            while rounds and before != self.draws.used:
+                before = self.draws.used
+                words, game = play(self.rows, self.columns, self.board, self.draws)
+                least, rounds = min(least or len(words), len(words)), rounds - 1
+        except Dry:
+            cleared = [0] * cells + self.list[cells:] if self.call == "random-round" else self.list
+            return (DRAWS, 0, 0), cleared, [0] * (5 * cells) + self.work[5 * cells:]
+        listed = words + self.list[len(words):] if self.call == "random-round" else self.list
+        return (0, least, self.draws.used), listed, game.numbers() + self.work[5 * cells:]
+
+
+def printed(numbers, words=False):
+    """A run as the program prints it: whole, or the two sums of more than 255."""
+    if len(numbers) > 255:
+        total, sums = 0, 0
+        for n in numbers:
+            total += n if words else max(n, 0)
+            sums += total
+        return f" {total % 2**64} {sums % 2**64}"
+    return "".join(f" {n // 65536} {n % 65536}" if words else f" {n}" for n in numbers)
+
+
+def expected(line):
+    """What the program is to print for a case."""
+    case = Case(line)
+    answer, words, work = case.outcome()
+    return [case.name + "".join(f" {n}" for n in answer)] + ([printed(words, True)] if words else []) + [printed(work)], case
+
+
+def run(lines):
+    """What the program prints for each line, one after the other."""
+    cases = os.path.join(ROOT, "target", "bin", "cases")
+    text = "".join(f"#{k}\n{line}\n" for k, line in enumerate(lines))
+    out = subprocess.run([cases], input=text.encode(), stdout=subprocess.PIPE, check=True).stdout.decode()
+    return [part.split("\n")[1:-1] for part in re.split(r"^#", out, flags=re.M)[1:]]
+
+
+def hold(lines):
+    """Compares random cases with what is expected of them. Answers how many differ."""
+    wrong, fair, spent, dry = 0, 0, 0, 0
+    for line, got in zip(lines, run(lines)):
+        wanted, case = expected(line)
+        words = sum(len(s) for _, s, _ in case.draws.told)
+        fair, spent, dry = fair + case.fair, spent + (words > 0), dry + (words > 0 and case.draws.told[-1][2] is None)
+        if got != wanted:
+            wrong += 1
+            print(f"differs: {line[:300]}\n  got      {got}\n  expected {wanted}")
+    print(f"{len(lines)} cases, {fair} of them fair; in {spent} a word was spent, {dry} of these ran dry: {wrong} differ")
+    return wrong
+
+
+def random_case(rng, k):
+    rows, columns = rng.randint(1, 5), rng.randint(1, 6)
+    cells = rows * columns
+    density = rng.choice((0, 0.1, 0.25, 0.5))
+    board = [-1 if rng.random() < density else rng.choice((0, 5)) for _ in range(cells)]
+    call = rng.choice(("random-round", "random-search"))
+    line = f"case {k}: {call} rows={rows} columns={columns} board={','.join(map(str, board))} work=7x{5 * cells + rng.choice((-1, 0, 0, 0, 3))}"
+    if call == "random-round":
+        line += f" list=4294967295x{cells + rng.choice((-1, 0, 0, 0, 2))}"
+    word = lambda: rng.choice(("FFFFFFFF", "FEFFFFFF", "FCFFFFFF", "FBFFFFFF", "%08X" % rng.getrandbits(32), "%08X" % rng.getrandbits(32)))
+    line += f" draws={''.join(word() for _ in range(rng.choice((1, 4, 16, 40))))}{rng.choice(('', '', 'FF', 'FFFFFF'))} fair={rng.choice((0, 1, 1, 255))}"
+    return line + (f" rounds={rng.choice((0, 1, 2, 3, 18446744073709551615))}" if call == "random-search" else "")
+
+
+def main():
+    if sys.argv[1:2] == ["cases"]:
+        with open(os.path.join(ROOT, "crates", "cases", "stdin")) as f:
+            lines = [line for line in f.read().split("\n") if re.search(": random-(round|search) ", line) and not line.startswith("#")]
+        return hold(lines)
+    if sys.argv[1:2] == ["random"]:
+        rng = random.Random(3)
+        return hold([random_case(rng, k) for k in range(int(sys.argv[2]) if len(sys.argv) > 2 else 2000)])
+    if sys.argv[1:2] == ["widths"]:
+        wanted, case = expected(sys.argv[2])
+        print("\n".join(wanted))
+        for n, spent, word in case.draws.told:
+            print(f"among {n}: spent {['%08X' % w for w in spent]}, {'dry' if word is None else 'took %08X' % word}")
+        return 0
+    print(__doc__)
+    return 2
+
+
+sys.exit(1 if main() else 0)
