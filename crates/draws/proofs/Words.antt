@@ -2,12 +2,13 @@
 use Prim.Native.Nat.{ℕ, _%_, _*_, _+_, _-_, _<_, _≤_, suc, zero}
 use native.Mathlib.Omega.{arith}
 use mathlib.Core.Path.{_≡_, ap, sym, _∙_}
-use mathlib.Core.Bool.{Bool, cond, false, true}
+use mathlib.Core.Bool.{Bool, false, true}
 use mathlib.Core.List.{List}
 use mathlib.Core.Option.{none, some}
 use lib.ListN.{length}
 use borrow.Author.Tests.{le-ltb, lt-ltb}
 use Rattle.game.specs.Draws.{Mode, allWords, firstTaken, fourBytes, taken}
+use Rattle.game.proofs.Draws.{orNext, taking}
 use Rattle.draws.specs.Answers.{Bounds}
 
 -- after some words, each spent: the words left are in the bytes, and they decide
@@ -19,11 +20,11 @@ pub record Midway (bytes : List ℕ) (n bound at words place left : ℕ) : Type 
 -- the draw of one word and those after it, by whether it is taken
 turn : (bytes : List ℕ) (mode : Mode) (n place left : ℕ) (b : Bool) → 1 ≤ left → taken mode n (fourBytes bytes place) ≡ b
     → firstTaken (fourBytes bytes) mode n left place
-    ≡ cond b (some (record { place = fourBytes bytes place % n; next = place + 4 })) (firstTaken (fourBytes bytes) mode n (left - 1) (place + 4))
+    ≡ orNext b (taking (fourBytes bytes) n place) (firstTaken (fourBytes bytes) mode n (left - 1) (place + 4))
 turn bytes mode n place zero b h e = absurd (omega arith)
 turn bytes mode n place (suc left) b h e =
-    ap (λ (x : Bool). cond x (some (record { place = fourBytes bytes place % n; next = place + 4 })) (firstTaken (fourBytes bytes) mode n left (place + 4))) e
-    ∙ ap (λ (k : ℕ). cond b (some (record { place = fourBytes bytes place % n; next = place + 4 })) (firstTaken (fourBytes bytes) mode n k (place + 4))) one-less
+    ap (λ (x : Bool). orNext x (taking (fourBytes bytes) n place) (firstTaken (fourBytes bytes) mode n left (place + 4))) e
+    ∙ ap (λ (k : ℕ). orNext b (taking (fourBytes bytes) n place) (firstTaken (fourBytes bytes) mode n k (place + 4))) one-less
   where
     one-less : left ≡ suc left - 1
     one-less = omega arith

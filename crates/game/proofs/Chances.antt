@@ -4,17 +4,19 @@ use native.Mathlib.Omega.{arith}
 use native.Mathlib.Decide.{ℕ-discrete, decLt}
 use native.Mathlib.Nat.{div-add-mod, div-eq-of-lt, div-self, mod-eq-of-lt, mod-lt, mod-self, mul-add-div, mul-div-cancel-left, mul-mod-right, sub-zero, suc-mod, suc-mul, zero-div, zero-mod}
 use native.Mathlib.Numerals.{add-one}
-use mathlib.Core.Path.{_∙_, _≡_, ap, sym}
-use mathlib.Core.Bool.{Bool, _&&_}
+use mathlib.Core.Path.{_∙_, _≡_, ap, refl, sym}
+use mathlib.Core.Bool.{Bool, _&&_, false, true}
 use mathlib.Core.List.{List, [], _∷_}
+use mathlib.Core.Option.{Option·some-injective, some}
 use lib.Dec.{T, eqb, eqb-refl, eqb→eq, lt→ltb, ltb, ltb→lt}
 use lib.ListN.{length}
 use Rattle.game.specs.Lists.{bit, count, has, range}
-use Rattle.game.specs.Draws.{Mode, allWords, fair, fairBound, old}
+use Rattle.game.specs.Draws.{Drawn, Mode, allWords, draw, fair, fairBound, fourBytes, old, taken}
 use Rattle.game.specs.Chances.{chances, chancesBelow, takenFor, together}
 use Rattle.game.proofs.Counts.{count-append, count-ext, count-more, count-none}
+use Rattle.game.proofs.Draws.{draw-on, draw-spent, draw-taken}
 use Rattle.game.proofs.Members.{first-of, has-range, length-from, range-split, rest-of}
-use Rattle.game.proofs.Truth.{and-both, and-left, and-right}
+use Rattle.game.proofs.Truth.{T→true, and-both, and-left, and-right}
 use borrow.Author.Tests.{eq-eqb, le-ltb, lt-ltb, ne-eqb}
 
 -- ---- tests of order as numbers
@@ -195,3 +197,24 @@ fair-together n h = sum-below fair n (fairBound n) h (fair-bounded n)
 -- in the old mode all words
 pub old-together : (n : ℕ) → 1 ≤ n → together old n (range 0 n) ≡ allWords
 old-together n h = sum-below old n allWords h (old-chances n)
+
+-- ---- the words and the draws
+
+-- a draw among two or more takes a place by its first word where that is one of the place's words
+pub word-draws : (mode : Mode) (bytes : List ℕ) (at n place : ℕ) → 2 ≤ n → at + 4 ≤ length bytes → T (takenFor mode n place (fourBytes bytes at))
+    → draw mode bytes at n ≡ some (record { place = place; next = at + 4 })
+word-draws mode bytes at n place h l t =
+    let word = fourBytes bytes at in
+    draw-taken mode bytes at n h l (T→true (taken mode n word) (and-left (taken mode n word) (eqb (word % n) place) t))
+    ∙ ap (λ (p : ℕ). some (record { place = p; next = at + 4 })) (eqb→eq (word % n) place (and-right (taken mode n word) (eqb (word % n) place) t))
+
+-- and nowhere else
+pub draws-word : (mode : Mode) (bytes : List ℕ) (at n place : ℕ) → 2 ≤ n → at + 4 ≤ length bytes → draw mode bytes at n ≡ some (record { place = place; next = at + 4 })
+    → T (takenFor mode n place (fourBytes bytes at))
+draws-word mode bytes at n place h l e = go (taken mode n (fourBytes bytes at)) refl
+  where
+    go : (b : Bool) → taken mode n (fourBytes bytes at) ≡ b → T (takenFor mode n place (fourBytes bytes at))
+    go true q =
+        let same = Option·some-injective _ _ (sym (draw-taken mode bytes at n h l q) ∙ e) in
+        and-both (taken mode n (fourBytes bytes at)) (eqb (fourBytes bytes at % n) place) (rw q tt) (rw (eq-eqb (fourBytes bytes at % n) place (ap (λ (d : Drawn). d .place) same)) tt)
+    go false q = let late = draw-on mode bytes (at + 4) n _ h (sym (draw-spent mode bytes at n h l q .0) ∙ e) in absurd (omega arith)

@@ -23,19 +23,23 @@ IfSome P (some x) = P x
 abbrev pub taking : (ℕ → ℕ) → ℕ → ℕ → Drawn
 taking word n a = record { place = word a % n; next = a + 4 }
 
+-- a word that is taken, or else what the next one gives
+abbrev pub orNext : Bool → Drawn → Option Drawn → Option Drawn
+orNext b d next = elim b [ true ↦ some d | false ↦ next ]
+
 -- something holds of the first word that is taken, if it holds of each that is
 pub by-taken : (P : Drawn → Type 0) (word : ℕ → ℕ) (mode : Mode) (n k at : ℕ) → ((a : ℕ) → at ≤ a → a + 4 ≤ at + 4 * k → T (taken mode n (word a)) → P (taking word n a))
     → IfSome P (firstTaken word mode n k at)
 by-taken P word mode n zero at h = tt
 by-taken P word mode n (suc k) at h = go (taken mode n (word at)) refl (by-taken P word mode n k (at + 4) (λ a l m t. h a (omega arith) (omega arith) t))
   where
-    go : (b : Bool) → taken mode n (word at) ≡ b → IfSome P (firstTaken word mode n k (at + 4)) → IfSome P (cond b (some (taking word n at)) (firstTaken word mode n k (at + 4)))
+    go : (b : Bool) → taken mode n (word at) ≡ b → IfSome P (firstTaken word mode n k (at + 4)) → IfSome P (orNext b (taking word n at) (firstTaken word mode n k (at + 4)))
     go true e r = h at (omega arith) (omega arith) (rw e tt)
     go false e r = r
 
 -- where the first word is taken, it is the draw
 pub first-taken : (word : ℕ → ℕ) (mode : Mode) (n k at : ℕ) → taken mode n (word at) ≡ true → firstTaken word mode n (suc k) at ≡ some (taking word n at)
-first-taken word mode n k at e = ap (λ (b : Bool). cond b (some (taking word n at)) (firstTaken word mode n k (at + 4))) e
+first-taken word mode n k at e = ap (λ (b : Bool). orNext b (taking word n at) (firstTaken word mode n k (at + 4))) e
 
 -- ---- a draw from lent bytes
 
@@ -89,6 +93,12 @@ unfolding draw
 draw-words mode bytes at n h =
     ap (λ (b : Bool). cond b (some (record { place = 0; next = at })) (firstTaken (fourBytes bytes) mode n (wordsLeft bytes at) at)) (lt-leb n 1 (omega arith))
 
+-- then it uses a word at least
+pub draw-on : (mode : Mode) (bytes : List ℕ) (at n : ℕ) (d : Drawn) → 2 ≤ n → draw mode bytes at n ≡ some d → at + 4 ≤ d .next
+draw-on mode bytes at n d h e =
+    subst (IfSome (λ (x : Drawn). at + 4 ≤ x .next)) (sym (draw-words mode bytes at n h) ∙ e)
+    (by-taken (λ (x : Drawn). at + 4 ≤ x .next) (fourBytes bytes) mode n (wordsLeft bytes at) at (λ a l m t. omega arith))
+
 -- among one it takes the first place and uses no bytes
 pub draw-one : (mode : Mode) (bytes : List ℕ) (at : ℕ) → draw mode bytes at 1 ≡ some (record { place = 0; next = at })
 unfolding draw
@@ -107,22 +117,22 @@ draw-short mode bytes at n h l = draw-words mode bytes at n h ∙ ap (λ (k : �
 
 -- otherwise its first word is taken or spent
 draw-turn : (mode : Mode) (bytes : List ℕ) (at n : ℕ) → 2 ≤ n → at + 4 ≤ length bytes
-    → draw mode bytes at n ≡ cond (taken mode n (fourBytes bytes at)) (some (taking (fourBytes bytes) n at)) (draw mode bytes (at + 4) n)
+    → draw mode bytes at n ≡ orNext (taken mode n (fourBytes bytes at)) (taking (fourBytes bytes) n at) (draw mode bytes (at + 4) n)
 draw-turn mode bytes at n h l =
     draw-words mode bytes at n h ∙ ap (λ (k : ℕ). firstTaken (fourBytes bytes) mode n k at) (word-left (length bytes) at l)
-    ∙ ap (cond (taken mode n (fourBytes bytes at)) (some (taking (fourBytes bytes) n at))) (sym (draw-words mode bytes (at + 4) n h))
+    ∙ ap (orNext (taken mode n (fourBytes bytes at)) (taking (fourBytes bytes) n at)) (sym (draw-words mode bytes (at + 4) n h))
 
 -- taken: the word's place mod n, four bytes on
 pub draw-taken : (mode : Mode) (bytes : List ℕ) (at n : ℕ) → 2 ≤ n → at + 4 ≤ length bytes → taken mode n (fourBytes bytes at) ≡ true
     → draw mode bytes at n ≡ some (taking (fourBytes bytes) n at)
 draw-taken mode bytes at n h l e =
-    draw-turn mode bytes at n h l ∙ ap (λ (b : Bool). cond b (some (taking (fourBytes bytes) n at)) (draw mode bytes (at + 4) n)) e
+    draw-turn mode bytes at n h l ∙ ap (λ (b : Bool). orNext b (taking (fourBytes bytes) n at) (draw mode bytes (at + 4) n)) e
 
 -- spent: the draw four bytes on, with a word fewer left, so a draw ends
 pub draw-spent : (mode : Mode) (bytes : List ℕ) (at n : ℕ) → 2 ≤ n → at + 4 ≤ length bytes → taken mode n (fourBytes bytes at) ≡ false
     → (draw mode bytes at n ≡ draw mode bytes (at + 4) n) × (wordsLeft bytes (at + 4) < wordsLeft bytes at)
 draw-spent mode bytes at n h l e = (
-  draw-turn mode bytes at n h l ∙ ap (λ (b : Bool). cond b (some (taking (fourBytes bytes) n at)) (draw mode bytes (at + 4) n)) e,
+  draw-turn mode bytes at n h l ∙ ap (λ (b : Bool). orNext b (taking (fourBytes bytes) n at) (draw mode bytes (at + 4) n)) e,
   omega (arith, word-left (length bytes) at l),
 )
 

@@ -1,25 +1,25 @@
 -- How many draw bytes are enough in the old mode: a step draws once, four bytes at most, and a round has at most 3BV steps. In the fair mode no number is. Assumes nothing.
-use Prim.Native.Nat.{ℕ, _*_, _+_, _-_, _≤_, suc, zero}
+use Prim.Native.Nat.{ℕ, _*_, _+_, _-_, _<_, _≤_, suc, zero}
 use native.Mathlib.Omega.{arith}
 use native.Mathlib.Decide.{decLe}
-use native.Mathlib.Nat.{mul-suc}
+use native.Mathlib.Nat.{add-zero, mul-suc}
 use mathlib.Core.Path.{_∙_, _≡_, ap, refl, subst, sym}
 use mathlib.Core.Bool.{Bool, cond, false, true}
 use mathlib.Core.List.{List, [], _++_, _∷_}
 use mathlib.Core.Option.{Option, Option·none-ne-some, none, some}
-use lib.Dec.{T, eqb, leb, le→leb}
+use lib.Dec.{T, eqb, leb, le→leb, ltb→lt}
 use lib.IntN.{pos, ℤ}
-use lib.ListN.{length}
+use lib.ListN.{getD, getD-replicate, length, length-replicate, replicate}
 use borrow.Author.Tests.{eq-eqb}
 use Rattle.game.specs.Calls.{Answer, Check, Refusal, draws, drawnRound, drawnSearch, firstGiven, gridChecks, listCheck, numberOf, randomRoundCall, randomSearchCall, refuses, rounds, roundsCheck, unless, unlessListed}
-use Rattle.game.specs.Draws.{Drawn, draw, lent, old}
+use Rattle.game.specs.Draws.{Drawn, draw, fair, fairBound, firstTaken, fourBytes, lent, old, taken, wordsLeft}
 use Rattle.game.specs.Grid.{Grid, mine, number, square}
 use Rattle.game.specs.Openings.{chainedTo, grow, openings, threeBV}
 use Rattle.game.specs.Position.{Position, closedSafe, cost, gain, premium, untouched}
 use Rattle.game.specs.Rounds.{Round, Searched, Step, before, choice, randomFrom, randomRound, randomSearch, searchFrom, stepOf, topCells, unitCells, width}
 use Rattle.game.proofs.Checks.{given-append, given-each, orElse}
-use Rattle.game.proofs.Draws.{IfSome, old-draw}
-use Rattle.game.proofs.Randoms.{by-draws}
+use Rattle.game.proofs.Draws.{IfSome, by-taken, draw-words, old-draw, words-within}
+use Rattle.game.proofs.Randoms.{by-draw, by-draws}
 use Rattle.game.proofs.Searches.{first, goes-on, onward}
 
 -- a round and a search that read no further than a place, if their draws suffice
@@ -101,6 +101,37 @@ pair = record { rows = 1; columns = 2; values = pos 0 ∷ pos 0 ∷ [] }
 pub three-dry : (threeBV pair ≡ 1) × ((a b c : ℕ) → randomRound pair (lent old (a ∷ b ∷ c ∷ [])) 0 ≡ none)
 unfolding mine square number grow chainedTo openings threeBV gain cost premium closedSafe topCells unitCells choice draw randomRound
 three-dry = (refl, λ a b c. refl)
+
+-- ---- the fair mode
+
+-- a word of bytes that are 255 each is the highest, and is spent among three
+high-spent : (bytes : List ℕ) (a : ℕ) → ((i : ℕ) → i < 4 → getD bytes (a + i) 0 ≡ 255) → T (taken fair 3 (fourBytes bytes a)) → ⊥
+unfolding fourBytes
+high-spent bytes a high t =
+    let first : getD bytes a 0 ≡ 255 = ap (λ (k : ℕ). getD bytes k 0) (sym (add-zero a)) ∙ high 0 (omega arith) in
+    omega (arith, ltb→lt (fourBytes bytes a) (fairBound 3) t, high 1 (omega arith), high 2 (omega arith), high 3 (omega arith))
+
+-- so a draw among three is dry, however many such bytes there are
+high-dry : (k at : ℕ) → draw fair (replicate k 255) at 3 ≡ none
+high-dry k at = go (draw fair (replicate k 255) at 3) refl
+  where
+    none-taken : IfSome (λ (x : Drawn). ⊥) (firstTaken (fourBytes (replicate k 255)) fair 3 (wordsLeft (replicate k 255) at) at)
+    none-taken =
+        by-taken (λ (x : Drawn). ⊥) (fourBytes (replicate k 255)) fair 3 (wordsLeft (replicate k 255) at) at
+        (λ a l m. high-spent (replicate k 255) a (λ i h. getD-replicate k (a + i) 255 0 (omega (arith, words-within (replicate k 255) at a l m, length-replicate {A = ℕ} k 255))))
+
+    go : (o : Option Drawn) → draw fair (replicate k 255) at 3 ≡ o → o ≡ none
+    go none e = refl
+    go (some d) e = absurd (subst (IfSome (λ (x : Drawn). ⊥)) (sym (draw-words fair (replicate k 255) at 3 (omega arith)) ∙ e) none-taken)
+
+-- three safe cells
+abbrev triple : Grid
+triple = record { rows = 1; columns = 3; values = pos 0 ∷ pos 0 ∷ pos 0 ∷ [] }
+
+-- in the fair mode no number of bytes is enough for every grid: with bytes of 255 alone the round of three safe cells is dry
+pub fair-dry : (k : ℕ) → randomRound triple (lent fair (replicate k 255)) 0 ≡ none
+unfolding mine square number grow chainedTo openings threeBV gain cost premium closedSafe topCells unitCells choice randomRound
+fair-dry k = ap (by-draw 0 triple (lent fair (replicate k 255)) (untouched triple)) (high-dry k 0)
 
 -- ---- a search
 

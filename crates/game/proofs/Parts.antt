@@ -14,6 +14,7 @@ use Rattle.game.specs.Grid.{Grid}
 use Rattle.game.specs.Openings.{threeBV}
 use Rattle.game.specs.Position.{Position, closedSafe, untouched}
 use Rattle.game.specs.Rounds.{Round, Searched, Step, afterStep, before, choice, randomFrom, randomRound, randomSearch, searchFrom, stepOf, width}
+use Rattle.game.proofs.Draws.{orNext}
 use Rattle.game.proofs.Randoms.{by-draw}
 use Rattle.game.proofs.Searches.{first, goes-on, onward}
 
@@ -42,7 +43,9 @@ left-dropped bytes k at = ap (λ (m : ℕ). m / 4) (as-many (length bytes) (leng
 taken-dropped : (bytes : List ℕ) (mode : Mode) (n words k at : ℕ)
     → firstTaken (fourBytes bytes) mode n words (k + at) ≡ Option·map (drawn-from k) (firstTaken (fourBytes (drop k bytes)) mode n words at)
 taken-dropped bytes mode n zero k at = refl
-taken-dropped bytes mode n (suc words) k at = rw (four-dropped bytes k at) (go (fourBytes (drop k bytes) at) (taken mode n (fourBytes (drop k bytes) at)) (rest (taken-dropped bytes mode n words k (at + 4))))
+taken-dropped bytes mode n (suc words) k at =
+    ap (λ (x : ℕ). orNext (taken mode n x) (record { place = x % n; next = k + at + 4 }) (firstTaken (fourBytes bytes) mode n words (k + at + 4))) (four-dropped bytes k at)
+    ∙ go (fourBytes (drop k bytes) at) (taken mode n (fourBytes (drop k bytes) at)) (rest (taken-dropped bytes mode n words k (at + 4)))
   where
     later : Option Drawn
     later = Option·map (drawn-from k) (firstTaken (fourBytes (drop k bytes)) mode n words (at + 4))
@@ -51,8 +54,8 @@ taken-dropped bytes mode n (suc words) k at = rw (four-dropped bytes k at) (go (
     rest e = ap (firstTaken (fourBytes bytes) mode n words) (add-assoc k at 4) ∙ e
 
     go : (x : ℕ) (b : Bool) → firstTaken (fourBytes bytes) mode n words (k + at + 4) ≡ later
-        → cond b (some (record { place = x % n; next = k + at + 4 })) (firstTaken (fourBytes bytes) mode n words (k + at + 4))
-        ≡ Option·map (drawn-from k) (cond b (some (record { place = x % n; next = at + 4 })) (firstTaken (fourBytes (drop k bytes)) mode n words (at + 4)))
+        → orNext b (record { place = x % n; next = k + at + 4 }) (firstTaken (fourBytes bytes) mode n words (k + at + 4))
+        ≡ Option·map (drawn-from k) (orNext b (record { place = x % n; next = at + 4 }) (firstTaken (fourBytes (drop k bytes)) mode n words (at + 4)))
     go x true e = ap (λ (m : ℕ). some (record { place = x % n; next = m })) (add-assoc k at 4)
     go x false e = e
 

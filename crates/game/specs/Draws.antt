@@ -1,7 +1,7 @@
 -- Sources of draws, and a draw among n from lent bytes, in the old mode and in the fair one (RULES 5.1, 5.5). Assumes nothing.
 use Prim.Native.Nat.{ℕ, _%_, _*_, _+_, _-_, _/_, _<_, _≤_, suc, zero}
 use mathlib.Core.Path.{_≡_}
-use mathlib.Core.Bool.{Bool, cond, true}
+use mathlib.Core.Bool.{Bool, cond, false, true}
 use mathlib.Core.List.{List}
 use mathlib.Core.Option.{Option, none, some}
 use lib.ListN.{getD, length}
@@ -43,7 +43,10 @@ taken fair n word = ltb word (fairBound n)
 abbrev pub firstTaken : (ℕ → ℕ) → Mode → ℕ → ℕ → ℕ → Option Drawn
 firstTaken word mode n zero at = none
 firstTaken word mode n (suc k) at =
-    cond (taken mode n (word at)) (some (record { place = word at % n; next = at + 4 })) (firstTaken word mode n k (at + 4))
+    elim (taken mode n (word at)) [
+      | true ↦ some (record { place = word at % n; next = at + 4 })
+      | false ↦ firstTaken word mode n k (at + 4)
+    ]
 
 -- ---- lent bytes
 
