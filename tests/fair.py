@@ -5,21 +5,13 @@ by the rules as oracle/replays.py has them. It runs target/bin/cases (rt check c
 fair.py cases         holds each random case of crates/cases, but the strict ones, beside its own answer
 fair.py random [N]    the same for N random cases (default 2000): boards up to 5 by 6, bytes of which many are FF, both modes
 fair.py widths CASE   says for a case, a line as in crates/cases/stdin, among how many each draw is and which words are spent"""
-import importlib.util, os, random, re, subprocess, sys
+import os, random, sys
 
-ROOT = os.path.join(os.path.dirname(os.path.abspath(__file__)), "..")
+from case_lines import ROOT, board_of, case_lines, printed, run, values
 
+sys.path.append(os.path.join(ROOT, "oracle"))
+import replays as rules
 
-def module(*path):
-    """A program of this project as a module."""
-    name = os.path.basename(path[-1])[:-3]
-    spec = importlib.util.spec_from_file_location(name, os.path.join(ROOT, *path))
-    found = importlib.util.module_from_spec(spec)
-    spec.loader.exec_module(found)
-    return found
-
-
-rules = module("oracle", "replays.py")
 SHAPE, BOARD, WORK, TRACE, ROUNDS, DRAWS = 1, 2, 3, 4, 5, 6
 
 
@@ -76,19 +68,6 @@ def play(rows, columns, board, draws):
     return words, game
 
 
-def values(run, kind):
-    """The numbers of a run: a pattern, or a pattern, x and a length."""
-    pattern, x, length = run.partition("x")
-    if kind == "bytes":
-        parts = [int(pattern[i:i + 2], 16) for i in range(0, len(pattern) // 2 * 2, 2)]
-    elif pattern[:1] in ("*", "."):
-        parts = [-1 if c == "*" else 0 for c in pattern]
-    else:
-        parts = [int(p) for p in pattern.split(",") if p]
-    count = int(length) if x else len(parts)
-    return [parts[k % len(parts)] for k in range(count)] if parts else []
-
-
 class Case:
     """A random case by its fields."""
 
@@ -98,9 +77,8 @@ class Case:
         self.call, found = words[0], dict(w.split("=", 1) for w in words[1:])
         self.rows, self.columns = int(found["rows"]), int(found["columns"])
         self.rounds, self.fair = int(found.get("rounds", 0)), int(found.get("fair", 0)) != 0
-        self.board, self.work, self.list = (values(found.get(f, ""), "numbers") for f in ("board", "work", "list"))
-        if "last" in found and self.board:
-            self.board[-1] = int(found["last"])
+        self.board = board_of(found)
+        self.work, self.list = (values(found.get(f, ""), "numbers") for f in ("work", "list"))
         self.draws = Draws(values(found.get("draws", ""), "bytes"), self.fair)
 
     def refusal(self):
@@ -127,30 +105,11 @@ class Case:
         return (0, least, self.draws.used), listed, game.numbers() + self.work[5 * cells:]
 
 
-def printed(numbers, words=False):
-    """A run as the program prints it: whole, or the two sums of more than 255."""
-    if len(numbers) > 255:
-        total, sums = 0, 0
-        for n in numbers:
-            total += n if words else max(n, 0)
-            sums += total
-        return f" {total % 2**64} {sums % 2**64}"
-    return "".join(f" {n // 65536} {n % 65536}" if words else f" {n}" for n in numbers)
-
-
 def expected(line):
     """What the program is to print for a case."""
     case = Case(line)
     answer, words, work = case.outcome()
     return [case.name + "".join(f" {n}" for n in answer)] + ([printed(words, True)] if words else []) + [printed(work)], case
-
-
-def run(lines):
-    """What the program prints for each line, one after the other."""
-    cases = os.path.join(ROOT, "target", "bin", "cases")
-    text = "".join(f"#{k}\n{line}\n" for k, line in enumerate(lines))
-    out = subprocess.run([cases], input=text.encode(), stdout=subprocess.PIPE, check=True).stdout.decode()
-    return [part.split("\n")[1:-1] for part in re.split(r"^#", out, flags=re.M)[1:]]
 
 
 def hold(lines):
@@ -183,9 +142,7 @@ def random_case(rng, k):
 
 def main():
     if sys.argv[1:2] == ["cases"]:
-        with open(os.path.join(ROOT, "crates", "cases", "stdin")) as f:
-            lines = [line for line in f.read().split("\n") if re.search(": random-(round|search) ", line) and not line.startswith("#")]
-        return hold(lines)
+        return hold(case_lines(": random-(round|search) "))
     if sys.argv[1:2] == ["random"]:
         rng = random.Random(3)
         return hold([random_case(rng, k) for k in range(int(sys.argv[2]) if len(sys.argv) > 2 else 2000)])

@@ -4,33 +4,18 @@ strict call is otherwise the present one. It runs target/bin/cases (rt check cas
 
 strict.py cases         holds each strict case of crates/cases beside its own answer
 strict.py random [N]    the same for N random cases (default 2000): boards up to 6 by 6 with right numbers, some of them damaged"""
-import os, random, re, subprocess, sys
+import random, sys
 
-ROOT = os.path.join(os.path.dirname(os.path.abspath(__file__)), "..")
+from case_lines import board_of, case_lines, printed, run, values
+
 PRESENT = {"3bv", "greedy", "openings-first", "random-round", "random-search", "replay", "write-mbf"}
-
-
-def values(run, kind):
-    """The numbers of a run: a pattern, or a pattern, x and a length."""
-    pattern, x, length = run.partition("x")
-    if kind == "bytes":
-        parts = [int(pattern[i:i + 2], 16) for i in range(0, len(pattern) // 2 * 2, 2)]
-    elif pattern[:1] in ("*", "."):
-        parts = [-1 if c == "*" else 0 for c in pattern]
-    else:
-        parts = [65536 * " LFCU".index(p[0]) + int(p[1:]) if p[0] in "LFCU" else int(p) for p in pattern.split(",") if p]
-    count = int(length) if x else len(parts)
-    return [parts[k % len(parts)] for k in range(count)] if parts else []
 
 
 def fields(case):
     """A case's call and its fields."""
     words = case.split(": strict ", 1)[1].split(" ")
     found = dict(w.split("=", 1) for w in words[1:] if "=" in w)
-    board = values(found.get("board", ""), "numbers")
-    if "last" in found and board:
-        board[-1] = int(found["last"])
-    return words[0], int(found["rows"]), int(found["columns"]), board, found
+    return words[0], int(found["rows"]), int(found["columns"]), board_of(found), found
 
 
 def fault(rows, columns, board):
@@ -47,20 +32,6 @@ def fault(rows, columns, board):
     return None
 
 
-def printed(numbers, words=False):
-    """A run as the program prints it: whole, or the two sums of more than 255."""
-    if len(numbers) > 255:
-        above = [n if words else max(n, 0) for n in numbers]
-        total, sums = 0, 0
-        for n in above:
-            total += n
-            sums += total
-        return f" {total % 2**64} {sums % 2**64}"
-    if words:
-        return "".join(f" {n // 65536} {n % 65536}" for n in numbers)
-    return "".join(f" {n}" for n in numbers)
-
-
 def refused(case):
     """What a case prints that is NUMBER: the answer, and all that was lent as it was; None where it is another."""
     call, rows, columns, board, found = fields(case)
@@ -73,14 +44,6 @@ def refused(case):
         return lines + [printed(values(found["file"], "bytes"))]
     words = values(found.get("list", ""), "numbers")
     return lines + ([printed(words, True)] if words else []) + [printed(values(found.get("work", ""), "numbers"))]
-
-
-def run(lines):
-    """What the program prints for each line, by the names that begin its answers."""
-    cases = os.path.join(ROOT, "target", "bin", "cases")
-    text = "".join(f"#{k}\n{line}\n" for k, line in enumerate(lines))
-    out = subprocess.run([cases], input=text.encode(), stdout=subprocess.PIPE, check=True).stdout.decode()
-    return [part.split("\n")[1:-1] for part in re.split(r"^#", out, flags=re.M)[1:]]
 
 
 def hold(lines):
@@ -120,15 +83,13 @@ def random_case(rng, k):
         moves = [rng.choice("LFCU") + str(rng.randrange(cells + 1)) for _ in range(rng.randint(1, 5))]
         line += f" list={','.join(moves)} count={len(moves) + rng.choice((0, 0, 0, 1))}"
     if call in ("random-round", "random-search"):
-        line += f" draws={''.join('%02X' % rng.randrange(256) for _ in range(rng.choice((3, 40, 160))))}"
+        line += f" draws={''.join('%02X' % rng.randrange(256) for _ in range(rng.choice((3, 40, 160))))}{'FF' * rng.choice((0, 8))} fair={rng.choice((0, 1))}"
     return line + (f" rounds={rng.choice((0, 1, 3))}" if call == "random-search" else "")
 
 
 def main():
     if sys.argv[1:2] == ["cases"]:
-        with open(os.path.join(ROOT, "crates", "cases", "stdin")) as f:
-            lines = [line for line in f.read().split("\n") if ": strict " in line and not line.startswith("#")]
-        return hold(lines)
+        return hold(case_lines(": strict "))
     if sys.argv[1:2] == ["random"]:
         rng = random.Random(2)
         return hold([random_case(rng, k) for k in range(int(sys.argv[2]) if len(sys.argv) > 2 else 2000)])
