@@ -27,7 +27,8 @@
  * With fair 0, the old mode, every word is taken. With any other fair, the fair mode, one that isn't below 2^32 minus
  * (2^32 mod n) is spent and the next is read, so that each place has an even chance; *used counts spent words too.
  * With fair 0 a random round uses at most 4 x 3BV draw bytes, so a search with 4 x 3BV x rounds bytes never returns
- * LAVGERIN_DRAWS. In the fair mode no number of bytes rules it out, but of random words fewer than 1 in 66,000 is spent.
+ * LAVGERIN_DRAWS. In the fair mode no number of bytes rules it out, but of random words fewer than 1 in 66,000 is
+ * spent.
  * A long search can be split: each call is lent the bytes from where the one before ended, by *used, and the least of
  * the answers counts. To keep the moves too, play single rounds so, and copy the list whenever *clicks is below the
  * least so far: examples/search.c. */
@@ -50,8 +51,8 @@ enum {
     LAVGERIN_WORK = 3,   /* the work area is below 5 x cells */
     LAVGERIN_TRACE = 4,  /* the list is below cells long; in replay: count above the list's length */
     LAVGERIN_ROUNDS = 5, /* random search with 0 rounds */
-    LAVGERIN_DRAWS = 6,  /* four bytes were needed and fewer were left, maybe after spent words: the first 5 x cells numbers
-                            and cells moves are 0 */
+    LAVGERIN_DRAWS = 6,  /* four bytes were needed and fewer were left, maybe after spent words: the first 5 x cells
+                            numbers and cells moves are 0 */
     LAVGERIN_MOVE = 7,   /* replay met a move that isn't legal, as none is after a won or lost game, another kind, or an
                             index past the grid: the position before it is left */
     LAVGERIN_FILE = 10,  /* the file isn't well formed: its length, a mine past the edge, or one listed twice */

@@ -1,2 +1,2 @@
--- What one draw answers.
+-- What the mode and the answer of a draw stand for.
 pub mod Answers
