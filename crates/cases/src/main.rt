@@ -36,6 +36,62 @@ fn mode_of(text: &[u8]) -> Mode {
     Mode::Fair
 }
 
+// A case's random round, in the mode that it names.
+fn random_round(
+    text: &[u8],
+    rows: usize,
+    columns: usize,
+    grid: &[i32],
+    work: &mut [i32],
+    list: &mut [u32],
+    draws: &[u8],
+) -> Plain {
+    let mode = mode_of(text);
+    plain::of_rolled(random_calls::random_round(rows, columns, grid, work, list, draws, mode))
+}
+
+// A case's random search, in the mode that it names.
+fn random_search(
+    text: &[u8],
+    rows: usize,
+    columns: usize,
+    grid: &[i32],
+    work: &mut [i32],
+    draws: &[u8],
+) -> Plain {
+    let mode = mode_of(text);
+    let rounds = fields::number(text, b"rounds=");
+    plain::of_rolled(random_calls::random_search(rows, columns, grid, work, draws, mode, rounds))
+}
+
+// A case's random round in the strict form, in the mode that it names.
+fn strict_random_round(
+    text: &[u8],
+    rows: usize,
+    columns: usize,
+    grid: &[i32],
+    work: &mut [i32],
+    list: &mut [u32],
+    draws: &[u8],
+) -> Plain {
+    let mode = mode_of(text);
+    plain::of_rolled(strict::random_round(rows, columns, grid, work, list, draws, mode))
+}
+
+// A case's random search in the strict form, in the mode that it names.
+fn strict_random_search(
+    text: &[u8],
+    rows: usize,
+    columns: usize,
+    grid: &[i32],
+    work: &mut [i32],
+    draws: &[u8],
+) -> Plain {
+    let mode = mode_of(text);
+    let rounds = fields::number(text, b"rounds=");
+    plain::of_rolled(strict::random_search(rows, columns, grid, work, draws, mode, rounds))
+}
+
 // Runs a case's call in its strict form on what is lent to it.
 fn strict_call(
     text: &[u8],
@@ -56,21 +112,10 @@ fn strict_call(
         return plain::of_priced(strict::openings_first(rows, columns, grid, work, list));
     }
     if fields::is(text, 9, b"random-round ") {
-        let mode = mode_of(text);
-        return plain::of_rolled(strict::random_round(rows, columns, grid, work, list, draws, mode));
+        return strict_random_round(text, rows, columns, grid, work, list, draws);
     }
     if fields::is(text, 9, b"random-search ") {
-        let mode = mode_of(text);
-        let rounds = fields::number(text, b"rounds=");
-        return plain::of_rolled(strict::random_search(
-            rows,
-            columns,
-            grid,
-            work,
-            draws,
-            mode,
-            rounds,
-        ));
+        return strict_random_search(text, rows, columns, grid, work, draws);
     }
     if fields::is(text, 9, b"replay ") {
         let moves = fields::number(text, b"count=");
@@ -97,29 +142,10 @@ fn call(text: &[u8], grid: &[i32], work: &mut [i32], list: &mut [u32], draws: &[
         return plain::of_priced(prices::openings_first(rows, columns, grid, work, list));
     }
     if fields::is(text, 2, b"random-round ") {
-        let mode = mode_of(text);
-        return plain::of_rolled(random_calls::random_round(
-            rows,
-            columns,
-            grid,
-            work,
-            list,
-            draws,
-            mode,
-        ));
+        return random_round(text, rows, columns, grid, work, list, draws);
     }
     if fields::is(text, 2, b"random-search ") {
-        let mode = mode_of(text);
-        let rounds = fields::number(text, b"rounds=");
-        return plain::of_rolled(random_calls::random_search(
-            rows,
-            columns,
-            grid,
-            work,
-            draws,
-            mode,
-            rounds,
-        ));
+        return random_search(text, rows, columns, grid, work, draws);
     }
     if fields::is(text, 2, b"replay ") {
         let moves = fields::number(text, b"count=");
