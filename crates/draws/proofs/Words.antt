@@ -1,14 +1,14 @@
 -- Words one after another: while each was spent, the draw is that of the words left; one below the bound is taken. Assumes nothing.
-use Prim.Native.Nat.{ℕ, _%_, _*_, _+_, _-_, _<_, _≤_, suc, zero}
+use Prim.Native.Nat.{ℕ, _%_, _*_, _+_, _-_, _<_, _≤_}
 use native.Mathlib.Omega.{arith}
 use mathlib.Core.Path.{_≡_, ap, sym, _∙_}
-use mathlib.Core.Bool.{Bool, false, true}
+use mathlib.Core.Bool.{false, true}
 use mathlib.Core.List.{List}
 use mathlib.Core.Option.{none, some}
 use lib.ListN.{length}
 use borrow.Author.Tests.{le-ltb, lt-ltb}
 use Rattle.game.specs.Draws.{Mode, allWords, firstTaken, fourBytes, taken}
-use Rattle.game.proofs.Draws.{orNext, taking}
+use Rattle.game.proofs.Draws.{taken-turn}
 use Rattle.draws.specs.Answers.{Bounds}
 
 -- after some words, each spent: the words left are in the bytes, and they decide
@@ -16,18 +16,6 @@ pub record Midway (bytes : List ℕ) (n bound at words place left : ℕ) : Type 
   pub began : at ≤ place
   pub room : place + 4 * left ≤ length bytes
   pub rest : (mode : Mode) → Bounds mode n bound → firstTaken (fourBytes bytes) mode n left place ≡ firstTaken (fourBytes bytes) mode n words at
-
--- the draw of one word and those after it, by whether it is taken
-turn : (bytes : List ℕ) (mode : Mode) (n place left : ℕ) (b : Bool) → 1 ≤ left → taken mode n (fourBytes bytes place) ≡ b
-    → firstTaken (fourBytes bytes) mode n left place
-    ≡ orNext b (taking (fourBytes bytes) n place) (firstTaken (fourBytes bytes) mode n (left - 1) (place + 4))
-turn bytes mode n place zero b h e = absurd (omega arith)
-turn bytes mode n place (suc left) b h e =
-    ap (λ (x : Bool). orNext x (taking (fourBytes bytes) n place) (firstTaken (fourBytes bytes) mode n left (place + 4))) e
-    ∙ ap (λ (k : ℕ). orNext b (taking (fourBytes bytes) n place) (firstTaken (fourBytes bytes) mode n k (place + 4))) one-less
-  where
-    one-less : left ≡ suc left - 1
-    one-less = omega arith
 
 -- no word is left
 pub words-over : (bytes : List ℕ) (n bound at words place left : ℕ) → Midway bytes n bound at words place left → left ≡ 0
@@ -39,7 +27,7 @@ module _ (bytes : List ℕ) (n bound at words place left word : ℕ) (m : Midway
   pub word-taken : word < bound → (mode : Mode) → Bounds mode n bound → some (record { place = word % n; next = place + 4 }) ≡ firstTaken (fourBytes bytes) mode n words at
   word-taken l mode b =
       ap (λ (w : ℕ). some (record { place = w % n; next = place + 4 })) e
-      ∙ sym (turn bytes mode n place left true h (ap (taken mode n) (sym e) ∙ sym (b .tells word small) ∙ lt-ltb word bound l)) ∙ m .rest mode b
+      ∙ sym (taken-turn (fourBytes bytes) mode n left place true h (ap (taken mode n) (sym e) ∙ sym (b .tells word small) ∙ lt-ltb word bound l)) ∙ m .rest mode b
 
   -- another is spent, and those after it are left
   pub word-spent : bound ≤ word → Midway bytes n bound at words (place + 4) (left - 1)
@@ -48,5 +36,5 @@ module _ (bytes : List ℕ) (n bound at words place left word : ℕ) (m : Midway
         began = omega (arith, m .began);
         room = omega (arith, m .room);
         rest = λ mode b.
-            sym (turn bytes mode n place left false h (ap (taken mode n) (sym e) ∙ sym (b .tells word small) ∙ le-ltb word bound l)) ∙ m .rest mode b;
+            sym (taken-turn (fourBytes bytes) mode n left place false h (ap (taken mode n) (sym e) ∙ sym (b .tells word small) ∙ le-ltb word bound l)) ∙ m .rest mode b;
       }

@@ -37,9 +37,16 @@ by-taken P word mode n (suc k) at h = go (taken mode n (word at)) refl (by-taken
     go true e r = h at (omega arith) (omega arith) (rw e tt)
     go false e r = r
 
--- where the first word is taken, it is the draw
-pub first-taken : (word : ℕ → ℕ) (mode : Mode) (n k at : ℕ) → taken mode n (word at) ≡ true → firstTaken word mode n (suc k) at ≡ some (taking word n at)
-first-taken word mode n k at e = ap (λ (b : Bool). orNext b (taking word n at) (firstTaken word mode n k (at + 4))) e
+-- of k words, one or more, the first is taken, or else those after it decide
+pub taken-turn : (word : ℕ → ℕ) (mode : Mode) (n k at : ℕ) (b : Bool) → 1 ≤ k → taken mode n (word at) ≡ b
+    → firstTaken word mode n k at ≡ orNext b (taking word n at) (firstTaken word mode n (k - 1) (at + 4))
+taken-turn word mode n zero at b h e = absurd (omega arith)
+taken-turn word mode n (suc k) at b h e =
+    ap (λ (x : Bool). orNext x (taking word n at) (firstTaken word mode n k (at + 4))) e
+    ∙ ap (λ (j : ℕ). orNext b (taking word n at) (firstTaken word mode n j (at + 4))) one-less
+  where
+    one-less : k ≡ suc k - 1
+    one-less = omega arith
 
 -- ---- a draw from lent bytes
 
@@ -143,7 +150,7 @@ fair-first bytes at n e = ap (cond (leb n 1) (some (record { place = 0; next = a
   where
     go : (k : ℕ) → firstTaken (fourBytes bytes) fair n k at ≡ firstTaken (fourBytes bytes) old n k at
     go zero = refl
-    go (suc k) = first-taken (fourBytes bytes) fair n k at e
+    go (suc k) = taken-turn (fourBytes bytes) fair n (suc k) at true (omega arith) e
 
 -- the old mode takes its first word, if there is one
 pub old-draw : (bytes : List ℕ) (at n : ℕ)

@@ -24,7 +24,7 @@ four-requires c κs = omega (arith, c .before .loop .inv .room)
 rem-t10 : tie.Need-rem-t10 Inv-loop μ-loop
 rem-t10 c = omega (arith, c .before .before .before .before .before .pre .1)
 
--- from the first place on and from here on four bytes are there
+-- four bytes are there, from here on and from the first place on (so that draws/spent_not_counted falls at `returns`, and not here)
 add-t11 : tie.Need-add-t11 Inv-loop μ-loop
 add-t11 c =
     let l = c .before .before .before in
