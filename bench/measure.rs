@@ -1,6 +1,6 @@
-//! Measures ours and the Rust on the same boards in one run, then our replays, our files, our strict calls and the modes of our draws, and prints the tables. docs/SPEED.md says what is counted.
+//! Measures ours and the Rust on the same boards in one run, then our replays, our files, our strict calls, the modes of our draws and the memory, and prints the tables. docs/SPEED.md says what is counted.
 //!
-//! With no word it runs all rows, with `replays`, `files`, `strict` or `modes` these alone. `count ROW SIDE`, `replay ROW`, `file ROW`, `form ROW` and `mode ROW` are what it runs of itself under callgrind: one call a board.
+//! With no word it runs all rows, with `replays`, `files`, `strict`, `modes` or `memory` these alone. `count ROW SIDE`, `replay ROW`, `file ROW`, `form ROW` and `mode ROW` are what it runs of itself under callgrind: one call a board.
 #[allow(dead_code)]
 #[path = "../oracle/boards.rs"]
 mod boards;
@@ -8,6 +8,7 @@ mod clock;
 mod files;
 mod lists;
 mod lots;
+mod memory;
 mod modes;
 #[allow(dead_code)]
 #[path = "../oracle/original.rs"]
@@ -25,7 +26,7 @@ use original::safe_board; // where the Rust looks for it
 use rows::Row;
 use sides::{MEASURED, SIDES, Side};
 use std::process::Command;
-use table::{Filed, Formed, Measures, Replayed, Searched};
+use table::{Filed, Formed, Measures, Replayed, Searched, Touched};
 
 /// Prints each answer: both sides must print the same.
 fn count(row: &Row, side: Side) {
@@ -67,21 +68,23 @@ fn mode(row: &modes::Row) {
     }
 }
 
-/// The number behind a word at the head of a line.
-fn number_after(text: &str, word: &str) -> u64 {
+/// The numbers behind a word at the head of a line.
+fn numbers_after(text: &str, word: &str) -> Vec<f64> {
     let rest = text.lines().find_map(|line| line.strip_prefix(word));
-    let number = rest.and_then(|rest| rest.trim().parse().ok());
-    number.expect("callgrind tells what it collected")
+    let rest = rest.expect("callgrind tells what it collected");
+    let number = |number: &str| number.parse().expect("a number");
+    rest.split_whitespace().map(number).collect()
 }
 
-/// What callgrind collects of this program with such words, and what it prints. callgrind's file stays in target/bench.
-fn collected(file: &str, words: &[&str]) -> (f64, String) {
+/// What callgrind collects with such options of this program with such words, and what it prints. callgrind's file stays in target/bench.
+fn collected(file: &str, options: &[&str], words: &[&str]) -> (Vec<f64>, String) {
     let file = format!("target/bench/{file}");
     let this = std::env::current_exe().expect("a path to this program");
     let run = Command::new("valgrind")
         .args(["--tool=callgrind", "--quiet", "--collect-atstart=no"])
         .arg(format!("--toggle-collect={MEASURED}"))
         .arg(format!("--callgrind-out-file={file}"))
+        .args(options)
         .arg(this)
         .args(words)
         .output()
@@ -89,17 +92,17 @@ fn collected(file: &str, words: &[&str]) -> (f64, String) {
     let told = String::from_utf8_lossy(&run.stderr);
     assert!(run.status.success(), "{told}");
     let collected = std::fs::read_to_string(&file).expect("callgrind's file");
-    let total = number_after(&collected, "totals:");
+    let totals = numbers_after(&collected, "totals:");
     let printed = String::from_utf8(run.stdout).expect("text");
-    (total as f64, printed)
+    (totals, printed)
 }
 
 /// Instructions of one call, the mean over the boards, and the answers.
 fn instructions(place: usize, row: &Row, side: Side) -> (f64, String) {
     let file = format!("{}.{}", row.file_name(), side.word());
     let words = ["count", &place.to_string(), side.word()];
-    let (total, answers) = collected(&file, &words);
-    (total / row.lot.boards as f64, answers)
+    let (totals, answers) = collected(&file, &[], &words);
+    (totals[0] / row.lot.boards as f64, answers)
 }
 
 /// Microseconds of one call, the mean over so many boards: the median of such samples of nanoseconds.
@@ -146,11 +149,11 @@ fn alone<C>(
     samples: usize,
 ) -> (f64, f64) {
     eprintln!("measuring {name}");
-    let (total, _) = collected(name, words);
+    let (totals, _) = collected(name, &[], words);
     let count = cases.len();
     let mut sample = |_| cases.iter_mut().map(play).sum();
     let samples = (0..samples).map(&mut sample).collect();
-    (total / count as f64, median(samples, count))
+    (totals[0] / count as f64, median(samples, count))
 }
 
 /// A replay measured.
@@ -232,6 +235,20 @@ fn measure_mode(place: usize, row: &modes::Row) -> Searched {
     }
 }
 
+/// Data read and written by a call, and misses, the mean over the boards. callgrind's order: instructions, reads, writes, misses of instructions, of reads, of writes.
+fn measure_memory(row: &memory::Row) -> Touched {
+    eprintln!("measuring {}", row.file_name());
+    let words: Vec<&str> = row.words.iter().map(String::as_str).collect();
+    let (totals, _) = collected(&row.file_name(), &memory::SMALL_CACHE, &words);
+    let mean = |event: usize| totals[event] / row.lot.boards as f64;
+    Touched {
+        name: row.name,
+        lot: row.lot,
+        accesses: [1, 2].map(mean),
+        misses: [4, 5].map(mean),
+    }
+}
+
 /// All rows beside the Rust.
 fn print_rows() {
     let rows = rows::all();
@@ -272,6 +289,12 @@ fn print_modes() {
     table::print_modes(&searched.collect::<Vec<Searched>>());
 }
 
+/// All of the memory.
+fn print_memory() {
+    let touched: Vec<Touched> = memory::all().iter().map(measure_memory).collect();
+    table::print_memory(&touched);
+}
+
 fn run() {
     let words: Vec<String> = std::env::args().skip(1).collect();
     let words: Vec<&str> = words.iter().map(String::as_str).collect();
@@ -283,12 +306,14 @@ fn run() {
             print_files();
             print_forms();
             print_modes();
+            print_memory();
             table::print_notes();
         }
         ["replays"] => print_replays(),
         ["files"] => print_files(),
         ["strict"] => print_forms(),
         ["modes"] => print_modes(),
+        ["memory"] => print_memory(),
         ["count", place, side] => {
             let side = SIDES.into_iter().find(|one| one.word() == side);
             let side = side.expect("ours or rust");
@@ -299,7 +324,7 @@ fn run() {
         ["form", place] => form(&strict::all()[place_of(place)]),
         ["mode", place] => mode(&modes::all()[place_of(place)]),
         _ => panic!(
-            "no words, or: replays, or: files, or: strict, or: modes, or: count ROW SIDE, or: replay ROW, or: file ROW, or: form ROW, or: mode ROW"
+            "no words, or: replays, or: files, or: strict, or: modes, or: memory, or: count ROW SIDE, or: replay ROW, or: file ROW, or: form ROW, or: mode ROW"
         ),
     }
 }

@@ -1,5 +1,6 @@
-//! What is printed: the ratios, how the cost of a cell grows with the board, the replays, the files, the strict calls, the modes, and what was counted.
+//! What is printed: the ratios, how the cost of a cell grows with the board, the replays, the files, the strict calls, the modes, the memory, and what was counted.
 use crate::files::{self, Work};
+use crate::lots::Lot;
 use crate::modes::{self, Mode, SPARE};
 use crate::replays;
 use crate::rows::{ROUNDS, Row, is_league_grown};
@@ -40,6 +41,14 @@ pub struct Searched {
     pub used: u64,
     pub instructions: f64,
     pub time: f64,
+}
+
+/// Data read and written by one call of ours, and the misses of each in the small cache.
+pub struct Touched {
+    pub name: &'static str,
+    pub lot: Lot,
+    pub accesses: [f64; 2],
+    pub misses: [f64; 2],
 }
 
 /// A whole number with its thousands parted.
@@ -247,6 +256,34 @@ pub fn print_modes(all: &[Searched]) {
     println!("\nDraw bytes used over all boards: {}.", used.join("; "));
 }
 
+const MEMORY: &str = "\
+| call | board | boards | data reads | writes | read misses | write misses | misses in all | a cell |
+|---|---|--:|--:|--:|--:|--:|--:|--:|";
+
+fn print_touched(touched: &Touched) {
+    let [reads, writes] = touched.accesses;
+    let [read_misses, write_misses] = touched.misses;
+    let misses = read_misses + write_misses;
+    println!(
+        "| {} | {} | {} | {} | {} | {} | {} | {} | {:.2} |",
+        touched.name,
+        touched.lot.name(),
+        touched.lot.boards,
+        parted(reads),
+        parted(writes),
+        parted(read_misses),
+        parted(write_misses),
+        parted(misses),
+        misses / touched.lot.cells() as f64
+    );
+}
+
+/// The table of the memory.
+pub fn print_memory(all: &[Touched]) {
+    println!("\n{MEMORY}");
+    all.iter().for_each(print_touched);
+}
+
 /// The ratios, and how they grow.
 pub fn print(all: &[Measures]) {
     println!("{RATIOS}");
@@ -271,6 +308,7 @@ The Rust: cal_zini, cal_hzini and cal_rzini with their copy of the board and the
 Replays: lavgerin_replay, the moves of a list the mean over the boards; moves made, safe cells still closed and the ending are checked.
 Files: lavgerin_read_mbf and lavgerin_write_mbf, mines in index order; the mines read and the bytes written are checked, and that a refused read leaves the grid.
 Strict calls: lavgerin_three_bv and lavgerin_strict_three_bv on boards with right numbers; the cell that NUMBER names is checked, and that it leaves the work area.
-Modes: lavgerin_random_search, the same boards and draws in both, {SPARE} words a board more than are always enough in the old mode; success is checked, and that clicks and draw bytes used are the same where no word was spent."
+Modes: lavgerin_random_search, the same boards and draws in both, {SPARE} words a board more than are always enough in the old mode; success is checked, and that clicks and draw bytes used are the same where no word was spent.
+Memory: callgrind's cache simulator, which is cachegrind's, with a first-level data cache of 8 KiB, two ways and 32-byte lines; one call a board, the mean over the boards."
     );
 }

@@ -9,4 +9,3 @@ pub mod Held
 pub mod Sides
 pub mod Marks
 pub mod Spans
-pub mod Columns

@@ -1,22 +1,13 @@
 -- The work area number by number, and a cell's five numbers by name: how they lie is said here alone. Assumes nothing.
 use Prim.Native.Nat.{ℕ, _+_, _*_, _%_, _≤_}
-use mathlib.Core.Bool.{Bool}
 use mathlib.Core.List.{List, [], _∷_}
 use lib.IntN.{ℤ, pos, negsuc, _-ℤ_}
 use lib.ListN.{getD, length, set}
-use Rattle.game.specs.Grid.{Grid, isMine}
+use Rattle.game.specs.Grid.{Grid}
 
 -- the grid of rows, columns and a lent run of values
 abbrev pub gridOf : ℕ → ℕ → List ℤ → Grid
 gridOf r c vs = record { rows = r; columns = c; values = vs }
-
--- the value at a row and a column is a mine
-abbrev pub rowMine : List ℤ → ℕ → ℕ → ℕ → Bool
-rowMine vs columns row column = isMine (getD vs (row * columns + column) (pos 0))
-
--- the same along a column
-abbrev pub columnMine : List ℤ → ℕ → ℕ → ℕ → Bool
-columnMine vs columns column row = rowMine vs columns row column
 
 -- ---- one number
 

@@ -5,8 +5,8 @@ use mathlib.Core.Bool.{_&&_, cond}
 use mathlib.Core.List.{List, [], _∷_, map}
 use lib.Dec.{eqb, leb, ltb}
 use lib.IntN.{ℤ}
-use Rattle.game.specs.Grid.{Grid, columnOf, index, mine, rowOf, size, square}
-use Rattle.game.specs.Lists.{concat-map, count, range}
+use Rattle.game.specs.Grid.{Grid, columnOf, index, rowOf, size, square}
+use Rattle.game.specs.Lists.{concat-map, range}
 use Rattle.area.specs.Numbers.{gridOf, contentAt, premiumAt, putPremium}
 
 -- ---- by rows and columns
@@ -22,10 +22,6 @@ rowCells rows row a b = map (λ column. column * rows + row) (range a b)
 -- the cells of the rows from y on that are below z, each in the columns from a on that are below b
 unfoldable pub blockCells : ℕ → ℕ → ℕ → ℕ → ℕ → List ℕ
 blockCells rows y z a b = concat-map (λ row. rowCells rows row a b) (range y z)
-
--- the mines of the columns from a on that are below b, in the rows from first on that are below last
-unfoldable pub columnMines : Grid → ℕ → ℕ → ℕ → ℕ → ℕ
-columnMines g first last a b = count (mine g) (concat-map (λ column. map (λ row. index g row column) (range first last)) (range a b))
 
 -- the sides of a cell's square: its rows from first on below last, its columns from a on below b
 pub record Around (rows columns i first last a b : ℕ) : Type 0 where

@@ -8,7 +8,7 @@ use mathlib.Core.Logic.{_⊎_, inl, inr}
 use mathlib.Core.List.{List, [], _∷_}
 use lib.IntN.{pos, ℤ}
 use lib.ListN.{List·getD-append, drop, getD, length, length-append, length-drop, length-set, set}
-use lib.Seq.{ext-getD, getD-append-add, getD-drop, getD-set-other, getD-set-same, sets}
+use lib.Seq.{ext-getD, getD-append-add, getD-drop, getD-set-other, getD-set-same, set-comm, sets}
 use Rattle.game.specs.Area.{begun, laid}
 use Rattle.game.specs.Lists.{concat-map, fold, from, range}
 use Rattle.game.proofs.Members.{suc-across}
@@ -49,6 +49,18 @@ module _ {A : Type 0} (d : A) where
       ∙ getD-set-same l i v d (omega arith)
   sets-here (v ∷ vs) l i (suc k) h b =
       ap (λ (m : ℕ). getD (sets (set l i v) (suc i) vs) m d) (sym (suc-across i k)) ∙ sets-here vs (set l i v) (suc i) k (omega (arith, length-set l i v)) (omega arith)
+
+module _ {A : Type 0} where
+  set-past : (vs l : List A) (i j : ℕ) (a : A) → i < j → sets (set l i a) j vs ≡ set (sets l j vs) i a
+  set-past [] l i j a h = refl
+  set-past (v ∷ vs) l i j a h =
+      ap (λ (t : List A). sets t (suc j) vs) (set-comm l i j a v (λ e. omega arith)) ∙ set-past vs (set l j v) i (suc j) a (omega arith)
+
+  -- two runs that lie apart, set in either order
+  pub sets-apart : (us vs l : List A) (i j : ℕ) → i + length us ≤ j → sets (sets l i us) j vs ≡ sets (sets l j vs) i us
+  sets-apart [] vs l i j h = refl
+  sets-apart (u ∷ us) vs l i j h =
+      sets-apart us vs (set l i u) (suc i) j (omega arith) ∙ ap (λ (t : List A). sets t (suc i) us) (set-past vs l i j u (omega arith))
 
 -- ---- five numbers a cell
 

@@ -1,11 +1,11 @@
--- A cell's number by three rows or by three columns: each is counted once and carried from cell to cell. Assumes nothing.
+-- A cell's number by three columns, each of which is counted once and carried from cell to cell. Assumes nothing.
 use Prim.Native.Nat.{ℕ, _*_, _+_, _-_, _<_, _≤_, min}
 use native.Mathlib.Omega.{arith}
 use native.Mathlib.Decide.{decLe}
 use mathlib.Core.Path.{_∙_, _≡_, ap, refl, sym}
 use mathlib.Core.Bool.{Bool}
 use mathlib.Core.List.{List, [], _∷_, map}
-use Rattle.game.specs.Grid.{Grid, index, mine, number}
+use Rattle.game.specs.Grid.{Grid, index, mine, near, number}
 use Rattle.game.specs.Lists.{concat-map, count, range}
 use Rattle.game.proofs.Counts.{count-append}
 use Rattle.game.proofs.Members.{concat-map-more, range-none}
@@ -61,32 +61,16 @@ module _ (f : ℕ → Bool) (k : ℕ → ℕ → ℕ) where
 -- ---- the number of a cell
 
 module _ (g : Grid) where
-  -- the cells of a row, in the columns from first on that are below last
-  abbrev pub rowPart : ℕ → ℕ → ℕ → List ℕ
-  rowPart first last row = map (λ column. index g row column) (range first last)
+  -- the cells of a column, in a row and the rows beside it
+  abbrev pub columnPart : ℕ → ℕ → List ℕ
+  columnPart row column = map (λ r. index g r column) (near (g .rows) row)
 
-  -- the cells of a column, in the rows from first on that are below last
-  abbrev pub columnPart : ℕ → ℕ → ℕ → List ℕ
-  columnPart first last column = map (λ row. index g row column) (range first last)
-
-  -- what is counted in the rows above, of and below a cell is its number
-  pub number-by-rows : (row column first last above here below : ℕ) → row < g .rows → first ≡ column - 1 → last ≡ min (column + 2) (g .columns)
-      → above ≡ inParts (mine g) (rowPart first last) (row - 1) row → here ≡ inParts (mine g) (rowPart first last) row (row + 1)
-      → below ≡ inParts (mine g) (rowPart first last) (row + 1) (min (row + 2) (g .rows)) → above + here + below ≡ number g (column * g .rows + row)
+  -- what is counted in the columns to the left, of and to the right of a cell is its number
+  pub number-by-columns : (row column left here right : ℕ) → row < g .rows → column < g .columns
+      → left ≡ inParts (mine g) (columnPart row) (column - 1) column → here ≡ inParts (mine g) (columnPart row) column (column + 1)
+      → right ≡ inParts (mine g) (columnPart row) (column + 1) (min (column + 2) (g .columns)) → left + here + right ≡ number g (column * g .rows + row)
   unfolding number
-  number-by-rows row column first last above here below h p q ea eh eb =
-      let t = parts-three (mine g) (rowPart first last) row (g .rows) h in
-      let s : above + here + below ≡ inParts (mine g) (rowPart first last) (row - 1) (min (row + 2) (g .rows)) = omega arith in
-      s ∙ (λ i. inParts (mine g) (rowPart (p i) (q i)) (row - 1) (min (row + 2) (g .rows))) ∙ ap (count (mine g)) (sym (square-at g row column h))
-
-  -- and so is what is counted in the columns to the left, of and to the right of it
-  pub number-by-columns : (row column first last left here right : ℕ) → row < g .rows → column < g .columns → first ≡ row - 1 → last ≡ min (row + 2) (g .rows)
-      → left ≡ inParts (mine g) (columnPart first last) (column - 1) column → here ≡ inParts (mine g) (columnPart first last) column (column + 1)
-      → right ≡ inParts (mine g) (columnPart first last) (column + 1) (min (column + 2) (g .columns)) → left + here + right ≡ number g (column * g .rows + row)
-  unfolding number
-  number-by-columns row column first last left here right h k p q el eh er =
-      let t = parts-three (mine g) (columnPart first last) column (g .columns) k in
-      let s : left + here + right ≡ inParts (mine g) (columnPart first last) (column - 1) (min (column + 2) (g .columns)) = omega arith in
-      s ∙ (λ i. inParts (mine g) (columnPart (p i) (q i)) (column - 1) (min (column + 2) (g .columns)))
-      ∙ count-swap (mine g) (λ r c. index g r c) (range (column - 1) (min (column + 2) (g .columns))) (range (row - 1) (min (row + 2) (g .rows)))
-      ∙ ap (count (mine g)) (sym (square-at g row column h))
+  number-by-columns row column left here right h k el eh er =
+      let t = parts-three (mine g) (columnPart row) column (g .columns) k in
+      let s : left + here + right ≡ inParts (mine g) (columnPart row) (column - 1) (min (column + 2) (g .columns)) = omega arith in
+      s ∙ count-swap (mine g) (λ r c. index g r c) (near (g .columns) column) (near (g .rows) row) ∙ ap (count (mine g)) (sym (square-at g row column h))

@@ -275,6 +275,34 @@ pub fold-map {ℓ} : {S : Type ℓ} (f : S → ℕ → S) (h : ℕ → ℕ) (s :
 fold-map f h s [] = refl
 fold-map f h s (x ∷ xs) = fold-map f h (f s (h x)) xs
 
+-- two steps that do the same with each of them
+pub fold-same {ℓ} : {S : Type ℓ} (f h : S → ℕ → S) (xs : List ℕ) (s : S) → ((t : S) (x : ℕ) → T (has x xs) → f t x ≡ h t x) → fold f s xs ≡ fold h s xs
+fold-same f h [] s e = refl
+fold-same {S} f h (x ∷ xs) s e =
+    ap (λ (t : S). fold f t xs) (e s x (has-head x x xs refl)) ∙ fold-same f h xs (h s x) (λ t y u. e t y (has-tail y x xs u))
+
+-- a step that can be made before or after each step of a fold goes past the fold
+fold-past {ℓ} : {S : Type ℓ} (k : S → S) (f : S → ℕ → S) → ((s : S) (x : ℕ) → k (f s x) ≡ f (k s) x) → (s : S) (xs : List ℕ) → k (fold f s xs) ≡ fold f (k s) xs
+fold-past k f c s [] = refl
+fold-past {S} k f c s (x ∷ xs) = fold-past k f c (f s x) xs ∙ ap (λ (t : S). fold f t xs) (c s x)
+
+-- two folds over the same list as one
+fold-both {ℓ} : {S : Type ℓ} (f h : S → ℕ → S) → ((s : S) (x y : ℕ) → h (f s x) y ≡ f (h s y) x) → (s : S) (xs : List ℕ) → fold h (fold f s xs) xs ≡ fold (λ t x. h (f t x) x) s xs
+fold-both f h c s [] = refl
+fold-both {S} f h c s (x ∷ xs) = ap (λ (t : S). fold h t xs) (fold-past (λ t. h t x) f (λ t y. c t y x) (f s x) xs) ∙ fold-both f h c (h (f s x) x) xs
+
+fold-still {ℓ} : {S : Type ℓ} (s : S) (xs : List ℕ) → fold (λ t x. t) s xs ≡ s
+fold-still s [] = refl
+fold-still s (x ∷ xs) = fold-still s xs
+
+-- steps that can be made in any order: for each x every y, or for each y every x
+pub fold-swap {ℓ} : {S : Type ℓ} (f : S → ℕ → ℕ → S) → ((s : S) (a b c d : ℕ) → f (f s a b) c d ≡ f (f s c d) a b) → (s : S) (xs ys : List ℕ)
+    → fold (λ t x. fold (λ u y. f u x y) t ys) s xs ≡ fold (λ t y. fold (λ u x. f u x y) t xs) s ys
+fold-swap f c s [] ys = sym (fold-still s ys)
+fold-swap f c s (x ∷ xs) ys =
+    fold-swap f c (fold (λ u y. f u x y) s ys) xs ys
+    ∙ fold-both (λ t y. f t x y) (λ t y. fold (λ u z. f u z y) t xs) (λ t y z. sym (fold-past (λ u. f u x y) (λ u w. f u w z) (λ u w. c u w z x y) t xs)) s ys
+
 pub concat-map-append {ℓ κ} : {A : Type ℓ} {B : Type κ} (f : A → List B) (xs ys : List A) → concat-map f (xs ++ ys) ≡ concat-map f xs ++ concat-map f ys
 concat-map-append f [] ys = refl
 concat-map-append f (x ∷ xs) ys =

@@ -1,31 +1,28 @@
--- The right value of a cell by the bits of the mines: its number is that of three columns, of which one is new at each cell of a row. Assumes nothing.
-use Prim.Native.Nat.{ℕ, zero, suc, _+_, _-_, _*_, _%_, _<_, _≤_, min}
+-- Right values put one after the other: no value put changes what is a mine, a value put again replaces the one before, and all of them are the start of the run. Assumes nothing.
+use Prim.Native.Nat.{ℕ, zero, suc, _+_, _*_, _%_, _<_, _≤_}
 use native.Mathlib.Omega.{arith}
+use native.Mathlib.Decide.{ℕ-discrete}
 use native.Mathlib.Nat.{mod-eq-of-lt}
 use native.Mathlib.Numerals.{add-one}
-use mathlib.Core.Path.{_≡_, ap, refl, sym, _∙_}
+use mathlib.Core.Path.{_≡_, ap, ap₂, refl, sym, _∙_}
 use mathlib.Core.Bool.{Bool, cond, false, true}
-use mathlib.Core.List.{List, [], map}
-use lib.Arith.{digits-lt}
+use mathlib.Core.List.{List, _∷_, map}
+use lib.Arith.{digits-div, digits-lt, digits-mod}
+use lib.Dec.{T}
 use lib.IntN.{ℤ, negsuc, pos}
-use lib.ListN.{length, length-set, set}
+use lib.ListN.{List·getD-map, getD, length, length-set, set}
+use lib.Seq.{map-set-same, set-comm, set-getD, set-set}
 use mir.Syntax.{w32}
-use mir.Val.{SFits, toZ}
+use mir.Val.{toZ}
 use Rattle.game.specs.Area.{begun}
 use Rattle.game.specs.Grid.{Grid, cellAt, index, isMine, mine, number, rightValue, rightValues, size}
-use Rattle.game.specs.Lists.{count, fold, range}
-use Rattle.game.proofs.Counts.{count-ext}
-use Rattle.game.proofs.Members.{fold-append, fold-more, getD-range, has-range, length-fold, range-split}
-use Rattle.game.proofs.Squares.{index-column, index-row, next-column}
+use Rattle.game.specs.Lists.{fold, has, range}
+use Rattle.game.proofs.Canonical.{mine-at-place, right-mine}
+use Rattle.game.proofs.Members.{fold-inv, fold-more, has-cases, has-range, length-fold}
 use Rattle.area.specs.Numbers.{gridOf}
-use Rattle.area.specs.Squares.{columnMines}
-use Rattle.area.proofs.Cells.{mine-here}
-use Rattle.area.proofs.Columns.{column-one}
 use Rattle.area.proofs.Signs.{stored}
-use Rattle.lines.specs.BoardLine.{bitAt, valueOf}
 use Rattle.lines.proofs.Runs.{fill-more}
-use Rattle.lines.proofs.Written.{value-mine}
-use Rattle.mbf_read.specs.Numbers.{bitGrid, bitIn, putRight}
+use Rattle.mbf_read.specs.Numbers.{putRight}
 
 -- ---- one cell
 
@@ -33,60 +30,37 @@ use Rattle.mbf_read.specs.Numbers.{bitGrid, bitIn, putRight}
 pub number-stored : (n : ℕ) → n ≤ 9 → toZ w32 n ≡ pos n
 number-stored n h = let e : n % 2147483648 ≡ n = mod-eq-of-lt (omega arith) in ap (toZ w32) (sym e) ∙ stored n ∙ ap pos e
 
--- a right value fits a value of the run
-pub value-fits : (b : Bool) (n : ℕ) → n ≤ 9 → SFits w32 (cond b (negsuc 0) (pos n))
-value-fits true n h = record { sfits = omega arith }
-value-fits false n h = record { sfits = omega arith }
+-- a mine's value is -1
+only-mine : (v : ℤ) → true ≡ isMine v → v ≡ negsuc 0
+only-mine (pos n) e = (cc)
+only-mine (negsuc zero) e = refl
+only-mine (negsuc (suc n)) e = (cc)
 
-module _ (rows columns : ℕ) (bits : List ℕ) where
-  -- the grid
-  abbrev grid : Grid
-  grid = bitGrid rows columns bits
-
-  -- a cell is a mine where its bit is set
-  bit-mine : (row column : ℕ) → row < rows → column < columns → mine grid (index grid row column) ≡ bitAt bits (row * columns + column)
-  bit-mine row column h k =
-      sym (mine-here rows columns (grid .values) row column h)
-      ∙ ap isMine (getD-range (λ p. valueOf (bitAt bits p)) (pos 0) (rows * columns) (row * columns + column) (digits-lt {q = row} {m = rows} {r = column} {c = columns} h k))
-      ∙ value-mine (bitAt bits (row * columns + column))
-
-  -- the cell at a place, by its row and column
-  cell-here : (row column : ℕ) → column < columns → cellAt grid (row * columns + column) ≡ column * rows + row
-  cell-here row column k =
-      let flipped = gridOf columns rows [] in
-      λ i. index-row flipped column row k i * rows + index-column flipped column row k i
-
-  -- its right value, by its bit and its number
-  pub value-is : (row column n : ℕ) → row < rows → column < columns → n ≡ number grid (column * rows + row)
-      → cond (bitAt bits (row * columns + column)) (negsuc 0) (pos n) ≡ rightValue grid (cellAt grid (row * columns + column))
-  unfolding rightValue
-  value-is row column n h k e =
-      (λ i. cond (sym (bit-mine row column h k) i) (negsuc 0) (pos (e i)))
-      ∙ ap (λ (c : ℕ). cond (mine grid c) (negsuc 0) (pos (number grid c))) (sym (cell-here row column k))
-
-  -- the mines of one column, by the bits
-  pub column-mines : (first last column m : ℕ) → last ≤ rows → column < columns → m ≡ count (bitIn bits columns column) (range first last) → m ≡ columnMines grid first last column (column + 1)
-  column-mines first last column m h k e =
-      e ∙ count-ext (bitIn bits columns column) (λ row. mine grid (index grid row column)) (range first last) (λ row t. sym (bit-mine row column (omega (arith, has-range first last row t .1)) k))
-      ∙ column-one grid first last column
-
--- ---- all cells
+-- a mine's value that stays is its right value put again
+stays-or-put : (w : List ℤ) (p n : ℕ) (b : Bool) → b ≡ isMine (getD w p (pos 0)) → cond b w (set w p (pos n)) ≡ set w p (cond b (negsuc 0) (pos n))
+stays-or-put w p n true e = sym (set-getD w p (pos 0)) ∙ ap (set w p) (only-mine (getD w p (pos 0)) e)
+stays-or-put w p n false e = refl
 
 module _ (g : Grid) where
+  -- the cell at a place, by its row and column
+  pub cell-here : (row column : ℕ) → column < g .columns → cellAt g (row * g .columns + column) ≡ index g row column
+  cell-here row column k = ap₂ (index g) (digits-div row k) (digits-mod row k)
+
+  -- ---- cell after cell
+
+  -- the run stays as long
   pub length-filled : (w : List ℤ) (ps : List ℕ) → length (fold (putRight g) w ps) ≡ length w
   length-filled w ps = length-fold (putRight g) w ps (λ v p. length-set v p (rightValue g (cellAt g p)))
 
-  -- one cell more
-  pub one-more : (old now : List ℤ) (a p : ℕ) (v : ℤ) → a ≤ p → now ≡ fold (putRight g) old (range a p) → v ≡ rightValue g (cellAt g p) → set now p v ≡ fold (putRight g) old (range a (p + 1))
-  one-more old now a p v h e q = (λ i. set (e i) p (q i)) ∙ sym (fold-more (putRight g) old a p h)
-
-  -- one row more
-  pub row-more : (old now new : List ℤ) (row : ℕ) → now ≡ fold (putRight g) old (range 0 (row * g .columns)) → new ≡ fold (putRight g) now (range (row * g .columns) (row * g .columns + g .columns))
-      → new ≡ fold (putRight g) old (range 0 ((row + 1) * g .columns))
-  row-more old now new row e q =
-      let n = row * g .columns in
-      q ∙ ap (λ (w : List ℤ). fold (putRight g) w (range n (n + g .columns))) e ∙ sym (fold-append (putRight g) old (range 0 n) (range n (n + g .columns)))
-      ∙ ap (fold (putRight g) old) (sym (range-split 0 n (n + g .columns) (omega arith) (omega arith)) ∙ ap (range 0) (next-column (g .columns) row))
+  -- what stood at a place that is put is lost
+  pub put-over : (w : List ℤ) (p : ℕ) (v : ℤ) (ps : List ℕ) → T (has p ps) → fold (putRight g) (set w p v) ps ≡ fold (putRight g) w ps
+  put-over w p v (q ∷ ps) t =
+      elim (ℕ-discrete p q) [
+        | yes e ↦ ap (λ (x : List ℤ). fold (putRight g) x ps) (ap (λ (k : ℕ). set (set w k v) q (rightValue g (cellAt g q))) e ∙ set-set w q v (rightValue g (cellAt g q)))
+        | no e ↦
+            ap (λ (x : List ℤ). fold (putRight g) x ps) (set-comm w p q v (rightValue g (cellAt g q)) e)
+            ∙ put-over (set w q (rightValue g (cellAt g q))) p v ps (has-cases p q ps (λ z. absurd (e z)) (λ u. u) t)
+      ]
 
   -- the values stand at the start of the run
   values-to : (n : ℕ) (old : List ℤ) → n ≤ length old → fold (putRight g) old (range 0 n) ≡ begun (map (λ p. rightValue g (cellAt g p)) (range 0 n)) old
@@ -97,6 +71,49 @@ module _ (g : Grid) where
       ∙ fill-more (λ p. rightValue g (cellAt g p)) n old (fold (putRight g) old (range 0 n)) (rightValue g (cellAt g n)) (values-to n old (omega arith)) refl (omega arith)
       ∙ ap (λ (k : ℕ). begun (map (λ p. rightValue g (cellAt g p)) (range 0 k)) old) (add-one n)
 
+  -- once all are put, those of the grid do
   pub all-filled : (old : List ℤ) → size g ≤ length old → fold (putRight g) old (range 0 (size g)) ≡ begun (rightValues g) old
   unfolding rightValues
   all-filled old h = values-to (size g) old h
+
+-- ---- into the grid itself
+
+-- two runs with the same mines, at a place
+mine-there : (w u : List ℤ) (p : ℕ) → map isMine w ≡ map isMine u → isMine (getD w p (pos 0)) ≡ isMine (getD u p (pos 0))
+mine-there w u p e = sym (List·getD-map isMine w p (pos 0)) ∙ ap (λ (bs : List Bool). getD bs p false) e ∙ List·getD-map isMine u p (pos 0)
+
+module _ (rows columns : ℕ) (vs : List ℤ) where
+  -- the grid before
+  abbrev grid : Grid
+  grid = gridOf rows columns vs
+
+  -- right values put change no mine
+  pub mines-stay : (a b p : ℕ) → b ≤ rows * columns → isMine (getD (fold (putRight grid) vs (range a b)) p (pos 0)) ≡ isMine (getD vs p (pos 0))
+  mines-stay a b p h =
+      mine-there (fold (putRight grid) vs (range a b)) vs p
+      (fold-inv (λ w. map isMine w ≡ map isMine vs) (putRight grid) (range a b) one vs refl)
+    where
+      -- one value put
+      one : (w : List ℤ) (q : ℕ) → T (has q (range a b)) → map isMine w ≡ map isMine vs → map isMine (putRight grid w q) ≡ map isMine vs
+      one w q t e =
+          map-set-same isMine w q (rightValue grid (cellAt grid q)) (pos 0)
+          (right-mine grid (cellAt grid q) ∙ mine-at-place grid q (omega (arith, has-range a b q t .1)) ∙ sym (mine-there w vs q e))
+          ∙ e
+
+  -- one cell more: a safe cell's number is put, a mine's value stays
+  pub one-more : (now : List ℤ) (row column n : ℕ) (b : Bool) → row < rows → column < columns → now ≡ fold (putRight grid) vs (range (row * columns) (row * columns + column))
+      → b ≡ mine grid (column * rows + row) → n ≡ number grid (column * rows + row)
+      → cond b now (set now (row * columns + column) (pos n)) ≡ fold (putRight grid) vs (range (row * columns) (row * columns + (column + 1)))
+  unfolding rightValue
+  one-more now row column n b h k e m o =
+      let p = row * columns + column in
+      let l = digits-lt {q = row} {m = rows} {r = column} {c = columns} h k in
+      let cell = sym (cell-here grid row column k) in
+      let w = fold (putRight grid) vs (range (row * columns) p) in
+      let own : b ≡ isMine (getD now p (pos 0)) = m ∙ ap (mine grid) cell ∙ mine-at-place grid p l ∙ sym (mines-stay (row * columns) p p (omega arith)) ∙ ap (λ (x : List ℤ). isMine (getD x p (pos 0))) (sym e) in
+      let q : p + 1 ≡ row * columns + (column + 1) = omega arith in
+      stays-or-put now p n b own
+      ∙ (λ j. set (e j) p (cond (m j) (negsuc 0) (pos (o j))))
+      ∙ ap (λ (c : ℕ). set w p (rightValue grid c)) cell
+      ∙ sym (fold-more (putRight grid) vs (row * columns) p (omega arith))
+      ∙ ap (λ (k : ℕ). fold (putRight grid) vs (range (row * columns) k)) q

@@ -1,3 +1,4 @@
--- The numbers by the bits of the mines, and what reading a file comes to.
+-- The right values put cell after cell and row after row, and what reading a file comes to.
 pub mod Filling
+pub mod Rows
 pub mod Calls

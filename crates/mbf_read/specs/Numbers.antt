@@ -1,6 +1,5 @@
--- The right values of the cells put into a grid, by the bits of the mines: each column of three is counted once. Assumes nothing.
-use Prim.Native.Nat.{ℕ, _+_, _*_}
-use mathlib.Core.Bool.{Bool}
+-- Values put into a grid: by the bits of the mines, and the right ones of a grid. Assumes nothing.
+use Prim.Native.Nat.{ℕ, _*_}
 use mathlib.Core.List.{List, map}
 use lib.IntN.{ℤ}
 use lib.ListN.{set}
@@ -13,9 +12,9 @@ abbrev pub bitGrid : ℕ → ℕ → List ℕ → Grid
 bitGrid rows columns bits =
     record { rows = rows; columns = columns; values = map (λ p. valueOf (bitAt bits p)) (range 0 (rows * columns)) }
 
--- the bit of the cell in a row and a column is set
-abbrev pub bitIn : List ℕ → ℕ → ℕ → ℕ → Bool
-bitIn bits columns column row = bitAt bits (row * columns + column)
+-- -1 put at a place whose bit is set, 0 at another
+abbrev pub putMark : List ℕ → List ℤ → ℕ → List ℤ
+putMark bits w p = set w p (valueOf (bitAt bits p))
 
 -- the right value of the cell at a place put there
 abbrev pub putRight : Grid → List ℤ → ℕ → List ℤ

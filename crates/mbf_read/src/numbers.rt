@@ -1,85 +1,74 @@
-// The numbers of the cells, by the bits of the mines: each column of three is counted once and carried along a row.
+// The values of the cells, by the bits of the mines: -1 for a mine and 0 for a safe cell, in a row and the one below it, and then the row's numbers by sums carried along it.
 ghost use mathlib.Core.Path.{_≡_};
 ghost use mathlib.Core.Bool.{cond};
-ghost use Prim.Native.Nat.{_+_, _-_, _*_, _<_, _≤_, min};
-ghost use lib.IntN.{negsuc, pos};
-ghost use lib.ListN.{length};
-ghost use Rattle.game.specs.Lists.{count, fold, range};
+ghost use Prim.Native.Nat.{_+_, _*_, _<_, _≤_};
+ghost use lib.IntN.{pos};
+ghost use lib.ListN.{length, set};
+ghost use Rattle.game.specs.Lists.{fold, range};
 ghost use Rattle.game.specs.Grid.{rightValues};
 ghost use Rattle.game.specs.Area.{begun};
-ghost use Rattle.area.specs.Squares.{columnMines};
+ghost use Rattle.area.specs.Numbers.{gridOf};
 ghost use Rattle.area.specs.Stages.{Shape};
-ghost use Rattle.lines.specs.BoardLine.{bitAt};
-ghost use Rattle.mbf_read.specs.Numbers.{bitGrid, bitIn, putRight};
+ghost use Rattle.lines.specs.BoardLine.{bitAt, valueOf};
+ghost use Rattle.mbf_read.specs.Numbers.{bitGrid, putMark, putRight};
 
-// The mines of a column, in the rows from `first` to before `last`.
-fn mines_in_column(bits: &[u8], columns: usize, column: usize, first: usize, last: usize) -> usize
-    requires { ⌜ (length (now bits) ≡ 8192) × (first ≤ last) × (last ≤ 255) × (columns ≤ 255) × (column < columns) ⌝ }
-    ensures { λ r. ⌜ (r ≡ count (bitIn (now (bits .entry)) columns column) (range first last)) × (r ≤ last - first) ⌝ }
-{
-    let mut mines: usize = 0;
-    for row in first..last {
-        mines += mine_bits::is_set(bits, row * columns + column) as usize;
-    }
-    mines
-}
-
-// The mines of the column to the right of a column; none to the right of the last.
-fn mines_right(
-    bits: &[u8],
-    rows: usize,
-    columns: usize,
-    column: usize,
-    first: usize,
-    last: usize,
-) -> usize
-    requires { ⌜ Shape rows columns ⌝ }
-    requires { ⌜ (length (now bits) ≡ 8192) × (first ≤ last) × (last ≤ rows) × (column < columns) ⌝ }
-    ensures { λ r. ⌜ (r ≡ columnMines (bitGrid rows columns (now (bits .entry))) first last (column + 1) (min (column + 2) columns)) × (r ≤ last - first) ⌝ }
-{
-    if column + 1 == columns {
-        return 0;
-    }
-    mines_in_column(bits, columns, column + 1, first, last)
-}
-
-// The value of the cell at a place: -1 for a mine, its number for a safe cell.
-fn value_of(bits: &[u8], at: usize, number: usize) -> i32
-    requires { ⌜ (length (now bits) ≡ 8192) × (at < 65536) × (number ≤ 9) ⌝ }
-    ensures { λ r. ⌜ r ≡ cond (bitAt (now (bits .entry)) at) (negsuc 0) (pos number) ⌝ }
+// The value at a place before numbers are counted: -1 for a mine, 0 for a safe cell.
+fn mark_of(bits: &[u8], at: usize) -> i32
+    requires { ⌜ (length (now bits) ≡ 8192) × (at < 65536) ⌝ }
+    ensures { λ r. ⌜ r ≡ valueOf (bitAt (now (bits .entry)) at) ⌝ }
 {
     if mine_bits::is_set(bits, at) {
         return -1;
     }
-    number as i32
+    0
 }
 
-// The values of a row.
-fn fill_row(bits: &[u8], rows: usize, columns: usize, row: usize, grid: &mut [i32])
-    requires { ⌜ Shape rows columns ⌝ }
-    requires { ⌜ (length (now bits) ≡ 8192) × (row < rows) × (rows * columns ≤ length (now grid)) ⌝ }
-    ensures { λ _. ⌜ now (grid .exit) ≡ fold (putRight (bitGrid rows columns (now (bits .entry)))) (now (grid .entry)) (range (row * columns) (row * columns + columns)) ⌝ }
+// Puts these values at the places `from` to before `to`.
+fn mark(bits: &[u8], from: usize, to: usize, grid: &mut [i32])
+    requires { ⌜ (length (now bits) ≡ 8192) × (from ≤ to) × (to ≤ 65536) × (to ≤ length (now grid)) ⌝ }
+    ensures { λ _. ⌜ now (grid .exit) ≡ fold (putMark (now (bits .entry))) (now (grid .entry)) (range from to) ⌝ }
 {
-    let first = area::lower(row);
-    let last = area::upper(row, rows);
-    let mut left: usize = 0;
-    let mut here = mines_in_column(bits, columns, 0, first, last);
-    for column in 0..columns {
-        let right = mines_right(bits, rows, columns, column, first, last);
-        let value = value_of(bits, row * columns + column, left + here + right);
-        grid[row * columns + column] = value;
-        left = here;
-        here = right;
+    for at in from..to {
+        let value = mark_of(bits, at);
+        grid[at] = value;
     }
 }
 
-// The values of all cells, at the start of a lent grid.
+// Puts a safe cell's number at its place; a mine's value stays.
+fn put_number(grid: &mut [i32], at: usize, mine: bool, number: usize)
+    requires { ⌜ (at < length (now grid)) × (number ≤ 9) ⌝ }
+    ensures { λ _. ⌜ now (grid .exit) ≡ cond «mine» (now (grid .entry)) (set (now (grid .entry)) at (pos number)) ⌝ }
+{
+    if mine {
+        return;
+    }
+    grid[at] = number as i32;
+}
+
+// The right values of a row, where mines are told by their values in it and in the rows beside it. A number put does not change what is a mine.
+fn number_row(rows: usize, columns: usize, row: usize, grid: &mut [i32])
+    requires { ⌜ Shape rows columns ⌝ }
+    requires { ⌜ (row < rows) × (rows * columns ≤ length (now grid)) ⌝ }
+    ensures { λ _. ⌜ now (grid .exit) ≡ fold (putRight (gridOf rows columns (now (grid .entry)))) (now (grid .entry)) (range (row * columns) (row * columns + columns)) ⌝ }
+{
+    let mut sums = mine_sums::sums_before(grid, rows, columns, row, 0);
+    for column in 0..columns {
+        sums = mine_sums::sums_after(grid, rows, columns, row, column, sums);
+        let number = sums.left + sums.here + sums.right;
+        put_number(grid, row * columns + column, sums.mine, number);
+    }
+}
+
+// The values of all cells, at the start of a lent grid. The row below is marked before a row is numbered.
 pub fn fill(bits: &[u8], rows: usize, columns: usize, grid: &mut [i32])
     requires { ⌜ Shape rows columns ⌝ }
     requires { ⌜ (length (now bits) ≡ 8192) × (rows * columns ≤ length (now grid)) ⌝ }
     ensures { λ _. ⌜ now (grid .exit) ≡ begun (rightValues (bitGrid rows columns (now (bits .entry)))) (now (grid .entry)) ⌝ }
 {
+    mark(bits, 0, columns, grid);
     for row in 0..rows {
-        fill_row(bits, rows, columns, row, grid);
+        let last = area::upper(row, rows);
+        mark(bits, (row + 1) * columns, last * columns, grid);
+        number_row(rows, columns, row, grid);
     }
 }

@@ -1,9 +1,9 @@
 -- A value is wrong by a test on its bits: it is no mine, and another number than that of its square. Assumes nothing.
-use Prim.Native.Nat.{ℕ, zero, suc, _+_, _-_, _*_, _<_, _≤_, min}
+use Prim.Native.Nat.{ℕ, zero, suc, _+_, _-_, _*_, _<_, _≤_}
 use native.Mathlib.Decide.{decLe, ℕ-discrete}
 use native.Mathlib.Omega.{arith}
 use mathlib.Core.Path.{_≡_, ap, refl, sym, _∙_}
-use mathlib.Core.Bool.{Bool, _&&_, cond, false, not, true}
+use mathlib.Core.Bool.{Bool, _&&_, cond, false, not}
 use mathlib.Core.List.{List}
 use lib.Dec.{eqb, leb}
 use lib.IntN.{ℤ, negsuc, pos}
@@ -12,11 +12,9 @@ use lib.Signed.{mag}
 use mir.Syntax.{w32}
 use mir.Val.{ofZ}
 use borrow.Author.Tests.{eq-eqb, le-leb, lt-leb, ne-eqb}
-use Rattle.game.specs.Grid.{Grid, columnOf, index, isMine, mine, number, rightValue, rowOf, same, valueAt, wrong}
+use Rattle.game.specs.Grid.{Grid, index, isMine, mine, number, rightValue, same, valueAt, wrong}
 use Rattle.game.proofs.Squares.{index-column, index-row}
 use Rattle.area.specs.Numbers.{gridOf}
-use Rattle.area.specs.Squares.{columnMines}
-use Rattle.area.proofs.Columns.{columns-number}
 
 -- v == n
 pub test-number : (v : ℤ) (n : ℕ) → mag v < 2147483648 → n ≤ 9 → eqb (ofZ w32 v) n ≡ same v (pos n)
@@ -50,17 +48,6 @@ wrong-here rows columns vs row column n h e =
     let g = gridOf rows columns vs in
     let v = sym (value-here rows columns vs row column h) in
     asked (getD vs (row * columns + column) (pos 0)) n ∙ (λ i. not (same (v i) (cond (isMine (v i)) (negsuc 0) (pos (e i)))))
-
--- and so by what is counted in three columns
-pub wrong-by-columns : (rows columns : ℕ) (vs : List ℤ) (row column first last left here right : ℕ) → row < rows → column < columns → first ≡ row - 1 → last ≡ min (row + 2) rows
-    → left ≡ columnMines (gridOf rows columns vs) first last (column - 1) column → here ≡ columnMines (gridOf rows columns vs) first last column (min (column + 1) columns)
-    → right ≡ columnMines (gridOf rows columns vs) first last (column + 1) (min (column + 2) columns)
-    → (not (isMine (getD vs (row * columns + column) (pos 0))) && not (same (getD vs (row * columns + column) (pos 0)) (pos (left + here + right)))) ≡ wrong (gridOf rows columns vs) (index (gridOf rows columns vs) row column)
-wrong-by-columns rows columns vs row column first last left here right h k ef el l m r =
-    let g = gridOf rows columns vs in
-    let e : min (column + 1) columns ≡ column + 1 = omega arith in
-    wrong-here rows columns vs row column (left + here + right) h
-    (columns-number g row column first last left here right h k ef el l (m ∙ ap (columnMines g first last column) e) r)
 
 -- one column more of a row is passed
 pub one-more : (g : Grid) (row column : ℕ) → ((c : ℕ) → c < column → wrong g (index g row c) ≡ false) → wrong g (index g row column) ≡ false → (c : ℕ) → c < column + 1 → wrong g (index g row c) ≡ false

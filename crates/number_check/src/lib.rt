@@ -26,23 +26,19 @@ fn is_wrong(grid: &[i32], at: usize, number: usize) -> bool
     v != number as i32
 }
 
-// The first column of a row, of those below a limit, whose value is wrong; the limit where none is. The mines of each column of three are counted once and carried along.
+// The first column of a row, of those below a limit, whose value is wrong; the limit where none is.
 fn wrong_in_row(grid: &[i32], rows: usize, columns: usize, row: usize, limit: usize) -> usize
     requires { ⌜ Shape rows columns ⌝ }
     requires { ⌜ (length (now grid) ≡ rows * columns) × (row < rows) × (limit ≤ columns) ⌝ }
     ensures { λ r. ⌜ FirstWrong (gridOf rows columns (now (grid .entry))) row limit r ⌝ }
 {
-    let first = area::lower(row);
-    let last = area::upper(row, rows);
-    let mut left: usize = 0;
-    let mut here = area::mines_in_column(grid, rows, columns, 0, first, last);
+    let mut sums = mine_sums::sums_before(grid, rows, columns, row, 0);
     for column in 0..limit {
-        let right = area::mines_right(grid, rows, columns, column, first, last);
-        if is_wrong(grid, row * columns + column, left + here + right) {
+        sums = mine_sums::sums_after(grid, rows, columns, row, column, sums);
+        let number = sums.left + sums.here + sums.right;
+        if is_wrong(grid, row * columns + column, number) {
             return column;
         }
-        left = here;
-        here = right;
     }
     limit
 }

@@ -1,19 +1,15 @@
 -- One cell of each pass over the work area. Assumes nothing.
 use Prim.Native.Nat.{ℕ}
 use mathlib.Core.Bool.{cond}
-use mathlib.Core.List.{List, map}
+use mathlib.Core.List.{List}
 use lib.Dec.{eqb}
 use lib.IntN.{ℤ}
-use Rattle.game.specs.Lists.{concat-map, count, range}
-use Rattle.game.specs.Grid.{Grid, index, mine}
+use Rattle.game.specs.Lists.{fold, range}
+use Rattle.game.specs.Grid.{Grid, index}
 use Rattle.area.specs.Numbers.{contentAt, premiumAt, putFirst, putContent, putLowered, putPremium, putSecond, putState}
 use Rattle.area.specs.Stages.{content}
 
 -- ---- loading
-
--- the mines of the rows from a on that are below b, in the columns from `first` on that are below `last`
-unfoldable pub minesOf : Grid → ℕ → ℕ → ℕ → ℕ → ℕ
-minesOf g first last a b = count (mine g) (concat-map (λ row. map (λ column. index g row column) (range first last)) (range a b))
 
 -- a cell before labelling: its content, and 0 elsewhere
 abbrev pub loadAt : List ℤ → ℕ → ℕ → List ℤ
@@ -22,6 +18,10 @@ loadAt w i k = putPremium (putState (putContent (putSecond (putFirst w i 0) i 0)
 -- a cell of the grid is loaded
 abbrev pub loadCell : Grid → List ℤ → ℕ → List ℤ
 loadCell g w i = loadAt w i (content g i)
+
+-- the cells of a column are loaded
+abbrev pub loadColumn : Grid → List ℤ → ℕ → List ℤ
+loadColumn g w column = fold (λ u row. loadCell g u (index g row column)) w (range 0 (g .rows))
 
 -- ---- the end of a call
 

@@ -1,44 +1,24 @@
 // Each cell's content is put into the work area.
 ghost use mathlib.Core.Path.{_≡_};
 ghost use mathlib.Core.Bool.{cond};
-ghost use Prim.Native.Nat.{_+_, _-_, _*_, _<_, _≤_, min};
-ghost use lib.IntN.{pos};
-ghost use lib.ListN.{getD, length};
+ghost use Prim.Native.Nat.{_+_, _*_, _<_, _≤_};
+ghost use lib.ListN.{length};
 ghost use Rattle.game.specs.Lists.{range, fold};
-ghost use Rattle.game.specs.Grid.{isMine};
 ghost use Rattle.game.specs.Area.{laid};
 ghost use Rattle.area.specs.Numbers.{HasCell, HasCells, gridOf};
+ghost use Rattle.area.specs.Squares.{rowCells};
 ghost use Rattle.area.specs.Stages.{Shape, loadedFive};
-ghost use Rattle.start.specs.Passes.{loadAt, loadCell, minesOf};
+ghost use Rattle.start.specs.Passes.{loadAt, loadCell, loadColumn};
 
 // What tells a cell's content: 0 for a mine, 1 more than its number for a safe cell.
-pub fn content_of(grid: &[i32], at: usize, number: usize) -> usize
-    requires { ⌜ (at < length (now grid)) × (number ≤ 9) ⌝ }
-    ensures { λ r. ⌜ r ≡ cond (isMine (getD (now (grid .entry)) at (pos 0))) 0 (1 + number) ⌝ }
+fn content_of(mine: bool, number: usize) -> usize
+    requires { ⌜ number ≤ 9 ⌝ }
+    ensures { λ r. ⌜ r ≡ cond «mine» 0 (1 + number) ⌝ }
 {
-    if area::mine_at(grid, at) {
+    if mine {
         return 0;
     }
     1 + number
-}
-
-// The mines of the row below a row, in the columns from one up to another; none below the last.
-pub fn mines_below(
-    grid: &[i32],
-    rows: usize,
-    columns: usize,
-    row: usize,
-    from: usize,
-    to: usize,
-) -> usize
-    requires { ⌜ Shape rows columns ⌝ }
-    requires { ⌜ (row < rows) × (from ≤ to) × (to ≤ columns) × (length (now grid) ≡ rows * columns) ⌝ }
-    ensures { λ r. ⌜ (r ≡ minesOf (gridOf rows columns (now (grid .entry))) from to (row + 1) (min (row + 2) rows)) × (r ≤ to - from) ⌝ }
-{
-    if row + 1 == rows {
-        return 0;
-    }
-    area::mines_in_row(grid, columns, row + 1, from, to)
 }
 
 // A cell before labelling.
@@ -53,32 +33,49 @@ pub fn load_cell(work: &mut [i32], index: usize, content: usize)
     area::put_premium(work, index, 0);
 }
 
-// The cells of a column: the mines of each row of three are counted once and carried down.
-pub fn load_column(grid: &[i32], rows: usize, columns: usize, work: &mut [i32], column: usize)
+// The cells of a row in the columns `from` to before `to`: the sums of the columns around a cell are carried along.
+fn load_row(
+    grid: &[i32],
+    rows: usize,
+    columns: usize,
+    work: &mut [i32],
+    row: usize,
+    from: usize,
+    to: usize,
+)
     requires { ⌜ Shape rows columns ⌝ }
-    requires { ⌜ (column < columns) × (length (now grid) ≡ rows * columns) × HasCells (now work) (rows * columns) ⌝ }
-    ensures { λ _. ⌜ now (work .exit) ≡ fold (λ w r. loadCell (gridOf rows columns (now (grid .entry))) w (column * rows + r)) (now (work .entry)) (range 0 rows) ⌝ }
+    requires { ⌜ (length (now grid) ≡ rows * columns) × HasCells (now work) (rows * columns) × (row < rows) × (from < to) × (to ≤ columns) ⌝ }
+    ensures { λ _. ⌜ now (work .exit) ≡ fold (loadCell (gridOf rows columns (now (grid .entry)))) (now (work .entry)) (rowCells rows row from to) ⌝ }
 {
-    let from = area::lower(column);
-    let to = area::upper(column, columns);
-    let mut above: usize = 0;
-    let mut here = area::mines_in_row(grid, columns, 0, from, to);
-    for row in 0..rows {
-        let below = mines_below(grid, rows, columns, row, from, to);
-        let content = content_of(grid, row * columns + column, above + here + below);
+    let mut sums = mine_sums::sums_before(grid, rows, columns, row, from);
+    for column in from..to {
+        sums = mine_sums::sums_after(grid, rows, columns, row, column, sums);
+        let number = sums.left + sums.here + sums.right;
+        let content = content_of(sums.mine, number);
         load_cell(work, column * rows + row, content);
-        above = here;
-        here = below;
     }
 }
 
-// The cells of the grid: the work area before labelling.
+// The cells of the columns `from` to before `to`, row by row.
+fn load_columns(grid: &[i32], rows: usize, columns: usize, work: &mut [i32], from: usize, to: usize)
+    requires { ⌜ Shape rows columns ⌝ }
+    requires { ⌜ (length (now grid) ≡ rows * columns) × HasCells (now work) (rows * columns) × (from < to) × (to ≤ columns) ⌝ }
+    ensures { λ _. ⌜ now (work .exit) ≡ fold (loadColumn (gridOf rows columns (now (grid .entry)))) (now (work .entry)) (range from to) ⌝ }
+{
+    for row in 0..rows {
+        load_row(grid, rows, columns, work, row, from, to);
+    }
+}
+
+// The cells of the grid: the work area before labelling. 32 columns at a time, since the work area has column after column: what a row of so many touches is still near when the next row comes.
 pub fn load(grid: &[i32], rows: usize, columns: usize, work: &mut [i32])
     requires { ⌜ Shape rows columns ⌝ }
     requires { ⌜ (length (now grid) ≡ rows * columns) × HasCells (now work) (rows * columns) ⌝ }
     ensures { λ _. ⌜ now (work .exit) ≡ laid (loadedFive (gridOf rows columns (now (grid .entry)))) (rows * columns) (now (work .entry)) ⌝ }
 {
-    for column in 0..columns {
-        load_column(grid, rows, columns, work, column);
+    for block in 0..(columns + 31) / 32 {
+        let from = 32 * block;
+        let to = area::fewer(from + 32, columns);
+        load_columns(grid, rows, columns, work, from, to);
     }
 }

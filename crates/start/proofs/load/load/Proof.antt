@@ -1,60 +1,74 @@
--- `start::load::load`: the columns passed are loaded, so at the end the grid is. Assumes nothing.
-use Prim.Native.Nat.{ℕ, _+_, _-_, _*_, _≤_}
+-- `start::load::load`: the columns of the blocks passed are loaded, so at the end the grid is. Assumes nothing.
+use Prim.Native.Nat.{ℕ, _+_, _-_, _*_, _<_, _≤_, min}
 use native.Mathlib.Omega.{arith}
 use borrow.Author.Needs.{needs}
-use mathlib.Core.Path.{_≡_, refl, ap, sym, _∙_}
-use mathlib.Core.List.{List}
-use lib.IntN.{ℤ}
+use mathlib.Core.Path.{_≡_, refl, ap, _∙_}
 use lib.ListN.{length}
 use Rattle.game.specs.Lists.{range, fold}
-use Rattle.game.proofs.Members.{fold-more, length-fold}
 use Rattle.area.specs.Numbers.{gridOf}
-use Rattle.area.specs.Stages.{content}
-use Rattle.start.specs.Passes.{loadCell}
-use Rattle.start.proofs.Loaded.{loaded-all, length-load}
+use Rattle.start.specs.Passes.{loadColumn}
+use Rattle.start.proofs.Loaded.{columns-more, length-columns, loaded-all}
 use Rattle.start.proofs.load.load.Statement.{statement}
 use Rattle.start.proofs.load.load.Tie as tie
 
-abbrev column : ℕ → ℕ → List ℤ → List ℤ → ℕ → List ℤ
-column rows columns grid w c = fold (λ u r. loadCell (gridOf rows columns grid) u (c * rows + r)) w (range 0 rows)
-
-length-column : (rows columns : ℕ) (grid w : List ℤ) (c : ℕ) → length (column rows columns grid w c) ≡ length w
-length-column rows columns grid w c =
-    length-fold (λ u r. loadCell (gridOf rows columns grid) u (c * rows + r)) w (range 0 rows)
-    (λ u r. length-load u (c * rows + r) (content (gridOf rows columns grid) (c * rows + r)))
-
 abbrev Inv-loop : tie.InvT-loop
-Inv-loop grid rows columns work₀ column₀ work col =
-    (col ≤ columns) × (work ≡ fold (column rows columns grid) work₀ (range 0 col)) × (length work ≡ length work₀)
+Inv-loop grid rows columns work₀ block₀ block-end work block =
+    (block ≤ block-end) × (work ≡ fold (loadColumn (gridOf rows columns grid)) work₀ (range 0 (min (32 * block) columns))) × (length work ≡ length work₀)
 
 abbrev μ-loop : tie.MeasureT-loop
-μ-loop grid rows columns work₀ column₀ work col = columns - col
+μ-loop grid rows columns work₀ block₀ block-end work block = block-end - block
 
-one-more : (rows columns : ℕ) (grid work₀ work new : List ℤ) (c : ℕ) → work ≡ fold (column rows columns grid) work₀ (range 0 c)
-    → new ≡ column rows columns grid work c → new ≡ fold (column rows columns grid) work₀ (range 0 (c + 1))
-one-more rows columns grid work₀ work new c e q =
-    q ∙ ap (λ (w : List ℤ). column rows columns grid w c) e ∙ sym (fold-more (column rows columns grid) work₀ 0 c (omega arith))
+add-block-end : tie.Need-add-block-end Inv-loop μ-loop
+add-block-end c = omega (arith, c .pre .0 .few-columns)
 
 loop-holds : tie.Need-loop-holds Inv-loop μ-loop
-loop-holds c = (omega arith, refl, refl)
+loop-holds c =
+    let a = c .args in
+    let e : 0 ≡ min (32 * 0) (a .columns) = omega arith in
+    (omega arith, ap (λ (k : ℕ). fold (loadColumn (gridOf (a .rows) (a .columns) (a .grid .now))) (a .work .now) (range 0 k)) e, refl)
 
-load-column-requires : tie.Need-load-column-requires Inv-loop μ-loop
-load-column-requires c κs = search needs
+-- a block begins below the last column
+below : (c : tie.In-loop Inv-loop μ-loop) → 32 * c .before .loop .block < c .before .before .args .columns
+below c = omega arith
 
-add-column : tie.Need-add-column Inv-loop μ-loop
-add-column c = omega arith
+few : (c : tie.In-loop Inv-loop μ-loop) → c .before .before .args .columns ≤ 255
+few c = c .before .before .pre .0 .few-columns
+
+mul-from : tie.Need-mul-from Inv-loop μ-loop
+mul-from c = omega (arith, below c, few c)
+
+add-fewer : tie.Need-add-fewer Inv-loop μ-loop
+add-fewer c = omega (arith, below c, few c)
+
+fewer-requires : tie.Need-fewer-requires Inv-loop μ-loop
+fewer-requires c κs = search needs
+
+load-columns-requires : tie.Need-load-columns-requires Inv-loop μ-loop
+load-columns-requires c κs =
+    let s = c .before .before .before .before in
+    let to = c .before .fewer in
+    (s .pre .0, (omega arith, omega arith, omega (arith, below (c .before .before), to .ensures), omega (arith, to .ensures)))
+
+add-block : tie.Need-add-block Inv-loop μ-loop
+add-block c = omega arith
 
 loop-less : tie.Need-loop-less Inv-loop μ-loop
 loop-less c = omega arith
 
 loop-again : tie.Need-loop-again Inv-loop μ-loop
 loop-again c =
-    let a = c .before .before .before .before .before .args in
-    let l = c .before .before .before .before .loop in
-    let e = c .before .load-column .ensures in (
+    let e = c .before .load-columns .ensures in
+    let to = c .before .before .before .fewer in
+    let l = c .before .before .before .before .before .loop in
+    let a = c .before .before .before .before .before .before .args in
+    let g = gridOf (a .rows) (a .columns) (a .grid .now) in
+    let b = below (c .before .before .before .before) in
+    let n : min (32 * l .block) (a .columns) ≡ 32 * l .block = omega (arith, b) in
+    let m : to .result ≡ min (32 * (l .block + 1)) (a .columns) = omega (arith, to .ensures) in (
       omega arith,
-      one-more (a .rows) (a .columns) (a .grid .now) (a .work .now) (l .work) _ (l .column) (l .inv .1) e,
-      ap length e ∙ length-column (a .rows) (a .columns) (a .grid .now) (l .work) (l .column) ∙ l .inv .2,
+      columns-more g (a .work .now) (l .work) _ (32 * l .block) (to .result) (omega (arith, to .ensures, b)) (l .inv .1 ∙ ap (λ (k : ℕ). fold (loadColumn g) (a .work .now) (range 0 k)) n) e
+          ∙ ap (λ (k : ℕ). fold (loadColumn g) (a .work .now) (range 0 k)) m,
+      ap length e ∙ length-columns g (l .work) (range (32 * l .block) (to .result)) ∙ l .inv .2,
     )
 
 same-length : tie.Need-same-length Inv-loop μ-loop
@@ -64,8 +78,8 @@ returns : tie.Need-returns Inv-loop μ-loop
 returns c =
     let a = c .before .before .args in
     let l = c .before .loop in
-    let e : l .column ≡ a .columns = omega arith in
-    l .inv .1 ∙ ap (λ (k : ℕ). fold (column (a .rows) (a .columns) (a .grid .now)) (a .work .now) (range 0 k)) e
+    let e : min (32 * l .block) (a .columns) ≡ a .columns = omega arith in
+    l .inv .1 ∙ ap (λ (k : ℕ). fold (loadColumn (gridOf (a .rows) (a .columns) (a .grid .now))) (a .work .now) (range 0 k)) e
     ∙ loaded-all (gridOf (a .rows) (a .columns) (a .grid .now)) (a .work .now) (omega arith)
 
 pub load-spec : {M : Type 1} → statement M
@@ -74,9 +88,13 @@ load-spec =
     (tie.spec
     Inv-loop
     μ-loop
+    add-block-end
     loop-holds
-    load-column-requires
-    add-column
+    mul-from
+    add-fewer
+    fewer-requires
+    load-columns-requires
+    add-block
     loop-less
     loop-again
     same-length
