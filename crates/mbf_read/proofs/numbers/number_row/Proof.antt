@@ -99,7 +99,7 @@ add-put-number c =
     omega (arith, place (c .before .before .before), cells-few (s .args .rows) (s .args .columns) (s .pre .0))
 
 put-number-requires : tie.Need-put-number-requires Inv-loop μ-loop
-put-number-requires c κs = (omega (arith, place (c .before .before .before)), few (c .before .before .before))
+put-number-requires c κs = (omega (arith, place (c .before .before .before)), omega (arith, few (c .before .before .before)))
 
 add-column : tie.Need-add-column Inv-loop μ-loop
 add-column c = omega arith
