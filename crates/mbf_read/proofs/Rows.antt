@@ -1,4 +1,4 @@
--- Row after row: the row below is marked before a row is numbered, so that its numbers see their mines, and what is left to put leads to the right values of all cells. Assumes nothing.
+-- Row after row: the mines of the row below are put before a row is numbered, so that its numbers see them, and what is left to put leads to the right values of all cells. Assumes nothing.
 use Prim.Native.Nat.{ℕ, zero, suc, _+_, _-_, _*_, _<_, _≤_, min}
 use native.Mathlib.Omega.{arith}
 use native.Mathlib.Decide.{ℕ-discrete}
@@ -19,7 +19,7 @@ use Rattle.game.proofs.Members.{fold-append, fold-inv, fold-same, getD-range, h
 use Rattle.game.proofs.Squares.{column-lt, index-lt, index-row, next-column, row-lt, square→}
 use Rattle.area.specs.Numbers.{gridOf}
 use Rattle.lines.specs.BoardLine.{bitAt, valueOf}
-use Rattle.mbf_read.specs.Numbers.{bitGrid, putMark, putRight}
+use Rattle.mbf_read.specs.Numbers.{bitGrid, putMine, putRight}
 use Rattle.mbf_read.proofs.Filling.{all-filled, cell-here, length-filled, mines-stay, put-over}
 
 -- the grid g is filled in from a run `old` on: now its mines are told up to a place, and right values put from another place on lead to those of all cells
@@ -71,30 +71,30 @@ module _ (g : Grid) (vs : List ℤ) (row : ℕ) (inside : row < g .rows)
           let at = sym (ap (cellAt g) e) ∙ cell-here g row (p - n) k in
           ap (set v p) (ap (rightValue other) at ∙ right-near (p - n) k ∙ ap (rightValue g) (sym at))
 
--- ---- marks
+-- ---- mines
 
 module _ (rows columns : ℕ) (bits : List ℕ) where
   -- the grid of the bits
   abbrev grid : Grid
   grid = bitGrid rows columns bits
 
-  -- a mark tells the mine
-  mark-tells : (p : ℕ) → p < rows * columns → isMine (valueOf (bitAt bits p)) ≡ isMine (getD (grid .values) p (pos 0))
-  mark-tells p h = ap isMine (sym (getD-range (λ q. valueOf (bitAt bits q)) (pos 0) (rows * columns) p h))
+  -- a value put by its bit tells the mine
+  value-tells : (p : ℕ) → p < rows * columns → isMine (valueOf (bitAt bits p)) ≡ isMine (getD (grid .values) p (pos 0))
+  value-tells p h = ap isMine (sym (getD-range (λ q. valueOf (bitAt bits q)) (pos 0) (rows * columns) p h))
 
-  -- so marks that go on from where mines are told tell more of them
-  marks-tell : (n a : ℕ) (w : List ℤ) → a + n ≤ rows * columns → rows * columns ≤ length w → ((p : ℕ) → p < a → isMine (getD w p (pos 0)) ≡ isMine (getD (grid .values) p (pos 0)))
-      → (p : ℕ) → p < a + n → isMine (getD (fold (putMark bits) w (from a n)) p (pos 0)) ≡ isMine (getD (grid .values) p (pos 0))
-  marks-tell zero a w h l e p k = e p (omega arith)
-  marks-tell (suc n) a w h l e p k =
-      marks-tell n (suc a) (putMark bits w a) (omega arith) (omega (arith, length-set w a (valueOf (bitAt bits a)))) one p (omega arith)
+  -- so values put on from where mines are told tell more of them
+  values-tell : (n a : ℕ) (w : List ℤ) → a + n ≤ rows * columns → rows * columns ≤ length w → ((p : ℕ) → p < a → isMine (getD w p (pos 0)) ≡ isMine (getD (grid .values) p (pos 0)))
+      → (p : ℕ) → p < a + n → isMine (getD (fold (putMine bits) w (from a n)) p (pos 0)) ≡ isMine (getD (grid .values) p (pos 0))
+  values-tell zero a w h l e p k = e p (omega arith)
+  values-tell (suc n) a w h l e p k =
+      values-tell n (suc a) (putMine bits w a) (omega arith) (omega (arith, length-set w a (valueOf (bitAt bits a)))) one p (omega arith)
     where
-      -- one mark
-      one : (q : ℕ) → q < suc a → isMine (getD (putMark bits w a) q (pos 0)) ≡ isMine (getD (grid .values) q (pos 0))
+      -- one value
+      one : (q : ℕ) → q < suc a → isMine (getD (putMine bits w a) q (pos 0)) ≡ isMine (getD (grid .values) q (pos 0))
       one q i =
           elim (ℕ-discrete q a) [
             | yes z ↦
-                ap (λ (r : ℕ). isMine (getD (putMark bits w a) r (pos 0))) z ∙ ap isMine (getD-set-same w a (valueOf (bitAt bits a)) (pos 0) (omega arith)) ∙ mark-tells a (omega arith)
+                ap (λ (r : ℕ). isMine (getD (putMine bits w a) r (pos 0))) z ∙ ap isMine (getD-set-same w a (valueOf (bitAt bits a)) (pos 0) (omega arith)) ∙ value-tells a (omega arith)
                 ∙ ap (λ (r : ℕ). isMine (getD (grid .values) r (pos 0))) (sym z)
             | no z ↦ ap isMine (getD-set-other w a q (valueOf (bitAt bits a)) (pos 0) z) ∙ e q (omega arith)
           ]
@@ -102,24 +102,24 @@ module _ (rows columns : ℕ) (bits : List ℕ) where
   -- ---- stages
 
   module _ {old : List ℤ} where
-    -- more cells are marked
-    stage-marked : {now : List ℤ} {done a : ℕ} (b : ℕ) → Stage grid old done a now → done ≤ a → a ≤ b → b ≤ rows * columns → Stage grid old done b (fold (putMark bits) now (range a b))
-    stage-marked {now} {done} {a} b s h k l =
+    -- more mines are put
+    stage-put : {now : List ℤ} {done a : ℕ} (b : ℕ) → Stage grid old done a now → done ≤ a → a ≤ b → b ≤ rows * columns → Stage grid old done b (fold (putMine bits) now (range a b))
+    stage-put {now} {done} {a} b s h k l =
         record {
           room = s .room;
-          long = length-fold (putMark bits) now (range a b) (λ v p. length-set v p (valueOf (bitAt bits p))) ∙ s .long;
-          tells = λ p i. marks-tell (b - a) a now (omega arith) (omega (arith, s .long, s .room)) (s .tells) p (omega arith);
+          long = length-fold (putMine bits) now (range a b) (λ v p. length-set v p (valueOf (bitAt bits p))) ∙ s .long;
+          tells = λ p i. values-tell (b - a) a now (omega arith) (omega (arith, s .long, s .room)) (s .tells) p (omega arith);
           leads = lost ∙ s .leads;
         }
       where
-        -- the marks are lost when right values are put
-        lost : fold (putRight grid) (fold (putMark bits) now (range a b)) (range done (rows * columns)) ≡ fold (putRight grid) now (range done (rows * columns))
+        -- what was put is lost when right values are put
+        lost : fold (putRight grid) (fold (putMine bits) now (range a b)) (range done (rows * columns)) ≡ fold (putRight grid) now (range done (rows * columns))
         lost =
-            fold-inv (λ w. fold (putRight grid) w (range done (rows * columns)) ≡ fold (putRight grid) now (range done (rows * columns))) (putMark bits) (range a b)
+            fold-inv (λ w. fold (putRight grid) w (range done (rows * columns)) ≡ fold (putRight grid) now (range done (rows * columns))) (putMine bits) (range a b)
             (λ w p t q. let i = has-range a b p t in put-over grid w p (valueOf (bitAt bits p)) (range done (rows * columns)) (range-has done (rows * columns) p (omega arith) (omega arith)) ∙ q)
             now refl
 
-    -- a row is numbered, once the next one is marked
+    -- a row is numbered, once the mines of the next one are put
     stage-numbered : {now : List ℤ} (row : ℕ) → row < rows → Stage grid old (row * columns) (min (row + 2) rows * columns) now
         → Stage grid old (row * columns + columns) (min (row + 2) rows * columns) (fold (putRight (gridOf rows columns now)) now (range (row * columns) (row * columns + columns)))
     stage-numbered {now} row h s =
@@ -136,16 +136,16 @@ module _ (rows columns : ℕ) (bits : List ℕ) where
               ∙ s .leads;
         }
 
-    -- the first row is marked
-    pub stage-first : (now : List ℤ) → 1 ≤ rows → rows * columns ≤ length old → now ≡ fold (putMark bits) old (range 0 columns) → Stage grid old 0 columns now
+    -- the mines of the first row are put
+    pub stage-first : (now : List ℤ) → 1 ≤ rows → rows * columns ≤ length old → now ≡ fold (putMine bits) old (range 0 columns) → Stage grid old 0 columns now
     stage-first now h room e =
-        rw e (stage-marked columns start (omega arith) (omega arith) (omega (arith, mul-le-mul-right {m = 1} {n = rows} columns h)))
+        rw e (stage-put columns start (omega arith) (omega arith) (omega (arith, mul-le-mul-right {m = 1} {n = rows} columns h)))
       where
         -- before anything is put
         start : Stage grid old 0 0 old
         start = record { room = room; long = refl; tells = λ p k. absurd (omega arith); leads = refl }
 
-    -- a run with marks is a start of its own
+    -- a run with these is a start of its own
     pub stage-seen : {now : List ℤ} {told : ℕ} → Stage grid old 0 told now → Stage grid now 0 told now
     stage-seen s = record { room = omega (arith, s .room, s .long); long = refl; tells = s .tells; leads = refl }
 
@@ -153,17 +153,17 @@ module _ (rows columns : ℕ) (bits : List ℕ) where
     pub stage-since : {now new : List ℤ} {told done more : ℕ} → Stage grid old 0 told now → Stage grid now done more new → Stage grid old done more new
     stage-since s t = record { room = s .room; long = t .long ∙ s .long; tells = t .tells; leads = t .leads ∙ s .leads }
 
-    -- one row more: the next one is marked, and it is numbered
-    pub stage-row : (now marked new : List ℤ) (row last : ℕ) → row < rows → last ≡ min (row + 2) rows → Stage grid old (row * columns) (min (row + 1) rows * columns) now
-        → marked ≡ fold (putMark bits) now (range ((row + 1) * columns) (last * columns)) → new ≡ fold (putRight (gridOf rows columns marked)) marked (range (row * columns) (row * columns + columns))
+    -- one row more: the mines of the next one are put, and it is numbered
+    pub stage-row : (now shown new : List ℤ) (row last : ℕ) → row < rows → last ≡ min (row + 2) rows → Stage grid old (row * columns) (min (row + 1) rows * columns) now
+        → shown ≡ fold (putMine bits) now (range ((row + 1) * columns) (last * columns)) → new ≡ fold (putRight (gridOf rows columns shown)) shown (range (row * columns) (row * columns + columns))
         → Stage grid old ((row + 1) * columns) (min (row + 1 + 1) rows * columns) new
-    stage-row now marked new row last h e s m n =
+    stage-row now shown new row last h e s m n =
         let q : min (row + 1) rows ≡ row + 1 = omega arith in
         let r : row + 1 + 1 ≡ row + 2 = omega arith in
         let low = mul-le-mul-right {m = row + 1} {n = last} columns (omega arith) in
         let high = mul-le-mul-right {m = last} {n = rows} columns (omega arith) in
         let seen : Stage grid old (row * columns) ((row + 1) * columns) now = rw q at s in
-        let more : Stage grid old (row * columns) (min (row + 2) rows * columns) marked = rw (m, ← e) (stage-marked (last * columns) seen (omega (arith, next-column columns row)) low high) in
+        let more : Stage grid old (row * columns) (min (row + 2) rows * columns) shown = rw (m, ← e) (stage-put (last * columns) seen (omega (arith, next-column columns row)) low high) in
         rw (n, ← next-column columns row, r) (stage-numbered row h more)
 
     -- after the last row the cells have their right values

@@ -13,8 +13,8 @@ bitGrid rows columns bits =
     record { rows = rows; columns = columns; values = map (λ p. valueOf (bitAt bits p)) (range 0 (rows * columns)) }
 
 -- -1 put at a place whose bit is set, 0 at another
-abbrev pub putMark : List ℕ → List ℤ → ℕ → List ℤ
-putMark bits w p = set w p (valueOf (bitAt bits p))
+abbrev pub putMine : List ℕ → List ℤ → ℕ → List ℤ
+putMine bits w p = set w p (valueOf (bitAt bits p))
 
 -- the right value of the cell at a place put there
 abbrev pub putRight : Grid → List ℤ → ℕ → List ℤ

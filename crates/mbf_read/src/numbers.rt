@@ -10,10 +10,10 @@ ghost use Rattle.game.specs.Area.{begun};
 ghost use Rattle.area.specs.Numbers.{gridOf};
 ghost use Rattle.area.specs.Stages.{Shape};
 ghost use Rattle.lines.specs.BoardLine.{bitAt, valueOf};
-ghost use Rattle.mbf_read.specs.Numbers.{bitGrid, putMark, putRight};
+ghost use Rattle.mbf_read.specs.Numbers.{bitGrid, putMine, putRight};
 
 // The value at a place before numbers are counted: -1 for a mine, 0 for a safe cell.
-fn mark_of(bits: &[u8], at: usize) -> i32
+fn mine_value(bits: &[u8], at: usize) -> i32
     requires { ⌜ (length (now bits) ≡ 8192) × (at < 65536) ⌝ }
     ensures { λ r. ⌜ r ≡ valueOf (bitAt (now (bits .entry)) at) ⌝ }
 {
@@ -23,13 +23,13 @@ fn mark_of(bits: &[u8], at: usize) -> i32
     0
 }
 
-// Puts these values at the places `from` to before `to`.
-fn mark(bits: &[u8], from: usize, to: usize, grid: &mut [i32])
+// Puts -1 for a mine and 0 for a safe cell at the places `from` to before `to`.
+fn put_mines(bits: &[u8], from: usize, to: usize, grid: &mut [i32])
     requires { ⌜ (length (now bits) ≡ 8192) × (from ≤ to) × (to ≤ 65536) × (to ≤ length (now grid)) ⌝ }
-    ensures { λ _. ⌜ now (grid .exit) ≡ fold (putMark (now (bits .entry))) (now (grid .entry)) (range from to) ⌝ }
+    ensures { λ _. ⌜ now (grid .exit) ≡ fold (putMine (now (bits .entry))) (now (grid .entry)) (range from to) ⌝ }
 {
     for at in from..to {
-        let value = mark_of(bits, at);
+        let value = mine_value(bits, at);
         grid[at] = value;
     }
 }
@@ -59,16 +59,16 @@ fn number_row(rows: usize, columns: usize, row: usize, grid: &mut [i32])
     }
 }
 
-// The values of all cells, at the start of a lent grid. The row below is marked before a row is numbered.
+// The values of all cells, at the start of a lent grid. The mines of the row below are put before a row is numbered.
 pub fn fill(bits: &[u8], rows: usize, columns: usize, grid: &mut [i32])
     requires { ⌜ Shape rows columns ⌝ }
     requires { ⌜ (length (now bits) ≡ 8192) × (rows * columns ≤ length (now grid)) ⌝ }
     ensures { λ _. ⌜ now (grid .exit) ≡ begun (rightValues (bitGrid rows columns (now (bits .entry)))) (now (grid .entry)) ⌝ }
 {
-    mark(bits, 0, columns, grid);
+    put_mines(bits, 0, columns, grid);
     for row in 0..rows {
         let last = area::upper(row, rows);
-        mark(bits, (row + 1) * columns, last * columns, grid);
+        put_mines(bits, (row + 1) * columns, last * columns, grid);
         number_row(rows, columns, row, grid);
     }
 }

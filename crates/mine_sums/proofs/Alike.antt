@@ -1,7 +1,9 @@
 -- Two runs of values with the same mines: the sums look at mines alone, so what is carried along a row goes over from one grid to the other. Assumes nothing.
 use Prim.Native.Nat.{ℕ, _+_, _-_, _*_, min}
 use mathlib.Core.Path.{_≡_, _∙_}
+use mathlib.Core.Bool.{_&&_}
 use mathlib.Core.List.{List, map}
+use lib.Dec.{ltb}
 use lib.IntN.{pos, ℤ}
 use lib.ListN.{getD}
 use Rattle.game.specs.Grid.{columnOf, index, isMine, mine, near, rowOf}
@@ -28,7 +30,7 @@ module _ (rows columns : ℕ) (vs us : List ℤ) (same : (p : ℕ) → isMine (g
       record {
         here-is = b .here-is ∙ (λ j. sums j row (c - 1) c);
         right-is = b .right-is ∙ (λ j. sums j row c (min (c + 1) columns));
-        next-is = λ h. b .next-is h ∙ (λ j. mines j (c * rows + row));
+        next-is = b .next-is ∙ (λ j. ltb c columns && mines j (c * rows + row));
       }
 
   -- and after it
@@ -39,5 +41,5 @@ module _ (rows columns : ℕ) (vs us : List ℤ) (same : (p : ℕ) → isMine (g
         here-is = a .here-is ∙ (λ j. sums j row c (c + 1));
         right-is = a .right-is ∙ (λ j. sums j row (c + 1) (min (c + 2) columns));
         mine-is = a .mine-is ∙ (λ j. mines j (c * rows + row));
-        next-is = λ h. a .next-is h ∙ (λ j. mines j ((c + 1) * rows + row));
+        next-is = a .next-is ∙ (λ j. ltb (c + 1) columns && mines j ((c + 1) * rows + row));
       }

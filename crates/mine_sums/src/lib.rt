@@ -1,5 +1,6 @@
 // The mines of a square by its three columns: each column of three is summed once, and the sums are carried along a row, so that a cell reads one new column.
 ghost use mathlib.Core.Path.{_≡_};
+ghost use mathlib.Core.Bool.{false};
 ghost use Prim.Native.Nat.{_+_, _-_, _*_, _<_, _≤_, min};
 ghost use lib.ListN.{length};
 ghost use Rattle.game.specs.Lists.{count, range};
@@ -62,11 +63,11 @@ fn sum_of(grid: &[i32], rows: usize, columns: usize, row: usize, column: usize, 
     above + own as usize + below
 }
 
-// What is carried before a column of a row is looked at: the sums of the column to its left and of its own. There is no column left of the first.
+// What is carried before a column of a row is looked at: the sums of the column to its left and of its own, as `here` and `right`, and whether its cell is a mine, as `next`; nothing yet as `left` and `mine`. There is no column left of the first.
 pub fn sums_before(grid: &[i32], rows: usize, columns: usize, row: usize, column: usize) -> Sums
     requires { ⌜ Shape rows columns ⌝ }
     requires { ⌜ (rows * columns ≤ length (now grid)) × (row < rows) × (column < columns) ⌝ }
-    ensures { λ r. ⌜ Before (gridOf rows columns (now (grid .entry))) row column r ⌝ }
+    ensures { λ r. ⌜ Before (gridOf rows columns (now (grid .entry))) row column r × (r .left ≡ 0) × (r .mine ≡ false) ⌝ }
 {
     let next = mine_in(grid, rows, columns, row, column);
     let right = sum_of(grid, rows, columns, row, column, next);
@@ -79,12 +80,12 @@ pub fn sums_before(grid: &[i32], rows: usize, columns: usize, row: usize, column
             next,
         };
     }
-    let mine = mine_in(grid, rows, columns, row, column - 1);
+    let before = mine_in(grid, rows, columns, row, column - 1);
     Sums {
         left: 0,
-        here: sum_of(grid, rows, columns, row, column - 1, mine),
+        here: sum_of(grid, rows, columns, row, column - 1, before),
         right,
-        mine,
+        mine: false,
         next,
     }
 }

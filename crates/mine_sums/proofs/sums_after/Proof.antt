@@ -2,9 +2,11 @@
 use Prim.Native.Nat.{_+_, min}
 use native.Mathlib.Omega.{arith}
 use borrow.Author.Needs.{needs}
-use mathlib.Core.Path.{_≡_, ap, _∙_}
+use borrow.Author.Tests.{le-ltb, lt-ltb}
+use mathlib.Core.Path.{_≡_, ap, sym, _∙_}
+use mathlib.Core.Bool.{Bool, _&&_}
 use Rattle.area.specs.Numbers.{gridOf}
-use Rattle.mine_sums.specs.Columns.{columnMines}
+use Rattle.mine_sums.specs.Columns.{columnMines, mineIn}
 use Rattle.mine_sums.proofs.Columns.{columns-none}
 use Rattle.mine_sums.proofs.sums_after.Statement.{statement}
 use Rattle.mine_sums.proofs.sums_after.Tie as tie
@@ -15,6 +17,13 @@ own c =
     let a = c .args in
     let e : min (a .column + 1) (a .columns) ≡ a .column + 1 = omega arith in
     c .pre .1 .1 .right-is ∙ ap (columnMines (gridOf (a .rows) (a .columns) (a .grid .now)) (a .row) (a .column)) e
+
+-- and its cell
+cell : (c : tie.Start) → c .args .sums .next ≡ mineIn (gridOf (c .args .rows) (c .args .columns) (c .args .grid .now)) (c .args .column) (c .args .row)
+cell c =
+    let a = c .args in
+    let m = mineIn (gridOf (a .rows) (a .columns) (a .grid .now)) (a .column) (a .row) in
+    c .pre .1 .1 .next-is ∙ ap (λ (b : Bool). b && m) (lt-ltb (a .column) (a .columns) (omega arith))
 
 add-if1 : tie.Need-add-if1
 add-if1 c = search needs
@@ -29,8 +38,8 @@ returns c =
       left-is = s .pre .1 .1 .here-is;
       here-is = own s;
       right-is = columns-none g (a .row) (a .column + 1) ∙ ap (columnMines g (a .row) (a .column + 1)) e;
-      mine-is = s .pre .1 .1 .next-is (omega arith);
-      next-is = λ h. absurd (omega arith);
+      mine-is = cell s;
+      next-is = ap (λ (b : Bool). b && mineIn g (a .column + 1) (a .row)) (sym (le-ltb (a .column + 1) (a .columns) (omega arith)));
     }
 
 add-mine-in : tie.Need-add-mine-in
@@ -55,8 +64,8 @@ returns-2 c =
       left-is = s .pre .1 .1 .here-is;
       here-is = own s;
       right-is = c .sum-of .ensures ∙ ap (columnMines g (a .row) (a .column + 1)) e;
-      mine-is = s .pre .1 .1 .next-is (omega arith);
-      next-is = λ h. c .before .mine-in .ensures;
+      mine-is = cell s;
+      next-is = c .before .mine-in .ensures ∙ ap (λ (b : Bool). b && mineIn g (a .column + 1) (a .row)) (sym (lt-ltb (a .column + 1) (a .columns) (omega arith)));
     }
 
 pub sums-after-spec : {M : Type 1} → statement M

@@ -2,9 +2,12 @@
 use Prim.Native.Nat.{_+_, _-_, min}
 use native.Mathlib.Omega.{arith}
 use borrow.Author.Needs.{needs}
-use mathlib.Core.Path.{_≡_, ap, _∙_}
+use borrow.Author.Tests.{lt-ltb}
+use mathlib.Core.Path.{_≡_, ap, refl, sym, _∙_}
+use mathlib.Core.Bool.{Bool, _&&_}
+use lib.Dec.{ltb}
 use Rattle.area.specs.Numbers.{gridOf}
-use Rattle.mine_sums.specs.Columns.{columnMines}
+use Rattle.mine_sums.specs.Columns.{columnMines, mineIn}
 use Rattle.mine_sums.proofs.Columns.{columns-none}
 use Rattle.mine_sums.proofs.sums_before.Statement.{statement}
 use Rattle.mine_sums.proofs.sums_before.Tie as tie
@@ -22,13 +25,20 @@ right c =
     let e : a .column + 1 ≡ min (a .column + 1) (a .columns) = omega arith in
     c .sum-of .ensures ∙ ap (columnMines (gridOf (a .rows) (a .columns) (a .grid .now)) (a .row) (a .column)) e
 
+-- its cell
+next : (c : tie.After-sum-of) → c .before .mine-in .result ≡ (ltb (c .before .before .args .column) (c .before .before .args .columns) && mineIn (gridOf (c .before .before .args .rows) (c .before .before .args .columns) (c .before .before .args .grid .now)) (c .before .before .args .column) (c .before .before .args .row))
+next c =
+    let a = c .before .before .args in
+    let m = mineIn (gridOf (a .rows) (a .columns) (a .grid .now)) (a .column) (a .row) in
+    c .before .mine-in .ensures ∙ ap (λ (b : Bool). b && m) (sym (lt-ltb (a .column) (a .columns) (omega arith)))
+
 returns : tie.Need-returns
 returns c =
     let t = c .before in
     let a = t .before .before .args in
     let g = gridOf (a .rows) (a .columns) (a .grid .now) in
     let e : a .column - 1 ≡ a .column = omega arith in
-    record { here-is = columns-none g (a .row) (a .column - 1) ∙ ap (columnMines g (a .row) (a .column - 1)) e; right-is = right t; next-is = λ h. t .before .mine-in .ensures }
+    (record { here-is = columns-none g (a .row) (a .column - 1) ∙ ap (columnMines g (a .row) (a .column - 1)) e; right-is = right t; next-is = next t }, refl, refl)
 
 sub-mine-in : tie.Need-sub-mine-in
 sub-mine-in c = search needs
@@ -48,7 +58,7 @@ returns-2 c =
     let a = t .before .before .args in
     let g = gridOf (a .rows) (a .columns) (a .grid .now) in
     let e : a .column - 1 + 1 ≡ a .column = omega arith in
-    record { here-is = c .sum-of2 .ensures ∙ ap (columnMines g (a .row) (a .column - 1)) e; right-is = right t; next-is = λ h. t .before .mine-in .ensures }
+    (record { here-is = c .sum-of2 .ensures ∙ ap (columnMines g (a .row) (a .column - 1)) e; right-is = right t; next-is = next t }, refl, refl)
 
 pub sums-before-spec : {M : Type 1} → statement M
 sums-before-spec =

@@ -26,7 +26,7 @@ sums-before-requires : tie.Need-sums-before-requires Inv-loop μ-loop
 sums-before-requires c κs = search needs
 
 loop-holds : tie.Need-loop-holds Inv-loop μ-loop
-loop-holds c = (omega arith, (λ k h. absurd (omega arith)), c .sums-before .ensures)
+loop-holds c = (omega arith, (λ k h. absurd (omega arith)), c .sums-before .ensures .0)
 
 sums-after-requires : tie.Need-sums-after-requires Inv-loop μ-loop
 sums-after-requires c κs = (c .before .before .before .pre .0, ((omega arith, omega arith, omega arith), c .before .loop .inv .2))

@@ -1,4 +1,4 @@
--- `mbf_read::numbers::fill`: the rows passed have their values, and one row more is marked. Assumes nothing.
+-- `mbf_read::numbers::fill`: the rows passed have their values, and one row more its mines. Assumes nothing.
 use Prim.Native.Nat.{_+_, _-_, _*_, _≤_, min}
 use native.Mathlib.Omega.{arith}
 use native.Mathlib.Nat.{mul-le-mul-right}
@@ -17,17 +17,17 @@ Inv-loop bits rows columns grid₀ row₀ grid row =
 abbrev μ-loop : tie.MeasureT-loop
 μ-loop bits rows columns grid₀ row₀ grid row = rows - row
 
-mark-requires : tie.Need-mark-requires Inv-loop μ-loop
-mark-requires c κs =
+put-mines-requires : tie.Need-put-mines-requires Inv-loop μ-loop
+put-mines-requires c κs =
     let s = c .before .before in
     omega (arith, mul-le-mul-right {m = 1} {n = s .args .rows} (s .args .columns) (omega arith), cells-few (s .args .rows) (s .args .columns) (s .pre .0))
 
--- the first row is marked
-first : (c : tie.After-mark Inv-loop μ-loop)
-    → Stage (bitGrid (c .before .before .before .args .rows) (c .before .before .before .args .columns) (c .before .before .before .args .bits .now)) (c .before .before .before .args .grid .now) 0 (c .before .before .before .args .columns) (c .mark .last .1 .1 .1 .0)
+-- the mines of the first row are put
+first : (c : tie.After-put-mines Inv-loop μ-loop)
+    → Stage (bitGrid (c .before .before .before .args .rows) (c .before .before .before .args .columns) (c .before .before .before .args .bits .now)) (c .before .before .before .args .grid .now) 0 (c .before .before .before .args .columns) (c .put-mines .last .1 .1 .1 .0)
 first c =
     let a = c .before .before .before .args in
-    stage-first (a .rows) (a .columns) (a .bits .now) (c .mark .last .1 .1 .1 .0) (omega arith) (omega arith) (c .mark .ensures)
+    stage-first (a .rows) (a .columns) (a .bits .now) (c .put-mines .last .1 .1 .1 .0) (omega arith) (omega arith) (c .put-mines .ensures)
 
 loop-holds : tie.Need-loop-holds Inv-loop μ-loop
 loop-holds c =
@@ -40,21 +40,21 @@ loop-holds c =
 upper-requires : tie.Need-upper-requires Inv-loop μ-loop
 upper-requires c κs = search needs
 
-add-mark : tie.Need-add-mark Inv-loop μ-loop
-add-mark c = omega arith
+add-put-mines : tie.Need-add-put-mines Inv-loop μ-loop
+add-put-mines c = omega arith
 
-mul-mark : tie.Need-mul-mark Inv-loop μ-loop
-mul-mark c =
+mul-put-mines : tie.Need-mul-put-mines Inv-loop μ-loop
+mul-put-mines c =
     let s = c .before .before .before .before .before .before .before in
     omega (arith, mul-le-mul-right {m = c .before .before .loop .row + 1} {n = s .args .rows} (s .args .columns) (omega arith), cells-few (s .args .rows) (s .args .columns) (s .pre .0))
 
-mul-mark-2 : tie.Need-mul-mark-2 Inv-loop μ-loop
-mul-mark-2 c =
+mul-put-mines-2 : tie.Need-mul-put-mines-2 Inv-loop μ-loop
+mul-put-mines-2 c =
     let s = c .before .before .before .before .before .before .before in
     omega (arith, mul-le-mul-right {m = c .upper .result} {n = s .args .rows} (s .args .columns) (omega arith), cells-few (s .args .rows) (s .args .columns) (s .pre .0))
 
-mark-requires-2 : tie.Need-mark-requires-2 Inv-loop μ-loop
-mark-requires-2 c κs =
+put-mines-requires-2 : tie.Need-put-mines-requires-2 Inv-loop μ-loop
+put-mines-requires-2 c κs =
     let l = c .before .before .before .loop in
     let s = c .before .before .before .before .before .before .before .before in
     let a = s .args in
@@ -79,7 +79,7 @@ loop-again c =
     let a = c .before .before .before .before .before .before .before .before .before .before .before .before .before .args in
     let u = c .before .before .before .before .before .before .upper in (
       omega arith,
-      stage-row (a .rows) (a .columns) (a .bits .now) (l .grid) _ _ (l .row) (u .result) (omega arith) (u .ensures) (l .inv .1) (c .before .before .before .before .mark2 .ensures) (c .before .number-row .ensures),
+      stage-row (a .rows) (a .columns) (a .bits .now) (l .grid) _ _ (l .row) (u .result) (omega arith) (u .ensures) (l .inv .1) (c .before .before .before .before .put-mines2 .ensures) (c .before .number-row .ensures),
     )
 
 same-length : tie.Need-same-length Inv-loop μ-loop
@@ -98,13 +98,13 @@ fill-spec =
     (tie.spec
     Inv-loop
     μ-loop
-    mark-requires
+    put-mines-requires
     loop-holds
     upper-requires
-    add-mark
-    mul-mark
-    mul-mark-2
-    mark-requires-2
+    add-put-mines
+    mul-put-mines
+    mul-put-mines-2
+    put-mines-requires-2
     number-row-requires
     add-row
     loop-less

@@ -41,7 +41,7 @@ loop-holds c =
     let a = c .before .before .args in
     let n = a .row * a .columns in
     let e : n + 0 ≡ n = omega arith in
-    (omega arith, sym (ap (fold (putRight (gridOf (a .rows) (a .columns) (a .grid .now))) (a .grid .now)) (ap (range n) e ∙ range-none n)), refl, c .sums-before .ensures)
+    (omega arith, sym (ap (fold (putRight (gridOf (a .rows) (a .columns) (a .grid .now))) (a .grid .now)) (ap (range n) e ∙ range-none n)), refl, c .sums-before .ensures .0)
 
 -- no mine changed
 alike : (rows columns row column : ℕ) (old now : List ℤ) → row < rows → column ≤ columns → now ≡ filled rows columns old row column → (p : ℕ) → isMine (getD now p (pos 0)) ≡ isMine (getD old p (pos 0))

@@ -34,7 +34,7 @@ loop-holds c =
       omega arith,
       sym (ap (fold (loadCell (gridOf (a .rows) (a .columns) (a .grid .now))) (a .work .now)) (row-none (a .rows) (a .row) (a .from))),
       refl,
-      c .sums-before .ensures,
+      c .sums-before .ensures .0,
     )
 
 sums-after-requires : tie.Need-sums-after-requires Inv-loop μ-loop

@@ -1,4 +1,4 @@
--- `mbf_read::numbers::mark`: the places passed have their marks. Assumes nothing.
+-- `mbf_read::numbers::put_mines`: the places passed have their values. Assumes nothing.
 use Prim.Native.Nat.{ℕ, _-_, _≤_}
 use native.Mathlib.Omega.{arith}
 use mathlib.Core.Path.{_≡_, ap, refl, subst, sym, _∙_}
@@ -11,13 +11,13 @@ use mir.Facts.{toZ-ofZ}
 use Rattle.game.specs.Lists.{fold, range}
 use Rattle.game.proofs.Members.{fold-more, range-none}
 use Rattle.lines.specs.BoardLine.{bitAt, valueOf}
-use Rattle.mbf_read.specs.Numbers.{putMark}
-use Rattle.mbf_read.proofs.numbers.mark.Statement.{statement}
-use Rattle.mbf_read.proofs.numbers.mark.Tie as tie
+use Rattle.mbf_read.specs.Numbers.{putMine}
+use Rattle.mbf_read.proofs.numbers.put_mines.Statement.{statement}
+use Rattle.mbf_read.proofs.numbers.put_mines.Tie as tie
 
 abbrev Inv-loop : tie.InvT-loop
 Inv-loop bits from to grid₀ at₀ grid at =
-    (from ≤ at) × (at ≤ to) × (grid ≡ fold (putMark bits) grid₀ (range from at)) × (length grid ≡ length grid₀)
+    (from ≤ at) × (at ≤ to) × (grid ≡ fold (putMine bits) grid₀ (range from at)) × (length grid ≡ length grid₀)
 
 abbrev μ-loop : tie.MeasureT-loop
 μ-loop bits from to grid₀ at₀ grid at = to - at
@@ -25,10 +25,10 @@ abbrev μ-loop : tie.MeasureT-loop
 loop-holds : tie.Need-loop-holds Inv-loop μ-loop
 loop-holds c =
     let a = c .before .args in
-    (omega arith, omega arith, sym (ap (fold (putMark (a .bits .now)) (a .grid .now)) (range-none (a .from))), refl)
+    (omega arith, omega arith, sym (ap (fold (putMine (a .bits .now)) (a .grid .now)) (range-none (a .from))), refl)
 
-mark-of-requires : tie.Need-mark-of-requires Inv-loop μ-loop
-mark-of-requires c κs = omega arith
+mine-value-requires : tie.Need-mine-value-requires Inv-loop μ-loop
+mine-value-requires c κs = omega arith
 
 mul-value : tie.Need-mul-value Inv-loop μ-loop
 mul-value c = omega arith
@@ -42,24 +42,24 @@ add-at c = omega arith
 loop-less : tie.Need-loop-less Inv-loop μ-loop
 loop-less c = omega arith
 
--- a mark fits a value of the run
-mark-fits : (b : Bool) → SFits w32 (valueOf b)
-mark-fits true = record { sfits = omega arith }
-mark-fits false = record { sfits = omega arith }
+-- such a value fits the run
+value-fits : (b : Bool) → SFits w32 (valueOf b)
+value-fits true = record { sfits = omega arith }
+value-fits false = record { sfits = omega arith }
 
 -- so it is stored as itself
-mark-stored : (b : Bool) (v : ℤ) → v ≡ valueOf b → toZ w32 (ofZ w32 v) ≡ valueOf b
-mark-stored b v e = toZ-ofZ (subst (SFits w32) (sym e) (mark-fits b)) ∙ e
+value-stored : (b : Bool) (v : ℤ) → v ≡ valueOf b → toZ w32 (ofZ w32 v) ≡ valueOf b
+value-stored b v e = toZ-ofZ (subst (SFits w32) (sym e) (value-fits b)) ∙ e
 
 loop-again : tie.Need-loop-again Inv-loop μ-loop
 loop-again c =
     let l = c .before .before .loop in
     let a = c .before .before .before .before .args in
-    let m = c .mark-of in
-    let v = mark-stored (bitAt (a .bits .now) (l .at)) (m .result) (m .ensures) in (
+    let m = c .mine-value in
+    let v = value-stored (bitAt (a .bits .now) (l .at)) (m .result) (m .ensures) in (
       omega arith,
       omega arith,
-      (λ i. set (l .inv .2 i) (l .at) (v i)) ∙ sym (fold-more (putMark (a .bits .now)) (a .grid .now) (a .from) (l .at) (l .inv .0)),
+      (λ i. set (l .inv .2 i) (l .at) (v i)) ∙ sym (fold-more (putMine (a .bits .now)) (a .grid .now) (a .from) (l .at) (l .inv .0)),
       length-set (l .grid) (l .at) (toZ w32 (ofZ w32 (m .result))) ∙ l .inv .3,
     )
 
@@ -71,16 +71,16 @@ returns c =
     let l = c .before .loop in
     let a = c .before .before .before .args in
     let e : l .at ≡ a .to = omega arith in
-    l .inv .2 ∙ ap (λ (n : ℕ). fold (putMark (a .bits .now)) (a .grid .now) (range (a .from) n)) e
+    l .inv .2 ∙ ap (λ (n : ℕ). fold (putMine (a .bits .now)) (a .grid .now) (range (a .from) n)) e
 
-pub mark-spec : {M : Type 1} → statement M
-mark-spec =
+pub put-mines-spec : {M : Type 1} → statement M
+put-mines-spec =
     tie.close
     (tie.spec
     Inv-loop
     μ-loop
     loop-holds
-    mark-of-requires
+    mine-value-requires
     mul-value
     slice-set-from-value
     add-at
