@@ -42,7 +42,10 @@ fn of(lot: Lot) -> [Row; 3] {
 
 /// The rows.
 pub fn all() -> Vec<Row> {
-    [league(100), largest(20)].into_iter().flat_map(of).collect()
+    [league(100), largest(20)]
+        .into_iter()
+        .flat_map(of)
+        .collect()
 }
 
 impl Row {
