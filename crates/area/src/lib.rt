@@ -22,7 +22,7 @@ pub use five::put_waiting;
 pub use five::second_label;
 pub use five::state;
 pub use five::waiting;
-pub use mines::mine_at;
+pub use mines::mine_in;
 pub use numbers::get;
 pub use numbers::put;
 pub use shifts::shift;

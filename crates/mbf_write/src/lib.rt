@@ -5,7 +5,6 @@ ghost use mathlib.Core.Path.{_≡_};
 ghost use Prim.Native.Nat.{_+_, _*_, _<_, _≤_};
 ghost use lib.ListN.{length};
 ghost use lib.Seq.{sets};
-ghost use Rattle.game.specs.Grid.{mine};
 ghost use Rattle.game.specs.Area.{begun};
 ghost use Rattle.area.specs.Numbers.{gridOf};
 ghost use Rattle.area.specs.Stages.{Shape};
@@ -21,15 +20,6 @@ pub enum FileWritten {
     Refused(Refusal),
 }
 
-// Whether the cell in a row and a column is a mine: values stand row after row.
-fn mine_in(rows: usize, columns: usize, grid: &[i32], row: usize, column: usize) -> bool
-    requires { ⌜ Shape rows columns ⌝ }
-    requires { ⌜ (length (now grid) ≡ rows * columns) × (row < rows) × (column < columns) ⌝ }
-    ensures { λ r. ⌜ r ≡ mine (gridOf rows columns (now (grid .entry))) (column * rows + row) ⌝ }
-{
-    area::mine_at(grid, row * columns + column)
-}
-
 // The mines of a column.
 fn count_column(rows: usize, columns: usize, grid: &[i32], column: usize) -> usize
     requires { ⌜ Shape rows columns ⌝ }
@@ -38,7 +28,7 @@ fn count_column(rows: usize, columns: usize, grid: &[i32], column: usize) -> usi
 {
     let mut mines: usize = 0;
     for row in 0..rows {
-        mines += mine_in(rows, columns, grid, row, column) as usize;
+        mines += area::mine_in(grid, rows, columns, row, column) as usize;
     }
     mines
 }
@@ -70,7 +60,7 @@ fn put_mine(
     requires { ⌜ (length (now grid) ≡ rows * columns) × (row < rows) × (column < columns) × RoomFor (gridOf rows columns (now grid)) (column * rows + row) (column * rows + row + 1) (now file) at ⌝ }
     ensures { λ r. ⌜ Listed (gridOf rows columns (now (grid .entry))) (column * rows + row) (column * rows + row + 1) (now (file .entry)) at (now (file .exit)) r ⌝ }
 {
-    if mine_in(rows, columns, grid, row, column) {
+    if area::mine_in(grid, rows, columns, row, column) {
         file[at] = column as u8;
         file[at + 1] = row as u8;
         return at + 2;

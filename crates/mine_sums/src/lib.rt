@@ -18,15 +18,6 @@ pub struct Sums {
     pub next: bool,
 }
 
-// Whether the cell in a row and a column is a mine.
-fn mine_in(grid: &[i32], rows: usize, columns: usize, row: usize, column: usize) -> bool
-    requires { ⌜ Shape rows columns ⌝ }
-    requires { ⌜ (rows * columns ≤ length (now grid)) × (row < rows) × (column < columns) ⌝ }
-    ensures { λ r. ⌜ r ≡ mineIn (gridOf rows columns (now (grid .entry))) column row ⌝ }
-{
-    area::mine_at(grid, row * columns + column)
-}
-
 // 1 for a mine above the cell in a row and a column, else 0; none is above the first row.
 fn mine_above(grid: &[i32], rows: usize, columns: usize, row: usize, column: usize) -> usize
     requires { ⌜ Shape rows columns ⌝ }
@@ -36,7 +27,7 @@ fn mine_above(grid: &[i32], rows: usize, columns: usize, row: usize, column: usi
     if row == 0 {
         return 0;
     }
-    mine_in(grid, rows, columns, row - 1, column) as usize
+    area::mine_in(grid, rows, columns, row - 1, column) as usize
 }
 
 // 1 for a mine below the cell in a row and a column, else 0; none is below the last row.
@@ -48,7 +39,7 @@ fn mine_below(grid: &[i32], rows: usize, columns: usize, row: usize, column: usi
     if row + 1 == rows {
         return 0;
     }
-    mine_in(grid, rows, columns, row + 1, column) as usize
+    area::mine_in(grid, rows, columns, row + 1, column) as usize
 }
 
 // The mines of a column, in a row and the rows beside it, where `own` tells whether the cell in the row itself is one.
@@ -69,7 +60,7 @@ pub fn sums_before(grid: &[i32], rows: usize, columns: usize, row: usize, column
     requires { ⌜ (rows * columns ≤ length (now grid)) × (row < rows) × (column < columns) ⌝ }
     ensures { λ r. ⌜ Before (gridOf rows columns (now (grid .entry))) row column r × (r .left ≡ 0) × (r .mine ≡ false) ⌝ }
 {
-    let next = mine_in(grid, rows, columns, row, column);
+    let next = area::mine_in(grid, rows, columns, row, column);
     let right = sum_of(grid, rows, columns, row, column, next);
     if column == 0 {
         return Sums {
@@ -80,7 +71,7 @@ pub fn sums_before(grid: &[i32], rows: usize, columns: usize, row: usize, column
             next,
         };
     }
-    let before = mine_in(grid, rows, columns, row, column - 1);
+    let before = area::mine_in(grid, rows, columns, row, column - 1);
     Sums {
         left: 0,
         here: sum_of(grid, rows, columns, row, column - 1, before),
@@ -116,7 +107,7 @@ pub fn sums_after(
             next: false,
         };
     }
-    let next = mine_in(grid, rows, columns, row, column + 1);
+    let next = area::mine_in(grid, rows, columns, row, column + 1);
     let right = sum_of(grid, rows, columns, row, column + 1, next);
     Sums {
         left,

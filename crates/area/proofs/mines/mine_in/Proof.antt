@@ -1,11 +1,11 @@
--- `mbf_write::mine_in`: the value at a row and a column is that of their cell. Assumes nothing.
+-- `area::mines::mine_in`: the value at a row and a column is that of their cell. Assumes nothing.
 use Prim.Native.Nat.{_+_, _*_, _<_, _≤_}
 use native.Mathlib.Omega.{arith}
 use mathlib.Core.Path.{_∙_}
 use lib.Arith.{digits-lt}
 use Rattle.area.proofs.Cells.{cells-few, mine-here}
-use Rattle.mbf_write.proofs.mine_in.Statement.{statement}
-use Rattle.mbf_write.proofs.mine_in.Tie as tie
+use Rattle.area.proofs.mines.mine_in.Statement.{statement}
+use Rattle.area.proofs.mines.mine_in.Tie as tie
 
 -- where the value stands
 place : (c : tie.Start) → (c .args .row * c .args .columns + c .args .column < c .args .rows * c .args .columns) × (c .args .rows * c .args .columns ≤ 65025)
