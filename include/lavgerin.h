@@ -31,7 +31,15 @@
  * spent.
  * A long search can be split: each call is lent the bytes from where the one before ended, by *used, and the least of
  * the answers counts. To keep the moves too, play single rounds so, and copy the list whenever *clicks is below the
- * least so far: examples/search.c. */
+ * least so far: examples/search.c.
+ *
+ * The keyed functions need no draw bytes: their draws come from a key, a run of six numbers, five words x, y, z, w, v
+ * and a counter d, by Marsaglia's xorwow. One word more: t = x ^ (x >> 2); x, y, z, w become y, z, w, v; v becomes
+ * (v ^ (v << 4)) ^ (t ^ (t << 1)); d rises by 362437; the word is d + v, all modulo 2^32. The same key gives the same
+ * round everywhere, and what the functions above do with the key's words as draw bytes, four each, low byte first.
+ * After success the key's run holds the key after so many words, *used / 4, so that the next call reads on; any
+ * refusal leaves it. A key that was handed back is always taken. In the old mode LAVGERIN_DRAWS is never returned, in
+ * the fair one only when 64 words were spent on one draw. */
 #ifndef LAVGERIN_H
 #define LAVGERIN_H
 
@@ -50,14 +58,16 @@ enum {
     LAVGERIN_BOARD = 2,  /* the grid isn't rows x columns long; with files: no room for the grid read or the file written */
     LAVGERIN_WORK = 3,   /* the work area is below 5 x cells */
     LAVGERIN_TRACE = 4,  /* the list is below cells long; in replay: count above the list's length */
-    LAVGERIN_ROUNDS = 5, /* random search with 0 rounds */
-    LAVGERIN_DRAWS = 6,  /* four bytes were needed and fewer were left, maybe after spent words: the first 5 x cells
-                            numbers and cells moves are 0 */
+    LAVGERIN_ROUNDS = 5, /* random search with 0 rounds, keyed search also with more than 1,000,000 */
+    LAVGERIN_DRAWS = 6,  /* four bytes were needed and fewer were left, maybe after spent words, or 64 words of a key
+                            were spent on one draw: the first 5 x cells numbers and cells moves are 0 */
     LAVGERIN_MOVE = 7,   /* replay met a move that isn't legal, as none is after a won or lost game, another kind, or an
                             index past the grid: the position before it is left */
     LAVGERIN_FILE = 10,  /* the file isn't well formed: its length, a mine past the edge, or one listed twice */
-    LAVGERIN_NUMBER = 11 /* of the strict functions, checked after BOARD and before WORK: a safe cell's value isn't its
-                            number */
+    LAVGERIN_NUMBER = 11, /* of the strict functions, checked after BOARD and before WORK: a safe cell's value isn't its
+                             number */
+    LAVGERIN_KEY = 12     /* of the keyed functions, checked after ROUNDS and before DRAWS: the five words of the key are
+                             all 0, or its run isn't six long */
 };
 
 /* The kinds of moves. */
@@ -101,6 +111,21 @@ uint8_t lavgerin_random_search(size_t rows, size_t columns, const int32_t *grid,
                                int32_t *work, size_t work_length,
                                const uint8_t *draws, size_t draws_length, uint8_t fair, size_t rounds,
                                uint64_t *clicks, uint64_t *used);
+
+/* One random round by a key: clicks, the moves in the list, the bytes of the key used, four a word, and in the key's
+ * run the key after it. fair as above. */
+uint8_t lavgerin_keyed_round(size_t rows, size_t columns, const int32_t *grid, size_t grid_length,
+                             int32_t *work, size_t work_length, uint32_t *list, size_t list_length,
+                             uint32_t *key, size_t key_length, uint8_t fair,
+                             uint64_t *clicks, uint64_t *used);
+
+/* Random search over so many rounds by a key, at most 1,000,000: the least clicks, the bytes of the key used, and in
+ * the key's run the key after it. A search of a + b rounds gives what one of a and then one of b with the key handed
+ * back give: the least of both, and the bytes of both together. fair as above. */
+uint8_t lavgerin_keyed_search(size_t rows, size_t columns, const int32_t *grid, size_t grid_length,
+                              int32_t *work, size_t work_length,
+                              uint32_t *key, size_t key_length, uint8_t fair, size_t rounds,
+                              uint64_t *clicks, uint64_t *used);
 
 /* The first count moves of a list are played from the position before any move: moves made, safe cells still closed,
  * and how the game ends. The work area is left at the last position, with its premiums. In all this a flagged safe
@@ -170,6 +195,16 @@ uint8_t lavgerin_strict_random_search(size_t rows, size_t columns, const int32_t
                                       int32_t *work, size_t work_length,
                                       const uint8_t *draws, size_t draws_length, uint8_t fair, size_t rounds,
                                       uint64_t *clicks, uint64_t *used);
+
+uint8_t lavgerin_strict_keyed_round(size_t rows, size_t columns, const int32_t *grid, size_t grid_length,
+                                    int32_t *work, size_t work_length, uint32_t *list, size_t list_length,
+                                    uint32_t *key, size_t key_length, uint8_t fair,
+                                    uint64_t *clicks, uint64_t *used);
+
+uint8_t lavgerin_strict_keyed_search(size_t rows, size_t columns, const int32_t *grid, size_t grid_length,
+                                     int32_t *work, size_t work_length,
+                                     uint32_t *key, size_t key_length, uint8_t fair, size_t rounds,
+                                     uint64_t *clicks, uint64_t *used);
 
 uint8_t lavgerin_strict_replay(size_t rows, size_t columns, const int32_t *grid, size_t grid_length,
                                int32_t *work, size_t work_length, const uint32_t *list, size_t list_length,

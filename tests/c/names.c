@@ -1,6 +1,6 @@
-/* Calls the library under its C names: the twelve boards, random rounds and searches, refusals on both sides, replays
- * with wrong flags to each ending, MBF files, the strict forms, and what is left alone. Exits at the first wrong
- * answer. */
+/* Calls the library under its C names: the twelve boards, random rounds and searches, keyed ones, refusals on both
+ * sides, replays with wrong flags to each ending, MBF files, the strict forms, and what is left alone. Exits at the
+ * first wrong answer. */
 #include "lavgerin.h"
 
 #include <stdio.h>
@@ -23,6 +23,7 @@ static int32_t values[MOST + 1];
 static uint32_t list[MOST + 1], many[MILLION];
 static uint8_t file[MOST_BYTES + 1], bytes[4 + 2 * MOST_LISTED];
 static uint64_t first, second, third;
+static uint32_t key[8], given[8];
 static unsigned long compared;
 
 /* Two numbers that must be the same. */
@@ -247,10 +248,144 @@ static void draws(void) {
     ran("draws");
 }
 
+enum { KEYS = 3, KEY_BYTES = 4096 };
+static const uint32_t KEY[KEYS][6] = {
+    {123456789, 362436069, 521288629, 88675123, 5783321, 6615241},
+    {0, 0, 0, 0, UINT32_C(1) << 31, UINT32_MAX},
+    {UINT32_MAX, UINT32_MAX, UINT32_MAX, UINT32_MAX, UINT32_MAX, UINT32_MAX - 362436},
+};
+
+/* A key to be lent, and what stands past its six numbers. */
+static void lend_key(const uint32_t *numbers) {
+    for (size_t k = 0; k < 8; k++) key[k] = given[k] = k < 6 ? numbers[k] : LENT_MOVE;
+}
+
+/* One word more of a key, by the paper. */
+static uint32_t next_word(uint32_t *k) {
+    uint32_t t = k[0] ^ (k[0] >> 2);
+    for (size_t i = 0; i < 4; i++) k[i] = k[i + 1];
+    k[4] = (k[4] ^ (k[4] << 4)) ^ (t ^ (t << 1));
+    k[5] += 362437;
+    return k[5] + k[4];
+}
+
+/* The key's run is the one that was given, stepped on by so many bytes. */
+static void stepped(uint64_t used) {
+    EQUAL(used % 4, 0);
+    for (uint64_t k = 0; k < used / 4; k++) next_word(given);
+    for (size_t k = 0; k < 8; k++) EQUAL(key[k], given[k]);
+}
+
+/* A keyed round, or a keyed search of one round or more, of a board, with so many numbers of the key. */
+static uint8_t by_key(const board *b, size_t key_length, uint8_t fair, size_t rounds) {
+    size_t r = b->rows, c = b->columns, n = r * c;
+    lend();
+    if (rounds) return lavgerin_keyed_search(r, c, b->grid, n, work, 5 * n, key, key_length, fair, rounds, &first, &second);
+    return lavgerin_keyed_round(r, c, b->grid, n, work, 5 * n, list, n, key, key_length, fair, &first, &second);
+}
+
+/* A keyed call does what the lent one does with the key's bytes; the key is handed on, and the same key does it again. */
+static void as_lent(const board *b, const uint32_t *numbers, uint8_t fair, size_t rounds) {
+    static uint8_t draws[KEY_BYTES];
+    static int32_t area[46];
+    static uint32_t moves[10];
+    lend_key(numbers);
+    for (size_t k = 0; k < KEY_BYTES; k += 4) {
+        uint32_t word = next_word(given);
+        for (size_t i = 0; i < 4; i++) draws[k + i] = (uint8_t)(word >> 8 * i);
+    }
+    EQUAL(rounds ? searched(b, draws, KEY_BYTES, fair, rounds) : rolled(b, draws, KEY_BYTES, fair), 0);
+    uint64_t told[2] = {first, second};
+    memcpy(area, work, sizeof area);
+    memcpy(moves, list, sizeof moves);
+    for (size_t again = 0; again < 2; again++) {
+        lend_key(numbers);
+        EQUAL(by_key(b, 6, fair, rounds), 0);
+        EQUAL(first, told[0]);
+        EQUAL(second, told[1]);
+        EQUAL(memcmp(work, area, sizeof area), 0);
+        EQUAL(memcmp(list, moves, sizeof moves), 0);
+        stepped(second);
+    }
+}
+
+/* A search of five rounds is one of two and then one of three with the key that was handed back. */
+static void in_two(const board *b, const uint32_t *numbers, uint8_t fair) {
+    lend_key(numbers);
+    EQUAL(by_key(b, 6, fair, 5), 0);
+    uint64_t least = first, used = second;
+    lend_key(numbers);
+    EQUAL(by_key(b, 6, fair, 2), 0);
+    uint64_t least_of_two = first, used_by_two = second;
+    EQUAL(by_key(b, 6, fair, 3), 0);
+    EQUAL(least, first < least_of_two ? first : least_of_two);
+    EQUAL(used, used_by_two + second);
+    stepped(used);
+}
+
+/* KEY for a key whose words are 0, whatever its counter, and for a run that isn't six long; not with a bit set. ROUNDS comes before it. */
+static void no_key(uint8_t fair) {
+    static const uint32_t blank[2][6] = {{0}, {0, 0, 0, 0, 0, 1}};
+    for (size_t k = 0; k < 2; k++) {
+        lend_key(blank[k]);
+        refused(by_key(P11, 6, fair, 0), LAVGERIN_KEY);
+        refused(by_key(P11, 6, fair, MILLION), LAVGERIN_KEY);
+        refused(by_key(P11, 6, fair, MILLION + 1), LAVGERIN_ROUNDS);
+        stepped(0);
+    }
+    for (size_t length = 0; length < 8; length++) {
+        lend_key(KEY[0]);
+        if (length == 6) continue;
+        refused(by_key(P11, length, fair, 0), LAVGERIN_KEY);
+        refused(by_key(P11, length, fair, 1), LAVGERIN_KEY);
+        stepped(0);
+    }
+    for (size_t place = 0; place < 5; place++)
+        for (size_t bit = 0; bit < 32; bit++) {
+            uint32_t numbers[6] = {0};
+            numbers[place] = UINT32_C(1) << bit;
+            lend_key(numbers);
+            EQUAL(by_key(P7, 6, fair, 0), 0);
+            stepped(second);
+        }
+    lend();
+    lend_key(blank[0]);
+    refused(lavgerin_keyed_search(3, 3, P11->grid, 9, work, 45, key, 6, fair, 0, &first, &second), LAVGERIN_ROUNDS);
+    lend_key(KEY[0]);
+    EQUAL(by_key(&P[0], 6, fair, MILLION), 0);
+    EQUAL(first, 1);
+    EQUAL(second, 0);
+    stepped(0);
+    refused(by_key(&P[0], 6, fair, MILLION + 1), LAVGERIN_ROUNDS);
+    stepped(0);
+}
+
+/* Keyed rounds and searches of the twelve boards from three keys, in both modes. */
+static void keyed(void) {
+    uint32_t published[6];
+    memcpy(published, KEY[0], sizeof published);
+    EQUAL(next_word(published), 246875399);
+    EQUAL(next_word(published), 3690007200);
+    for (uint8_t fair = 0; fair < 2; fair++) {
+        for (size_t k = 0; k < 12; k++)
+            for (size_t of = 0; of < KEYS; of++) {
+                for (size_t rounds = 0; rounds < 4; rounds++) as_lent(&P[k], KEY[of], fair, rounds);
+                in_two(&P[k], KEY[of], fair);
+            }
+        no_key(fair);
+    }
+    ran("keys");
+}
+
 /* Every call on a grid of these sides and lengths, all of which refuse it alike. */
 static void all_refuse(size_t rows, size_t columns, size_t grid_length, size_t work_length, uint8_t number) {
     static const uint8_t none[1] = {0};
+    static const uint32_t blank[6] = {0};
     lend();
+    lend_key(blank);
+    refused(lavgerin_keyed_round(rows, columns, grid, grid_length, work, work_length, list, 0, key, 6, 1, &first, &second), number);
+    refused(lavgerin_keyed_search(rows, columns, grid, grid_length, work, work_length, key, 6, 1, 0, &first, &second), number);
+    stepped(0);
     refused(lavgerin_three_bv(rows, columns, grid, grid_length, work, work_length, &first), number);
     refused(lavgerin_greedy(rows, columns, grid, grid_length, work, work_length, list, 0, &first), number);
     refused(lavgerin_openings_first(rows, columns, grid, grid_length, work, work_length, list, 0, &first), number);
@@ -273,6 +408,7 @@ static void refusals(void) {
     refused(lavgerin_greedy(2, 3, grid, 6, work, 30, list, 5, &first), LAVGERIN_TRACE);
     refused(lavgerin_openings_first(2, 3, grid, 6, work, 30, list, 5, &first), LAVGERIN_TRACE);
     refused(lavgerin_random_round(2, 3, grid, 6, work, 30, list, 5, (const uint8_t *)"", 0, 0, &first, &second), LAVGERIN_TRACE);
+    refused(lavgerin_keyed_round(2, 3, grid, 6, work, 30, list, 5, key, 6, 0, &first, &second), LAVGERIN_TRACE);
     refused(lavgerin_replay(2, 3, grid, 6, work, 30, list, 1, 2, &first, &second, &third), LAVGERIN_TRACE);
     EQUAL(lavgerin_greedy(2, 3, grid, 6, work, 30, list, 6, &first), 0);
     EQUAL(first, 1);
@@ -686,6 +822,8 @@ static uint8_t by_form(int strict, int call, const board *b, size_t work_length,
     case 4: return (strict ? lavgerin_strict_random_search : lavgerin_random_search)(r, c, b->grid, n, work, work_length, noughts, 96, 0, rounds, &first, &second);
     case 5: return (strict ? lavgerin_strict_random_round : lavgerin_random_round)(r, c, b->grid, n, work, work_length, list, list_length, spent, 20, 1, &first, &second);
     case 6: return (strict ? lavgerin_strict_random_search : lavgerin_random_search)(r, c, b->grid, n, work, work_length, spent, 20, 1, rounds, &first, &second);
+    case 7: return (strict ? lavgerin_strict_keyed_round : lavgerin_keyed_round)(r, c, b->grid, n, work, work_length, list, list_length, key, 6, 1, &first, &second);
+    case 8: return (strict ? lavgerin_strict_keyed_search : lavgerin_keyed_search)(r, c, b->grid, n, work, work_length, key, 6, 0, rounds, &first, &second);
     default: return (strict ? lavgerin_strict_replay : lavgerin_replay)(r, c, b->grid, n, work, work_length, b->moves, 5, b->greedy, &first, &second, &third);
     }
 }
@@ -708,28 +846,36 @@ static board right(const board *b) {
 static void same_forms(const board *b, size_t work_length, size_t list_length, size_t rounds) {
     static int32_t before[46];
     static uint32_t moves[10];
-    for (int call = 0; call < 8; call++) {
+    static uint32_t after[8];
+    for (int call = 0; call < 10; call++) {
         lend();
+        lend_key(KEY[0]);
         uint8_t present = by_form(0, call, b, work_length, list_length, rounds);
         uint64_t told[3] = {first, second, third};
         memcpy(before, work, sizeof before);
         memcpy(moves, list, sizeof moves);
+        memcpy(after, key, sizeof after);
         lend();
+        lend_key(KEY[0]);
         alike(by_form(1, call, b, work_length, list_length, rounds), present, b->rows * b->columns, before, moves, told);
+        EQUAL(memcmp(after, key, sizeof after), 0);
     }
 }
 
 /* Each strict call is NUMBER with a cell behind the first pointer, and nothing else is changed, whatever the lengths and rounds. */
 static void faulty(const board *b, uint64_t cell) {
     size_t cells = b->rows * b->columns;
-    for (int call = 0; call < 8; call++)
+    static const uint32_t blank[6] = {0};
+    for (int call = 0; call < 10; call++)
         for (size_t less = 0; less < 2; less++) {
             lend();
+            lend_key(less ? blank : KEY[0]);
             EQUAL(by_form(1, call, b, 5 * cells - less, cells - less, 1 - less), LAVGERIN_NUMBER);
             EQUAL(first, cell);
             EQUAL(second, UNTOLD);
             EQUAL(third, UNTOLD);
             untouched_from(0, 0);
+            stepped(0);
         }
     for (size_t k = 0; k < sizeof file; k++) file[k] = LENT_BYTE;
     first = UNTOLD;
@@ -786,6 +932,7 @@ static void strict(void) {
 int main(void) {
     boards();
     draws();
+    keyed();
     refusals();
     stopped();
     endings();

@@ -30,11 +30,16 @@ int main() {
     uint64_t rolled = 0, used = 0, fairly = 0, spent = 0;
     const int old_mode = lavgerin_random_round(3, 3, grid, 9, area, 45, list, 9, draws, 16, 0, &rolled, &used);
     const int fair_mode = lavgerin_random_search(3, 3, grid, 9, area, 45, draws, 16, 1, 1, &fairly, &spent);
-    std::printf("from C++: %d %d, %d %d %d %d, %d %d, %d %d %d, %d, %d %d, %d %d, %d %d %d, %d %d %d\n", number, static_cast<int>(clicks), played,
+    uint32_t key[6] = {123456789, 362436069, 521288629, 88675123, 5783321, 6615241};
+    uint64_t by_key = 0, words = 0;
+    const int keyed = lavgerin_keyed_round(3, 3, grid, 9, area, 45, list, 9, key, 6, 0, &by_key, &words);
+    const int no_key = lavgerin_strict_keyed_search(3, 3, values, 9, area, 45, key, 5, 1, 1, &again, &spent);
+    std::printf("from C++: %d %d, %d %d %d %d, %d %d, %d %d %d, %d, %d %d, %d %d, %d %d %d, %d %d %d, %d %d %d %d\n", number, static_cast<int>(clicks), played,
                 static_cast<int>(made), static_cast<int>(closed), static_cast<int>(ending), wrote,
                 static_cast<int>(written), read, static_cast<int>(rows), static_cast<int>(columns), longer, typed,
                 static_cast<int>(cell), right, static_cast<int>(again), old_mode, static_cast<int>(rolled),
-                static_cast<int>(used), fair_mode, static_cast<int>(fairly), static_cast<int>(spent));
+                static_cast<int>(used), fair_mode, static_cast<int>(fairly), static_cast<int>(spent), keyed,
+                static_cast<int>(by_key), static_cast<int>(words), no_key);
     const int32_t numbers[9] = {1, 1, 1, 1, -1, 1, 1, 1, 1};
     const bool as_expected = number == LAVGERIN_SUCCESS && clicks == 5 && played == LAVGERIN_SUCCESS && made == 5 &&
                              closed == 4 && ending == LAVGERIN_LOST && work[5 * 4 + 3] == 3;
@@ -44,5 +49,7 @@ int main() {
     const bool strictly = typed == LAVGERIN_NUMBER && cell == 0 && right == LAVGERIN_SUCCESS && again == 5;
     const bool both_modes = old_mode == LAVGERIN_SUCCESS && rolled == 5 && used == 12 && fair_mode == LAVGERIN_SUCCESS &&
                             fairly == 5 && spent == 16;
-    return as_expected && files_too && strictly && both_modes ? 0 : 1;
+    const bool keys_too = keyed == LAVGERIN_SUCCESS && by_key == 5 && words == 12 && key[5] == 6615241 + 3 * 362437 &&
+                          no_key == LAVGERIN_KEY;
+    return as_expected && files_too && strictly && both_modes && keys_too ? 0 : 1;
 }

@@ -10,9 +10,9 @@ use lib.ListN.{getD, length}
 use Rattle.game.specs.Calls.{Answer, ListOutcome, Outcome, namedBy, numberOf, refuses}
 use Rattle.refusals.specs.Names.{named}
 use Rattle.refusals.specs.declared.Refusal.{Refusal}
-use Rattle.refusals.specs.declared.Refusal.the-variants.{Shape, Board, Work, Trace, Rounds, Draws, Move, Frame, Size, File, Number}
+use Rattle.refusals.specs.declared.Refusal.the-variants.{Shape, Board, Work, Trace, Rounds, Draws, Move, Frame, Size, File, Number, Key}
 use Rattle.refusals.proofs.ReadBack.{readBack, refused-back}
-use Rattle.answers.specs.Answers.{Keeps, KeepsList, countedAnswer, pricedAnswer, replayedAnswer, rolledAnswer}
+use Rattle.answers.specs.Answers.{Keeps, KeepsList, countedAnswer, keyRolledAnswer, pricedAnswer, replayedAnswer, rolledAnswer}
 use Rattle.answers.specs.declared.Counted.{Counted}
 use Rattle.answers.specs.declared.Counted.the-variants as Counts
 use Rattle.answers.specs.declared.Replayed.{Replayed}
@@ -21,6 +21,8 @@ use Rattle.answers.specs.declared.Priced.{Priced}
 use Rattle.answers.specs.declared.Priced.the-variants as Prices
 use Rattle.answers.specs.declared.Rolled.{Rolled}
 use Rattle.answers.specs.declared.Rolled.the-variants as Rolls
+use Rattle.answers.specs.declared.KeyRolled.{KeyRolled}
+use Rattle.answers.specs.declared.KeyRolled.the-variants as KeyRolls
 use Rattle.answers.proofs.Promises.{keeps-once, list-once}
 
 -- ---- each enum is read back
@@ -38,6 +40,7 @@ no-place Frame = refl
 no-place Size = refl
 no-place File = refl
 no-place (Number cell) = refl
+no-place Key = refl
 
 counted-same : (r r′ : Counted) → countedAnswer r ≡ countedAnswer r′ → r ≡ r′
 counted-same = LeftInverse·injective (readBack units Counts.Refused) countedAnswer back
@@ -68,6 +71,17 @@ rolled-same = LeftInverse·injective (readBack clicks Rolls.Refused) rolledAnswe
     back : (r : Rolled) → readBack clicks Rolls.Refused (rolledAnswer r) ≡ r
     back (Rolls.Clicks n k) = refl
     back (Rolls.Refused f) = refused-back clicks Rolls.Refused f
+
+key-rolled-same : (r r′ : KeyRolled) → keyRolledAnswer r ≡ keyRolledAnswer r′ → r ≡ r′
+key-rolled-same = LeftInverse·injective (readBack clicks KeyRolls.Refused) keyRolledAnswer back
+  where
+    clicks : List ℕ → KeyRolled
+    clicks vs =
+        KeyRolls.Clicks (getD vs 0 0) (getD vs 1 0) (record { x = getD vs 2 0; y = getD vs 3 0; z = getD vs 4 0; w = getD vs 5 0; v = getD vs 6 0; counter = getD vs 7 0 })
+
+    back : (r : KeyRolled) → readBack clicks KeyRolls.Refused (keyRolledAnswer r) ≡ r
+    back (KeyRolls.Clicks n used k) = refl
+    back (KeyRolls.Refused f) = refused-back clicks KeyRolls.Refused f
 
 -- a replay: success by its values; of the refusals MOVE alone may have a place besides
 replayed-same : (r r′ : Replayed) → replayedAnswer r ≡ replayedAnswer r′ → r ≡ r′
@@ -104,6 +118,16 @@ rolled-once p r r′ w w′ l l′ k k′ =
 -- random search
 pub searched-once : (p : Outcome) (r r′ : Rolled) (w w′ : List ℤ) → Keeps p (rolledAnswer r) w → Keeps p (rolledAnswer r′) w′ → (r ≡ r′) × (w ≡ w′)
 searched-once p r r′ w w′ k k′ = let e = keeps-once p (rolledAnswer r) (rolledAnswer r′) w w′ k k′ in (rolled-same r r′ (e .0), e .1)
+
+-- a keyed round
+pub key-rolled-once : (p : ListOutcome) (r r′ : KeyRolled) (w w′ : List ℤ) (l l′ : List ℕ) → KeepsList p (keyRolledAnswer r) w l → KeepsList p (keyRolledAnswer r′) w′ l′ → (r ≡ r′) × (w ≡ w′) × (l ≡ l′)
+key-rolled-once p r r′ w w′ l l′ k k′ =
+    let e = list-once p (keyRolledAnswer r) (keyRolledAnswer r′) w w′ l l′ k k′ in (key-rolled-same r r′ (e .0), e .1, e .2)
+
+-- a keyed search
+pub key-searched-once : (p : Outcome) (r r′ : KeyRolled) (w w′ : List ℤ) → Keeps p (keyRolledAnswer r) w → Keeps p (keyRolledAnswer r′) w′ → (r ≡ r′) × (w ≡ w′)
+key-searched-once p r r′ w w′ k k′ =
+    let e = keeps-once p (keyRolledAnswer r) (keyRolledAnswer r′) w w′ k k′ in (key-rolled-same r r′ (e .0), e .1)
 
 -- replay
 pub replayed-once : (p : Outcome) (r r′ : Replayed) (w w′ : List ℤ) → Keeps p (replayedAnswer r) w → Keeps p (replayedAnswer r′) w′ → (r ≡ r′) × (w ≡ w′)

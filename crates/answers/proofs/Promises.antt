@@ -4,7 +4,8 @@ use mathlib.Core.Path.{_≡_, ap, sym, _∙_}
 use mathlib.Core.List.{List}
 use mathlib.Core.Option.{Option, none, some}
 use lib.IntN.{ℤ}
-use Rattle.game.specs.Calls.{Answer, Outcome, ListOutcome, Refusal, refuses, unless, unlessListed}
+use Rattle.game.specs.Calls.{Answer, ListOutcome, Outcome, Refusal, handing, handingListed, handsKey, refuses, unless, unlessListed}
+use Rattle.game.specs.Keys.{Key}
 use Rattle.answers.specs.Answers.{Keeps, KeepsList}
 
 -- ---- calls without a list
@@ -19,6 +20,14 @@ keeps-else o a w w′ x e k =
       answers = k .answers ∙ ap (λ (v : Option Refusal). unless v w x .answer) e;
       leaves = k .leaves ∙ ap (λ (v : Option Refusal). unless v w x .work) e;
     }
+
+-- told by another answer that is the same
+pub keeps-as : (x : Outcome) (a b : Answer) (w : List ℤ) → b ≡ a → Keeps x a w → Keeps x b w
+keeps-as x a b w e k = record { answers = e ∙ k .answers; leaves = k .leaves }
+
+-- with the key after it
+pub keeps-handed : (k : Key) (x : Outcome) (a b : Answer) (w : List ℤ) → b ≡ handsKey k a → Keeps x a w → Keeps (handing k x) b w
+keeps-handed k x a b w e h = record { answers = e ∙ ap (handsKey k) (h .answers); leaves = h .leaves }
 
 -- ---- calls with a list
 
@@ -37,6 +46,14 @@ list-else o a w w′ l l′ x e k =
       leaves = k .leaves ∙ ap (λ (v : Option Refusal). unlessListed v w l x .work) e;
       lists = k .lists ∙ ap (λ (v : Option Refusal). unlessListed v w l x .list) e;
     }
+
+-- told by another answer that is the same
+pub list-as : (x : ListOutcome) (a b : Answer) (w : List ℤ) (l : List ℕ) → b ≡ a → KeepsList x a w l → KeepsList x b w l
+list-as x a b w l e k = record { answers = e ∙ k .answers; leaves = k .leaves; lists = k .lists }
+
+-- with the key after it
+pub list-handed : (k : Key) (x : ListOutcome) (a b : Answer) (w : List ℤ) (l : List ℕ) → b ≡ handsKey k a → KeepsList x a w l → KeepsList (handingListed k x) b w l
+list-handed k x a b w l e h = record { answers = e ∙ ap (handsKey k) (h .answers); leaves = h .leaves; lists = h .lists }
 
 -- ---- there is only one such answer
 

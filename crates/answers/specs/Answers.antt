@@ -3,7 +3,9 @@ use Prim.Native.Nat.{ℕ}
 use mathlib.Core.Path.{_≡_}
 use mathlib.Core.List.{List, [], _∷_}
 use lib.IntN.{ℤ}
+use Rattle.game.specs.Keys.{keyNumbers}
 use Rattle.game.specs.Calls.{Answer, ListOutcome, Outcome, gives, move, numberOf, refuses}
+use Rattle.keys.specs.Stands.{keyOf}
 use Rattle.refusals.specs.Names.{named}
 use Rattle.answers.specs.declared.Counted.{Counted}
 use Rattle.answers.specs.declared.Counted.the-variants as Counts
@@ -13,6 +15,8 @@ use Rattle.answers.specs.declared.Priced.{Priced}
 use Rattle.answers.specs.declared.Priced.the-variants as Prices
 use Rattle.answers.specs.declared.Rolled.{Rolled}
 use Rattle.answers.specs.declared.Rolled.the-variants as Rolls
+use Rattle.answers.specs.declared.KeyRolled.{KeyRolled}
+use Rattle.answers.specs.declared.KeyRolled.the-variants as KeyRolls
 
 -- the 3BV count: 0 and the units, or the refusal's number alone
 abbrev pub countedAnswer : Counted → Answer
@@ -34,6 +38,11 @@ pricedAnswer (Prices.Refused f) = refuses (named f)
 abbrev pub rolledAnswer : Rolled → Answer
 rolledAnswer (Rolls.Clicks n k) = gives (n ∷ k ∷ [])
 rolledAnswer (Rolls.Refused f) = refuses (named f)
+
+-- a keyed call: 0, the clicks, the draw bytes used and the six numbers of the key after it, or the refusal's number alone
+abbrev pub keyRolledAnswer : KeyRolled → Answer
+keyRolledAnswer (KeyRolls.Clicks n used k) = gives (n ∷ used ∷ keyNumbers (keyOf k))
+keyRolledAnswer (KeyRolls.Refused f) = refuses (named f)
 
 -- a call without a list keeps its promise
 pub record Keeps (promise : Outcome) (answer : Answer) (work : List ℤ) : Type 0 where

@@ -1,4 +1,5 @@
 // What the public calls answer, each an enum.
+use keys::Key;
 use refusals::Refusal;
 
 // What the 3BV count answers.
@@ -23,5 +24,11 @@ pub enum Priced {
 // What a random round or search answers: clicks and draw bytes used.
 pub enum Rolled {
     Clicks(usize, usize),
+    Refused(Refusal),
+}
+
+// What a keyed round or search answers: clicks, draw bytes used, and the key after it.
+pub enum KeyRolled {
+    Clicks(usize, usize, Key),
     Refused(Refusal),
 }

@@ -8,7 +8,7 @@ use Rattle.answers.specs.Answers.{Keeps, KeepsList}
 use Rattle.lines.specs.Answers.{KeepsGrid}
 use Rattle.lines.specs.BoardLine.{GridOutcome}
 use Rattle.lines.specs.Outputs.{KeepsRun, RunOutcome}
-use Rattle.c_answers.specs.Names.{Returned, ReturnedGrid, ReturnedList, ReturnedListTwo, ReturnedRun, ReturnedThree, ReturnedTwo, Tells, TellsThree, TellsTwo, told}
+use Rattle.c_answers.specs.Names.{Returned, ReturnedGrid, ReturnedKey, ReturnedList, ReturnedListKey, ReturnedListTwo, ReturnedRun, ReturnedThree, ReturnedTwo, Tells, TellsThree, TellsTwo, keyLeft, told}
 
 -- the answer's number, carried from the answer that came to the one promised
 as-number : {promised came : Answer} {n : ℕ} → came ≡ promised → n ≡ came .number → n ≡ promised .number
@@ -39,6 +39,20 @@ module _ {promise : ListOutcome} {a : Answer} {work : List ℤ} {list : List ℕ
   -- two answers and a list
   pub returned-list-two : {before2 after2 : ℕ} → TellsTwo a n before after before2 after2 → ReturnedListTwo promise n work list before after before2 after2
   returned-list-two {before2} t = record { first = returned-list (t .first); second = as-told 1 before2 (kept .answers) (t .second) }
+
+-- a key's run, carried from the answer that came to the one promised
+as-left : {promised came : Answer} (run : List ℕ) {run′ : List ℕ} → came ≡ promised → run′ ≡ keyLeft came run → run′ ≡ keyLeft promised run
+as-left run same e = e ∙ ap (λ (a : Answer). keyLeft a run) same
+
+-- two answers and a key
+pub returned-key : {promise : Outcome} {a : Answer} {work : List ℤ} → Keeps promise a work → {n before after before2 after2 : ℕ} (run : List ℕ) {run′ : List ℕ}
+    → TellsTwo a n before after before2 after2 × (run′ ≡ keyLeft a run) → ReturnedKey promise n work before after before2 after2 run run′
+returned-key kept run t = record { two = returned-two kept (t .0); key = as-left run (kept .answers) (t .1) }
+
+-- two answers, a list and a key
+pub returned-list-key : {promise : ListOutcome} {a : Answer} {work : List ℤ} {list : List ℕ} → KeepsList promise a work list → {n before after before2 after2 : ℕ} (run : List ℕ) {run′ : List ℕ}
+    → TellsTwo a n before after before2 after2 × (run′ ≡ keyLeft a run) → ReturnedListKey promise n work list before after before2 after2 run run′
+returned-list-key kept run t = record { two = returned-list-two kept (t .0); key = as-left run (kept .answers) (t .1) }
 
 -- a grid and two answers
 pub returned-grid : {promise : GridOutcome} {a : Answer} {values : List ℤ} → KeepsGrid promise a values → {n before after before2 after2 : ℕ}
@@ -74,6 +88,18 @@ pub list-two-once : (p : ListOutcome) (n n′ : ℕ) (w w′ : List ℤ) (l l′
 list-two-once p n n′ w w′ l l′ b a a′ b2 a2 a2′ k k′ =
     let e = list-once p n n′ w w′ l l′ b a a′ (k .first) (k′ .first) in
     (e .0, e .1, e .2, e .3, k .second ∙ sym (k′ .second))
+
+pub key-once : (p : Outcome) (n n′ : ℕ) (w w′ : List ℤ) (b a a′ b2 a2 a2′ : ℕ) (run k k′ : List ℕ) → ReturnedKey p n w b a b2 a2 run k → ReturnedKey p n′ w′ b a′ b2 a2′ run k′
+    → (n ≡ n′) × (w ≡ w′) × (a ≡ a′) × (a2 ≡ a2′) × (k ≡ k′)
+key-once p n n′ w w′ b a a′ b2 a2 a2′ run k k′ r r′ =
+    let e = two-once p n n′ w w′ b a a′ b2 a2 a2′ (r .two) (r′ .two) in
+    (e .0, e .1, e .2, e .3, r .key ∙ sym (r′ .key))
+
+pub list-key-once : (p : ListOutcome) (n n′ : ℕ) (w w′ : List ℤ) (l l′ : List ℕ) (b a a′ b2 a2 a2′ : ℕ) (run k k′ : List ℕ) → ReturnedListKey p n w l b a b2 a2 run k → ReturnedListKey p n′ w′ l′ b a′ b2 a2′ run k′
+    → (n ≡ n′) × (w ≡ w′) × (l ≡ l′) × (a ≡ a′) × (a2 ≡ a2′) × (k ≡ k′)
+list-key-once p n n′ w w′ l l′ b a a′ b2 a2 a2′ run k k′ r r′ =
+    let e = list-two-once p n n′ w w′ l l′ b a a′ b2 a2 a2′ (r .two) (r′ .two) in
+    (e .0, e .1, e .2, e .3, e .4, r .key ∙ sym (r′ .key))
 
 pub grid-once : (p : GridOutcome) (n n′ : ℕ) (v v′ : List ℤ) (b a a′ b2 a2 a2′ : ℕ) → ReturnedGrid p n v b a b2 a2 → ReturnedGrid p n′ v′ b a′ b2 a2′ → (n ≡ n′) × (v ≡ v′) × (a ≡ a′) × (a2 ≡ a2′)
 grid-once p n n′ v v′ b a a′ b2 a2 a2′ k k′ =

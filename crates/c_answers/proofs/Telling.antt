@@ -10,14 +10,14 @@ use Rattle.game.specs.Calls.{Answer, namedBy, refuses}
 use Rattle.game.specs.Calls as Game
 use Rattle.refusals.specs.Names.{named}
 use Rattle.refusals.specs.declared.Refusal.{Refusal}
-use Rattle.refusals.specs.declared.Refusal.the-variants.{Shape, Board, Work, Trace, Rounds, Draws, Move, Frame, Size, File, Number}
+use Rattle.refusals.specs.declared.Refusal.the-variants.{Shape, Board, Work, Trace, Rounds, Draws, Move, Frame, Size, File, Number, Key}
 use Rattle.refusals.proofs.Refusal as R
 use Rattle.refusals.proofs.ReadBack.{names-one}
 use Rattle.c_answers.specs.Names.{Tells, TellsThree, TellsTwo, told}
 
--- the places of the refusals before NUMBER in their enum
+-- the places of the refusals but NUMBER in their enum
 abbrev pub others : List ℕ
-others = 0 ∷ 1 ∷ 2 ∷ 3 ∷ 4 ∷ 5 ∷ 6 ∷ 7 ∷ 8 ∷ 9 ∷ []
+others = 0 ∷ 1 ∷ 2 ∷ 3 ∷ 4 ∷ 5 ∷ 6 ∷ 7 ∷ 8 ∷ 9 ∷ 11 ∷ []
 
 -- they name nothing
 names-nothing : (f : Refusal) → OneOf others (tagOf R.the-type f) → namedBy (named f) ≡ []
@@ -32,6 +32,7 @@ names-nothing Frame h = refl
 names-nothing Size h = refl
 names-nothing File h = refl
 names-nothing (Number cell) h = absurd (miss others 10 tt h)
+names-nothing Key h = refl
 
 -- so what stands behind the pointer is left alone
 pub other-told : (f : Refusal) (before : ℕ) → OneOf others (tagOf R.the-type f) → before ≡ told (refuses (named f)) 0 before
@@ -54,6 +55,11 @@ module _ {a : Answer} (f : Game.Refusal) (so : a ≡ refuses f) {n before after 
   pub three-refused : (before2 before3 : ℕ) → TellsThree a n before after before2 before2 before3 before3
   three-refused before2 before3 =
       record { two = two-refused before2; third = subst (λ (x : Answer). before3 ≡ told x 2 before3) (sym so) (later-told f 1 before3) }
+
+-- two values of the answer that came
+pub two-told : {a came : Answer} → a ≡ came → {n before after before2 after2 : ℕ} → n ≡ came .number → after ≡ told came 0 before → after2 ≡ told came 1 before2 → TellsTwo a n before after before2 after2
+two-told so {n} {before} {after} {before2} {after2} number first second =
+    subst (λ (x : Answer). TellsTwo x n before after before2 after2) (sym so) (record { first = record { answers = number; tells = first }; second = second })
 
 -- three values of the answer that came
 pub three-told : {a came : Answer} → a ≡ came → {n before after before2 after2 before3 after3 : ℕ}

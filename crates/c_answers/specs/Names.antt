@@ -1,11 +1,15 @@
 -- The promises of the calls as C sees them: the mode by a number, a number returned, and answers behind pointers. Assumes nothing.
 use Prim.Native.Nat.{ℕ, suc, zero}
 use mathlib.Core.Path.{_≡_}
+use mathlib.Core.Bool.{cond}
 use mathlib.Core.List.{List}
 use lib.IntN.{ℤ}
-use lib.ListN.{getD}
+use lib.Dec.{eqb}
+use lib.ListN.{drop, getD, length}
+use Rattle.game.specs.Area.{begun}
 use Rattle.game.specs.Calls.{Answer, ListOutcome, Outcome}
 use Rattle.game.specs.Draws.{Mode, fair, old}
+use Rattle.game.specs.Keys.{Key, keyNumbers}
 use Rattle.lines.specs.BoardLine.{GridOutcome}
 use Rattle.lines.specs.Outputs.{RunOutcome}
 
@@ -13,6 +17,20 @@ use Rattle.lines.specs.Outputs.{RunOutcome}
 abbrev pub modeBy : ℕ → Mode
 modeBy zero = old
 modeBy (suc k) = fair
+
+-- the key of a run: its six numbers, the five words and the counter; a run that isn't six long has none, as if its words were 0
+abbrev pub keyBy : List ℕ → Key
+keyBy run =
+    cond (eqb (length run) 6) (record { x = getD run 0 0; y = getD run 1 0; z = getD run 2 0; w = getD run 3 0; v = getD run 4 0; counter = getD run 5 0 })
+    (record { x = 0; y = 0; z = 0; w = 0; v = 0; counter = 0 })
+
+-- a key put into a run of six numbers; a run of another length stays
+abbrev pub keyPut : Key → List ℕ → List ℕ
+keyPut k run = cond (eqb (length run) 6) (begun (keyNumbers k) run) run
+
+-- a key's run after a call: the six numbers that the answer has behind its clicks and bytes used; as it was where it has none, or where the run isn't six long
+abbrev pub keyLeft : Answer → List ℕ → List ℕ
+keyLeft a run = cond (eqb (length run) 6) (begun (drop 2 (a .values)) run) run
 
 -- what stands behind an answer pointer after a call: the answer's value of that place, or what stood there if it has none
 abbrev pub told : Answer → ℕ → ℕ → ℕ
@@ -60,6 +78,16 @@ pub record ReturnedList (promise : ListOutcome) (number : ℕ) (work : List ℤ)
 pub record ReturnedListTwo (promise : ListOutcome) (number : ℕ) (work : List ℤ) (list : List ℕ) (before after before2 after2 : ℕ) : Type 0 where
   pub first : ReturnedList promise number work list before after
   pub second : after2 ≡ told (promise .answer) 1 before2
+
+-- a keyed search, as C sees it: as a search, and the key's run at exit
+pub record ReturnedKey (promise : Outcome) (number : ℕ) (work : List ℤ) (before after before2 after2 : ℕ) (run run′ : List ℕ) : Type 0 where
+  pub two : ReturnedTwo promise number work before after before2 after2
+  pub key : run′ ≡ keyLeft (promise .answer) run
+
+-- a keyed round, as C sees it: as a round, and the key's run at exit
+pub record ReturnedListKey (promise : ListOutcome) (number : ℕ) (work : List ℤ) (list : List ℕ) (before after before2 after2 : ℕ) (run run′ : List ℕ) : Type 0 where
+  pub two : ReturnedListTwo promise number work list before after before2 after2
+  pub key : run′ ≡ keyLeft (promise .answer) run
 
 -- a call that fills a grid, as C sees it: the number returned, the grid's run and two answers at exit
 pub record ReturnedGrid (promise : GridOutcome) (number : ℕ) (values : List ℤ) (before after before2 after2 : ℕ) : Type 0 where

@@ -1,9 +1,11 @@
 // Answers as C sees them, and the mode that it names: the number that a name returns, 0 for success, and the values behind its answer pointers. What stands behind a pointer is left alone where an answer has no such value.
 use answers::Counted;
+use answers::KeyRolled;
 use answers::Priced;
 use answers::Replayed;
 use answers::Rolled;
 use draws::Mode;
+use keys::Key;
 use lines::board::Board;
 use mbf_write::FileWritten;
 use refusals::Refusal;
@@ -11,17 +13,56 @@ use refusals::number_of;
 ghost use mathlib.Core.Path.{_≡_};
 ghost use Rattle.game.specs.Calls.{refuses};
 ghost use Rattle.draws.specs.Answers.{modeOf};
+ghost use Rattle.keys.specs.Stands.{keyOf};
 ghost use Rattle.refusals.specs.Names.{named};
-ghost use Rattle.answers.specs.Answers.{countedAnswer, pricedAnswer, replayedAnswer, rolledAnswer};
+ghost use Rattle.answers.specs.Answers.{countedAnswer, keyRolledAnswer, pricedAnswer, replayedAnswer, rolledAnswer};
 ghost use Rattle.lines.specs.Answers.{boardAnswer};
 ghost use Rattle.mbf_write.specs.Answers.{fileWrittenAnswer};
-ghost use Rattle.c_answers.specs.Names.{Tells, TellsThree, TellsTwo, modeBy};
+ghost use Rattle.c_answers.specs.Names.{Tells, TellsThree, TellsTwo, keyBy, keyLeft, keyPut, modeBy};
 
 // The mode of the draws: 0 is the old one, anything else the fair one.
 pub fn mode_by(fair: u8) -> Mode
     ensures { λ r. ⌜ modeOf r ≡ modeBy fair ⌝ }
 {
     if fair == 0 { Mode::Old } else { Mode::Fair }
+}
+
+// The key of a run of six numbers, the five words and the counter; a run of another length has none, as if its words were 0.
+pub fn key_by(run: &[u32]) -> Key
+    ensures { λ r. ⌜ keyOf r ≡ keyBy (now (run .entry)) ⌝ }
+{
+    if run.len() != 6 {
+        return Key {
+            x: 0,
+            y: 0,
+            z: 0,
+            w: 0,
+            v: 0,
+            counter: 0,
+        };
+    }
+    Key {
+        x: run[0],
+        y: run[1],
+        z: run[2],
+        w: run[3],
+        v: run[4],
+        counter: run[5],
+    }
+}
+
+// A key put into a run of six numbers; a run of another length stays.
+fn put_key(run: &mut [u32], key: Key)
+    ensures { λ _. ⌜ now (run .exit) ≡ keyPut (keyOf key) (now (run .entry)) ⌝ }
+{
+    if run.len() == 6 {
+        run[0] = key.x;
+        run[1] = key.y;
+        run[2] = key.z;
+        run[3] = key.w;
+        run[4] = key.v;
+        run[5] = key.counter;
+    }
 }
 
 // A refusal: its number, and behind the first pointer the cell that NUMBER names.
@@ -74,6 +115,21 @@ pub fn tell_roll(answer: Rolled, clicks: &mut u64, used: &mut u64) -> u8
             0
         }
         Rolled::Refused(refusal) => tell_refusal(refusal, clicks),
+    }
+}
+
+// A keyed round's or search's clicks, the bytes of the key used, and the key after it in its run.
+pub fn tell_keyed(answer: KeyRolled, run: &mut [u32], clicks: &mut u64, used: &mut u64) -> u8
+    ensures { λ r. ⌜ TellsTwo (keyRolledAnswer answer) r (now (clicks .entry)) (now (clicks .exit)) (now (used .entry)) (now (used .exit)) × (now (run .exit) ≡ keyLeft (keyRolledAnswer answer) (now (run .entry))) ⌝ }
+{
+    match answer {
+        KeyRolled::Clicks(count, bytes, key) => {
+            put_key(run, key);
+            *clicks = count as u64;
+            *used = bytes as u64;
+            0
+        }
+        KeyRolled::Refused(refusal) => tell_refusal(refusal, clicks),
     }
 }
 

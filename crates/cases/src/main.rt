@@ -6,91 +6,32 @@
 //   openings-first  rows=N columns=N board=RUN work=RUN list=RUN
 //   random-round    rows=N columns=N board=RUN work=RUN list=RUN draws=RUN fair=N
 //   random-search   rows=N columns=N board=RUN work=RUN draws=RUN fair=N rounds=N
+//   keyed-round     rows=N columns=N board=RUN work=RUN list=RUN key=RUN fair=N
+//   keyed-search    rows=N columns=N board=RUN work=RUN key=RUN fair=N rounds=N
 //   replay          rows=N columns=N board=RUN work=RUN list=RUN count=N
 //   read-mbf        file=RUN board=RUN, or rows=N columns=N mines=N again=N board=RUN: the file that lists the first cells so and the last of them again
 //   write-mbf       rows=N columns=N board=RUN file=RUN
-// Each of them but read-mbf also with the word strict before it; those on a board also with last=VALUE, the board's last value. In the random ones fair=0 is the old mode of the draws, any other number the fair one.
+// Each of them but read-mbf also with the word strict before it; those on a board also with last=VALUE, the board's last value. In the random and the keyed ones fair=0 is the old mode of the draws, any other number the fair one.
+// A key is six numbers, its five words and its counter; two cases are of a key alone:
+//   key-words       key=RUN count=N: the words that it gives
+//   key-draw        key=RUN among=N fair=N: the place that a draw takes and the bytes of the key used, or DRAWS
 // A run is a pattern, or a pattern, x and a length: the pattern over and over up to that length. A field that is not there is 0, or a run of none.
-// The pattern of a board or a work area is values parted by commas (-1 is a mine), or a picture (* is a mine); of a list words parted by commas, or moves (L3, F4, C3, U4); of draws or a file bytes of two digits, 0 to 9 and A to F.
-// For a case its name is printed with the answer's number and two values (the first is NUMBER's cell), and behind a replay's the ending (0 unfinished, 1 won, 2 lost); then its list, if it has one, kind and index of each word; then its work area; of a file that is read the grid, of one that is written its run.
+// The pattern of a board or a work area is values parted by commas (-1 is a mine), or a picture (* is a mine); of a list words parted by commas, or moves (L3, F4, C3, U4), of a key its numbers parted by commas; of draws or a file bytes of two digits, 0 to 9 and A to F.
+// For a case its name is printed with the answer's number and two values (the first is NUMBER's cell), and behind a replay's the ending (0 unfinished, 1 won, 2 lost); then the key after it, if it was given one, and its list, if it has one, kind and index of each word; then its work area; of a file that is read the grid, of one that is written its run.
 // Of a run of more than 255 numbers two sums are printed: of the numbers above 0, and of the sums up to each. A line that begins with # is printed as it is.
+mod drawn; // the cases that draw, by lent bytes or by a key
 mod files; // the cases of MBF files
+mod key_words; // the cases of a key alone
 
 use trials::fields;
 use trials::plain;
 use trials::plain::Plain;
 use zini::count;
 use zini::prices;
-use zini::random_calls;
-use zini::random_calls::Mode;
 use zini::replays;
 use zini::strict;
 ghost use Prim.Native.Nat.{_≤_};
 ghost use lib.ListN.{length};
-
-// The mode of a case's draws: the fair one unless fair is 0.
-fn mode_of(text: &[u8]) -> Mode {
-    if fields::number(text, b"fair=") == 0 {
-        return Mode::Old;
-    }
-    Mode::Fair
-}
-
-// A case's random round, in the mode that it names.
-fn random_round(
-    text: &[u8],
-    rows: usize,
-    columns: usize,
-    grid: &[i32],
-    work: &mut [i32],
-    list: &mut [u32],
-    draws: &[u8],
-) -> Plain {
-    let mode = mode_of(text);
-    plain::of_rolled(random_calls::random_round(rows, columns, grid, work, list, draws, mode))
-}
-
-// A case's random search, in the mode that it names.
-fn random_search(
-    text: &[u8],
-    rows: usize,
-    columns: usize,
-    grid: &[i32],
-    work: &mut [i32],
-    draws: &[u8],
-) -> Plain {
-    let mode = mode_of(text);
-    let rounds = fields::number(text, b"rounds=");
-    plain::of_rolled(random_calls::random_search(rows, columns, grid, work, draws, mode, rounds))
-}
-
-// A case's random round in the strict form, in the mode that it names.
-fn strict_random_round(
-    text: &[u8],
-    rows: usize,
-    columns: usize,
-    grid: &[i32],
-    work: &mut [i32],
-    list: &mut [u32],
-    draws: &[u8],
-) -> Plain {
-    let mode = mode_of(text);
-    plain::of_rolled(strict::random_round(rows, columns, grid, work, list, draws, mode))
-}
-
-// A case's random search in the strict form, in the mode that it names.
-fn strict_random_search(
-    text: &[u8],
-    rows: usize,
-    columns: usize,
-    grid: &[i32],
-    work: &mut [i32],
-    draws: &[u8],
-) -> Plain {
-    let mode = mode_of(text);
-    let rounds = fields::number(text, b"rounds=");
-    plain::of_rolled(strict::random_search(rows, columns, grid, work, draws, mode, rounds))
-}
 
 // Runs a case's call in its strict form on what is lent to it.
 fn strict_call(
@@ -112,10 +53,16 @@ fn strict_call(
         return plain::of_priced(strict::openings_first(rows, columns, grid, work, list));
     }
     if fields::is(text, 9, b"random-round ") {
-        return strict_random_round(text, rows, columns, grid, work, list, draws);
+        return drawn::strict_random_round(text, rows, columns, grid, work, list, draws);
     }
     if fields::is(text, 9, b"random-search ") {
-        return strict_random_search(text, rows, columns, grid, work, draws);
+        return drawn::strict_random_search(text, rows, columns, grid, work, draws);
+    }
+    if fields::is(text, 9, b"keyed-round ") {
+        return drawn::strict_keyed_round(text, rows, columns, grid, work, list);
+    }
+    if fields::is(text, 9, b"keyed-search ") {
+        return drawn::strict_keyed_search(text, rows, columns, grid, work);
     }
     if fields::is(text, 9, b"replay ") {
         let moves = fields::number(text, b"count=");
@@ -142,10 +89,16 @@ fn call(text: &[u8], grid: &[i32], work: &mut [i32], list: &mut [u32], draws: &[
         return plain::of_priced(prices::openings_first(rows, columns, grid, work, list));
     }
     if fields::is(text, 2, b"random-round ") {
-        return random_round(text, rows, columns, grid, work, list, draws);
+        return drawn::random_round(text, rows, columns, grid, work, list, draws);
     }
     if fields::is(text, 2, b"random-search ") {
-        return random_search(text, rows, columns, grid, work, draws);
+        return drawn::random_search(text, rows, columns, grid, work, draws);
+    }
+    if fields::is(text, 2, b"keyed-round ") {
+        return drawn::keyed_round(text, rows, columns, grid, work, list);
+    }
+    if fields::is(text, 2, b"keyed-search ") {
+        return drawn::keyed_search(text, rows, columns, grid, work);
     }
     if fields::is(text, 2, b"replay ") {
         let moves = fields::number(text, b"count=");
@@ -223,6 +176,10 @@ fn run_line(line: &[u8]) {
     io::write_all(1, &line[0..colon]);
     if files::is_case(&line[colon..]) {
         files::run_case(&line[colon..]);
+        return;
+    }
+    if key_words::is_case(&line[colon..]) {
+        key_words::run_case(&line[colon..]);
         return;
     }
     run_case(&line[colon..]);

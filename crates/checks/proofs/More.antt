@@ -3,7 +3,7 @@ use Prim.Native.Nat.{ℕ, _<_, _≤_}
 use native.Mathlib.Omega.{arith}
 use native.Mathlib.Decide.{decLe, ℕ-discrete}
 use mathlib.Core.Path.{_≡_, ap, refl, sym, _∙_}
-use mathlib.Core.Bool.{Bool}
+use mathlib.Core.Bool.{Bool, false, true}
 use mathlib.Core.List.{List, [], _∷_, _++_}
 use mathlib.Core.Option.{Option, Option·some-ne-none, none, some}
 use lib.Dec.{eqb, ltb}
@@ -25,11 +25,19 @@ last-decides cs ds e = sym (others-decide cs ds (sym e))
 abbrev alone : Refusal → Bool → Option Refusal
 alone f b = firstGiven (record { given = b; refusal = f } ∷ [])
 
+-- after checks that refuse nothing a test that holds gives its refusal
+pub one-given : (cs : List Check) (b : Bool) (f : Refusal) → none ≡ firstGiven cs → b ≡ true → some f ≡ firstGiven (cs ++ record { given = b; refusal = f } ∷ [])
+one-given cs b f e h = ap (alone f) (sym h) ∙ last-decides cs (record { given = b; refusal = f } ∷ []) e
+
+-- and one that fails does not
+pub one-passed : (cs : List Check) (b : Bool) (f : Refusal) → none ≡ firstGiven cs → b ≡ false → none ≡ firstGiven (cs ++ record { given = b; refusal = f } ∷ [])
+one-passed cs b f e h = ap (alone f) (sym h) ∙ last-decides cs (record { given = b; refusal = f } ∷ []) e
+
 pub too-low : (cs : List Check) (a b : ℕ) (f : Refusal) → none ≡ firstGiven cs → a < b → some f ≡ firstGiven (cs ++ reaches a b f)
-too-low cs a b f e h = ap (alone f) (sym (lt-ltb a b h)) ∙ last-decides cs (reaches a b f) e
+too-low cs a b f e h = one-given cs (ltb a b) f e (lt-ltb a b h)
 
 pub enough : (cs : List Check) (a b : ℕ) (f : Refusal) → none ≡ firstGiven cs → b ≤ a → none ≡ firstGiven (cs ++ reaches a b f)
-enough cs a b f e h = ap (alone f) (sym (le-ltb a b h)) ∙ last-decides cs (reaches a b f) e
+enough cs a b f e h = one-passed cs (ltb a b) f e (le-ltb a b h)
 
 -- where the checks refuse nothing, the first of them refuse nothing
 pub first-none : (cs ds : List Check) → firstGiven (cs ++ ds) ≡ none → firstGiven cs ≡ none

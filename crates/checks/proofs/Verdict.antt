@@ -9,10 +9,13 @@ use mathlib.Core.Option.{Option, Option·some-ne-none, none, some}
 use lib.Dec.{eqb, ltb}
 use lib.IntN.{ℤ}
 use lib.ListN.{length}
-use borrow.Author.Tests.{eq-eqb, eqb-true, ne-eqb, lt-ltb, le-ltb}
+use borrow.Author.Tests.{eq-eqb, eqb-false, eqb-true, le-ltb, lt-ltb, ltb-false, ne-eqb}
 use Rattle.game.specs.Grid.{Grid, size}
+use Rattle.game.specs.Keys.{Key}
+use Rattle.game.proofs.Checks.{each-fails}
+use Rattle.game.proofs.Truth.{or-no}
 use Rattle.area.specs.Stages.{Shape}
-use Rattle.game.specs.Calls.{Refusal, board, boardChecks, firstGiven, gridChecks, roomCheck, shape, shapeCheck, trace, work, workCheck}
+use Rattle.game.specs.Calls.{Refusal, board, boardChecks, firstGiven, gridChecks, keyCheck, keyedRoundsCheck, mostRounds, roomCheck, shape, shapeCheck, trace, work, workCheck}
 use Rattle.checks.proofs.More.{enough, first-none, reached, reaches}
 
 -- ---- the board
@@ -108,3 +111,11 @@ room-checked g ws room = go (shapeCheck g .given) (eqb (length (g .values)) (siz
     go true b e w = refl
     go false true e w = ap (last w) (eqb-true (length (g .values)) (size g) e)
     go false false e w = refl
+
+-- where a keyed search is not refused: the first checks passed, there is a round, and at most 1,000,000 are
+pub keyed-passed : (g : Grid) (w : List ℤ) (n : ℕ) (k : Key) → firstGiven (gridChecks g w ++ keyedRoundsCheck n ∷ keyCheck k ∷ []) ≡ none → Passed g w × (1 ≤ n) × (n ≤ mostRounds)
+keyed-passed g w n k e =
+    let fails = each-fails (gridChecks g w ++ keyedRoundsCheck n ∷ keyCheck k ∷ []) e .1 .1 .1 .0 in
+    let tests = or-no (eqb n 0) (ltb mostRounds n) fails in
+    let some-round = eqb-false n 0 (tests .0) in
+    (passed g w (first-none (gridChecks g w) (keyedRoundsCheck n ∷ keyCheck k ∷ []) e), omega (arith, some-round), ltb-false mostRounds n (tests .1))

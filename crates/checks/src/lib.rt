@@ -1,4 +1,5 @@
 // The checks of every call, in their order.
+use keys::Key;
 use refusals::Checked;
 use refusals::Refusal;
 ghost use mathlib.Core.Path.{_≡_};
@@ -7,8 +8,9 @@ ghost use Prim.Native.Nat.{_*_};
 ghost use lib.IntN.{ℤ};
 ghost use lib.ListN.{length};
 ghost use Rattle.game.specs.Grid.{Grid, size};
-ghost use Rattle.game.specs.Calls.{boardChecks, firstGiven, gridChecks, roomCheck, workCheck};
+ghost use Rattle.game.specs.Calls.{Check, boardChecks, firstGiven, gridChecks, keyCheck, keyedRoundsCheck, roomCheck, workCheck};
 ghost use Rattle.area.specs.Numbers.{gridOf};
+ghost use Rattle.keys.specs.Stands.{keyOf};
 ghost use Rattle.refusals.specs.Names.{refusalOf};
 ghost use Rattle.checks.specs.OneMore.{below};
 
@@ -91,4 +93,44 @@ pub fn check_room(rows: usize, columns: usize, grid: &[i32], work: &[i32], room:
     ensures { λ r. ⌜ refusalOf r ≡ firstGiven (gridChecks (gridOf rows columns (now (grid .entry))) (now (work .entry)) ++ roomCheck (gridOf rows columns (now (grid .entry))) room ∷ []) ⌝ }
 {
     check_more(rows, columns, grid, work, room, grid.len(), Refusal::Trace)
+}
+
+// SHAPE, BOARD, WORK, and ROUNDS where there are none or more than 1,000,000.
+pub fn check_keyed_rounds(
+    rows: usize,
+    columns: usize,
+    grid: &[i32],
+    work: &[i32],
+    rounds: usize,
+) -> Checked
+    ensures { λ r. ⌜ refusalOf r ≡ firstGiven (gridChecks (gridOf rows columns (now (grid .entry))) (now (work .entry)) ++ keyedRoundsCheck rounds ∷ []) ⌝ }
+{
+    let checked = check(rows, columns, grid, work);
+    match checked {
+        Checked::Refused(first) => Checked::Refused(first),
+        Checked::Fine => {
+            if rounds == 0 {
+                return Checked::Refused(Refusal::Rounds);
+            }
+            if 1000000 < rounds {
+                return Checked::Refused(Refusal::Rounds);
+            }
+            Checked::Fine
+        }
+    }
+}
+
+// What the checks before said, then KEY where the five words of a key are all 0.
+pub fn check_key(checked: Checked, key: Key) -> Checked
+    ensures { λ r. ⌜ ((cs : List Check) → refusalOf checked ≡ firstGiven cs → refusalOf r ≡ firstGiven (cs ++ keyCheck (keyOf key) ∷ [])) ⌝ }
+{
+    match checked {
+        Checked::Refused(first) => Checked::Refused(first),
+        Checked::Fine => {
+            if keys::is_blank(key) {
+                return Checked::Refused(Refusal::Key);
+            }
+            Checked::Fine
+        }
+    }
 }

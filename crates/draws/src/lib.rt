@@ -37,7 +37,7 @@ pub fn four(bytes: &[u8], at: usize) -> usize
 }
 
 // Words below the bound are taken among n: in the old mode each is, in the fair mode as many as there are for each place.
-fn bound(mode: Mode, n: usize) -> usize
+pub fn bound(mode: Mode, n: usize) -> usize
     requires { ⌜ 1 ≤ n ⌝ }
     ensures { λ r. ⌜ Bounds (modeOf mode) n r ⌝ }
 {

@@ -1,4 +1,4 @@
--- A side that passes lies within the limits; the verdict of some checks after others: the first that is given decides. Assumes nothing.
+-- A side that passes lies within the limits; the verdict of some checks after others: the first that is given decides; an answer that isn't DRAWS is told by its number. Assumes nothing.
 use Prim.Native.Nat.{ℕ, _≤_}
 use native.Mathlib.Omega.{arith}
 use mathlib.Core.Path.{_∙_, _≡_, ap, refl}
@@ -7,7 +7,7 @@ use mathlib.Core.List.{List, [], _++_, _∷_}
 use mathlib.Core.Option.{Option, Option·some-ne-none, none, some}
 use borrow.Author.Tests.{eqb-false, ltb-false}
 use lib.Dec.{eqb, ltb}
-use Rattle.game.specs.Calls.{Check, Refusal, firstGiven, sideOut}
+use Rattle.game.specs.Calls.{Answer, Check, Refusal, draws, firstGiven, refuses, sideOut}
 use Rattle.game.specs.Lists.{Each}
 use Rattle.game.proofs.Draws.{IfSome}
 use Rattle.game.proofs.Truth.{or-no}
@@ -53,6 +53,10 @@ given-each P (c ∷ cs) h = go (c .given) (given-each P cs (h .1))
     go : (b : Bool) → IfSome P (firstGiven cs) → IfSome P (elim b [ true ↦ some (c .refusal) | false ↦ firstGiven cs ])
     go true r = h .0
     go false r = r
+
+-- an answer whose number isn't 6 is no DRAWS
+pub no-draws : (a : Answer) → (a .number ≡ 6 → ⊥) → a ≡ refuses draws → ⊥
+no-draws a h e = h (ap (λ (x : Answer). x .number) e)
 
 -- the test of a check fails
 abbrev pub Fails : Check → Type 0

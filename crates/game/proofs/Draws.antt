@@ -1,16 +1,16 @@
--- Lent bytes as a source, in either mode: a draw takes one of its places, and uses no bytes, or the words that it spent and the one that it took. Assumes nothing.
+-- The first word that is taken, of any words, in either mode. Lent bytes as a source: a draw takes one of its places, and uses no bytes, or the words that it spent and the one that it took. Assumes nothing.
 use Prim.Native.Nat.{ℕ, _%_, _*_, _+_, _-_, _/_, _<_, _≤_, suc, zero}
 use native.Mathlib.Omega.{arith}
-use native.Mathlib.Nat.{mod-lt, mul-div-le}
+use native.Mathlib.Nat.{add-assoc, mod-lt, mul-div-le}
 use mathlib.Core.Path.{_∙_, _≡_, ap, refl, subst, sym}
 use mathlib.Core.Logic.{_⊎_, inl, inr}
 use mathlib.Core.Bool.{Bool, cond, false, true}
 use mathlib.Core.List.{List}
-use mathlib.Core.Option.{Option, none, some}
+use mathlib.Core.Option.{Option, Option·map, none, some}
 use lib.Dec.{T, leb, leb→le, nleb→lt}
 use lib.ListN.{length}
-use borrow.Author.Tests.{lt-leb}
-use Rattle.game.specs.Draws.{Drawn, Mode, Places, draw, fair, firstTaken, fourBytes, lent, old, taken, wordsLeft}
+use borrow.Author.Tests.{le-leb, lt-leb}
+use Rattle.game.specs.Draws.{Drawn, Mode, Places, draw, drawnBy, fair, firstTaken, fourBytes, lent, old, taken, wordsLeft}
 
 -- something holds of what is there, if anything is
 abbrev pub IfSome {ℓ} : {A : Type ℓ} → (A → Type 0) → Option A → Type 0
@@ -27,15 +27,38 @@ taking word n a = record { place = word a % n; next = a + 4 }
 abbrev pub orNext : Bool → Drawn → Option Drawn → Option Drawn
 orNext b d next = elim b [ true ↦ some d | false ↦ next ]
 
+-- from a place on, over whole words
+pub record Whole (at next : ℕ) : Type 0 where
+  pub onward : at ≤ next
+  pub words : next % 4 ≡ at % 4
+
 -- something holds of the first word that is taken, if it holds of each that is
-pub by-taken : (P : Drawn → Type 0) (word : ℕ → ℕ) (mode : Mode) (n k at : ℕ) → ((a : ℕ) → at ≤ a → a + 4 ≤ at + 4 * k → T (taken mode n (word a)) → P (taking word n a))
+pub by-taken : (P : Drawn → Type 0) (word : ℕ → ℕ) (mode : Mode) (n k at : ℕ) → ((a : ℕ) → Whole at a → a + 4 ≤ at + 4 * k → T (taken mode n (word a)) → P (taking word n a))
     → IfSome P (firstTaken word mode n k at)
 by-taken P word mode n zero at h = tt
-by-taken P word mode n (suc k) at h = go (taken mode n (word at)) refl (by-taken P word mode n k (at + 4) (λ a l m t. h a (omega arith) (omega arith) t))
+by-taken P word mode n (suc k) at h =
+    go (taken mode n (word at)) refl (by-taken P word mode n k (at + 4) (λ a l m t. h a (record { onward = omega arith; words = omega arith }) (omega arith) t))
   where
     go : (b : Bool) → taken mode n (word at) ≡ b → IfSome P (firstTaken word mode n k (at + 4)) → IfSome P (orNext b (taking word n at) (firstTaken word mode n k (at + 4)))
-    go true e r = h at (omega arith) (omega arith) (rw e tt)
+    go true e r = h at (record { onward = omega arith; words = refl }) (omega arith) (rw e tt)
     go false e r = r
+
+-- among one, or none, a draw takes the first place and no word
+pub drawn-one : (word : ℕ → ℕ) (mode : Mode) (n k at : ℕ) → n ≤ 1 → drawnBy word mode n k at ≡ some (record { place = 0; next = at })
+drawn-one word mode n k at h = ap (λ (b : Bool). cond b (some (record { place = 0; next = at })) (firstTaken word mode n k at)) (le-leb n 1 h)
+
+-- among more the first word that is taken
+pub drawn-more : (word : ℕ → ℕ) (mode : Mode) (n k at : ℕ) → 1 < n → drawnBy word mode n k at ≡ firstTaken word mode n k at
+drawn-more word mode n k at h = ap (λ (b : Bool). cond b (some (record { place = 0; next = at })) (firstTaken word mode n k at)) (lt-leb n 1 h)
+
+-- something holds of a draw: of the one without a word, and of each word that is taken
+pub by-drawn : (P : Drawn → Type 0) (word : ℕ → ℕ) (mode : Mode) (n k at : ℕ) → P (record { place = 0; next = at })
+    → ((a : ℕ) → Whole at a → a + 4 ≤ at + 4 * k → T (taken mode n (word a)) → P (taking word n a)) → IfSome P (drawnBy word mode n k at)
+by-drawn P word mode n k at h l = go (leb n 1)
+  where
+    go : (b : Bool) → IfSome P (cond b (some (record { place = 0; next = at })) (firstTaken word mode n k at))
+    go true = h
+    go false = by-taken P word mode n k at l
 
 -- of k words, one or more, the first is taken, or else those after it decide
 pub taken-turn : (word : ℕ → ℕ) (mode : Mode) (n k at : ℕ) (b : Bool) → 1 ≤ k → taken mode n (word at) ≡ b
@@ -48,21 +71,42 @@ taken-turn word mode n (suc k) at b h e =
     one-less : k ≡ suc k - 1
     one-less = omega arith
 
+-- a draw that is so many places further on
+abbrev pub drawn-from : ℕ → Drawn → Drawn
+drawn-from c d = record { place = d .place; next = c + d .next }
+
+-- words so many places further on: the first that is taken is the same there
+module _ (word to : ℕ → ℕ) (mode : Mode) (n c : ℕ) (same : (a : ℕ) → to (c + a) ≡ word a) where
+  taken-behind : (k at : ℕ) → firstTaken to mode n k (c + at) ≡ Option·map (drawn-from c) (firstTaken word mode n k at)
+  taken-behind zero at = refl
+  taken-behind (suc k) at =
+      ap (λ (w : ℕ). orNext (taken mode n w) (record { place = w % n; next = c + at + 4 }) (firstTaken to mode n k (c + at + 4))) (same at)
+      ∙ go (taken mode n (word at)) (taken-behind k (at + 4))
+    where
+      go : (b : Bool) → firstTaken to mode n k (c + (at + 4)) ≡ Option·map (drawn-from c) (firstTaken word mode n k (at + 4))
+          → orNext b (record { place = word at % n; next = c + at + 4 }) (firstTaken to mode n k (c + at + 4)) ≡ Option·map (drawn-from c) (orNext b (taking word n at) (firstTaken word mode n k (at + 4)))
+      go true r = ap (λ (m : ℕ). some (record { place = word at % n; next = m })) (add-assoc c at 4)
+      go false r = ap (firstTaken to mode n k) (add-assoc c at 4) ∙ r
+
+  -- and so is what is drawn by them
+  pub drawn-behind : (k at : ℕ) → drawnBy to mode n k (c + at) ≡ Option·map (drawn-from c) (drawnBy word mode n k at)
+  drawn-behind k at = go (leb n 1)
+    where
+      go : (b : Bool) → cond b (some (record { place = 0; next = c + at })) (firstTaken to mode n k (c + at)) ≡ Option·map (drawn-from c) (cond b (some (record { place = 0; next = at })) (firstTaken word mode n k at))
+      go true = refl
+      go false = taken-behind k at
+
 -- ---- a draw from lent bytes
 
 -- the words that are left are in the bytes
-pub words-within : (bytes : List ℕ) (at a : ℕ) → at ≤ a → a + 4 ≤ at + 4 * wordsLeft bytes at → a + 4 ≤ length bytes
+pub words-within : (bytes : List ℕ) (at a : ℕ) → Whole at a → a + 4 ≤ at + 4 * wordsLeft bytes at → a + 4 ≤ length bytes
 words-within bytes at a l m = omega (arith, mul-div-le (length bytes - at) 4)
 
 -- something holds of a draw: of the one without bytes, and of each word in the bytes that is taken
 pub by-draw-taken : (P : Drawn → Type 0) (mode : Mode) (bytes : List ℕ) (at n : ℕ) → P (record { place = 0; next = at })
     → ((a : ℕ) → at ≤ a → a + 4 ≤ length bytes → T (taken mode n (fourBytes bytes a)) → P (taking (fourBytes bytes) n a)) → IfSome P (draw mode bytes at n)
 unfolding draw
-by-draw-taken P mode bytes at n h k = go (leb n 1)
-  where
-    go : (b : Bool) → IfSome P (cond b (some (record { place = 0; next = at })) (firstTaken (fourBytes bytes) mode n (wordsLeft bytes at) at))
-    go true = h
-    go false = by-taken P (fourBytes bytes) mode n (wordsLeft bytes at) at (λ a l m t. k a l (words-within bytes at a l m) t)
+by-draw-taken P mode bytes at n h k = by-drawn P (fourBytes bytes) mode n (wordsLeft bytes at) at h (λ a l m t. k a (l .onward) (words-within bytes at a l m) t)
 
 -- lent bytes draw among the places
 pub lent-places : (mode : Mode) (bytes : List ℕ) → Places (lent mode bytes)
@@ -98,7 +142,7 @@ draw-uses mode bytes at n d e =
 pub draw-words : (mode : Mode) (bytes : List ℕ) (at n : ℕ) → 2 ≤ n → draw mode bytes at n ≡ firstTaken (fourBytes bytes) mode n (wordsLeft bytes at) at
 unfolding draw
 draw-words mode bytes at n h =
-    ap (λ (b : Bool). cond b (some (record { place = 0; next = at })) (firstTaken (fourBytes bytes) mode n (wordsLeft bytes at) at)) (lt-leb n 1 (omega arith))
+    drawn-more (fourBytes bytes) mode n (wordsLeft bytes at) at h
 
 -- then it uses a word at least
 pub draw-on : (mode : Mode) (bytes : List ℕ) (at n : ℕ) (d : Drawn) → 2 ≤ n → draw mode bytes at n ≡ some d → at + 4 ≤ d .next

@@ -11,13 +11,13 @@ use lib.Dec.{T, eqb, leb, le→leb, ltb→lt}
 use lib.IntN.{pos, ℤ}
 use lib.ListN.{getD, getD-replicate, length, length-replicate, replicate}
 use borrow.Author.Tests.{eq-eqb}
-use Rattle.game.specs.Calls.{Answer, Check, Refusal, draws, drawnRound, drawnSearch, firstGiven, gridChecks, listCheck, numberOf, randomRoundCall, randomSearchCall, refuses, rounds, roundsCheck, unless, unlessListed}
+use Rattle.game.specs.Calls.{Check, Refusal, draws, drawnRound, drawnSearch, firstGiven, gridChecks, listCheck, numberOf, randomRoundCall, randomSearchCall, refuses, rounds, roundsCheck, unless, unlessListed}
 use Rattle.game.specs.Draws.{Drawn, draw, fair, fairBound, firstTaken, fourBytes, lent, old, taken, wordsLeft}
 use Rattle.game.specs.Grid.{Grid, mine, number, square}
 use Rattle.game.specs.Openings.{chainedTo, grow, openings, threeBV}
 use Rattle.game.specs.Position.{Position, closedSafe, cost, gain, premium, untouched}
 use Rattle.game.specs.Rounds.{Round, Searched, Step, before, choice, randomFrom, randomRound, randomSearch, searchFrom, stepOf, topCells, unitCells, width}
-use Rattle.game.proofs.Checks.{given-append, given-each, orElse}
+use Rattle.game.proofs.Checks.{given-append, given-each, no-draws, orElse}
 use Rattle.game.proofs.Draws.{IfSome, by-taken, draw-words, old-draw, words-within}
 use Rattle.game.proofs.Randoms.{by-draw, by-draws}
 use Rattle.game.proofs.Searches.{first, goes-on, onward}
@@ -198,10 +198,6 @@ search-enough g bytes n h k = whole (go (random-enough g bytes 0 (omega (arith, 
 abbrev NotDraws : Refusal → Type 0
 NotDraws f = numberOf f ≤ 5
 
--- a number that isn't 6 is no DRAWS
-no-draws : (a : Answer) → a .number ≤ 5 → a ≡ refuses draws → ⊥
-no-draws a h e = let k : a .number ≡ 6 = ap (λ (x : Answer). x .number) e in omega arith
-
 -- a random round that is lent four bytes a unit never answers DRAWS
 pub round-not-dry : (g : Grid) (ws : List ℤ) (ms bytes : List ℕ) → 4 * threeBV g ≤ length bytes → randomRoundCall old g ws ms bytes .answer ≡ refuses draws → ⊥
 unfolding randomRoundCall
@@ -213,9 +209,9 @@ round-not-dry g ws ms bytes h =
     checks = gridChecks g ws ++ listCheck g ms ∷ []
 
     go : (f : Option Refusal) → IfSome NotDraws f → (o : Option Round) (r : Round) → o ≡ some r → unlessListed f ws ms (drawnRound g o ws ms) .answer ≡ refuses draws → ⊥
-    go (some f) l o r q = no-draws (refuses f) l
+    go (some f) l o r q = no-draws (refuses f) (λ e. omega arith)
     go none l none r q = absurd (Option·none-ne-some r q)
-    go none l (some x) r q = no-draws (drawnRound g (some x) ws ms .answer) (omega arith)
+    go none l (some x) r q = no-draws (drawnRound g (some x) ws ms .answer) (λ e. omega arith)
 
 -- nor does a search that is lent as many for each of its rounds
 pub search-not-dry : (g : Grid) (ws : List ℤ) (bytes : List ℕ) (n : ℕ) → 4 * threeBV g * n ≤ length bytes → randomSearchCall old g ws bytes n .answer ≡ refuses draws → ⊥
@@ -228,10 +224,10 @@ search-not-dry g ws bytes n h =
 
     answered : (o : Option Searched) (r : Searched) → o ≡ some r → drawnSearch g o ws .answer ≡ refuses draws → ⊥
     answered none r q = absurd (Option·none-ne-some r q)
-    answered (some x) r q = no-draws (drawnSearch g (some x) ws .answer) (omega arith)
+    answered (some x) r q = no-draws (drawnSearch g (some x) ws .answer) (λ e. omega arith)
 
     go : (f : Option Refusal) → IfSome NotDraws f → (b : Bool) → eqb n 0 ≡ b
         → unless (orElse f (elim b [ true ↦ some rounds | false ↦ none ])) ws (drawnSearch g (randomSearch g (lent old bytes) n) ws) .answer ≡ refuses draws → ⊥
-    go (some f) l b q = no-draws (refuses f) l
-    go none l true q = no-draws (refuses rounds) (omega arith)
+    go (some f) l b q = no-draws (refuses f) (λ e. omega arith)
+    go none l true q = no-draws (refuses rounds) (λ e. omega arith)
     go none l false q = let r = search-enough g bytes n (some-round q) h in answered (randomSearch g (lent old bytes) n) (r .0) (r .1)

@@ -21,6 +21,8 @@ pub mod Legal
 pub mod Units
 pub mod Runs
 pub mod Draws
+pub mod KeyWords
+pub mod Keys
 pub mod Chances
 pub mod Rounds
 pub mod Randoms
@@ -34,6 +36,9 @@ pub mod Areas
 pub mod Checks
 pub mod Enough
 pub mod Parts
+pub mod KeyDraws
+pub mod KeyRounds
+pub mod KeyCalls
 pub mod Reveals
 pub mod Clicks
 pub mod Turns

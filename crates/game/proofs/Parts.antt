@@ -1,31 +1,27 @@
--- A long search in parts: a draw further on in the bytes is the draw in the bytes from there on, so a search goes on with the bytes that are left. Assumes nothing.
-use Prim.Native.Nat.{ℕ, _%_, _+_, _-_, _/_, _≤_, min, suc, zero}
+-- A long search in parts: a draw further on in a source is the draw of what is behind that place, so a search goes on with what is left; of lent bytes, with those that are left. Assumes nothing.
+use Prim.Native.Nat.{ℕ, _+_, _-_, _/_, _≤_, min, suc, zero}
 use native.Mathlib.Omega.{arith}
 use native.Mathlib.Nat.{add-assoc, add-zero, suc-add, zero-add}
 use mathlib.Core.Path.{_∙_, _≡_, ap, refl, sym}
-use mathlib.Core.Bool.{Bool, cond, false, true}
+use mathlib.Core.Bool.{false}
 use mathlib.Core.List.{List, []}
 use mathlib.Core.Option.{Option, Option·map, bind, none, some}
-use lib.Dec.{leb}
 use lib.ListN.{drop, length, length-drop}
 use lib.Seq.{getD-drop}
-use Rattle.game.specs.Draws.{Drawn, Mode, Source, draw, firstTaken, fourBytes, lent, taken, wordsLeft}
+use Rattle.game.specs.Draws.{Drawn, Mode, Source, draw, drawnBy, fourBytes, lent, wordsLeft}
 use Rattle.game.specs.Grid.{Grid}
 use Rattle.game.specs.Openings.{threeBV}
 use Rattle.game.specs.Position.{Position, closedSafe, untouched}
 use Rattle.game.specs.Rounds.{Round, Searched, Step, afterStep, before, choice, randomFrom, randomRound, randomSearch, searchFrom, stepOf, width}
-use Rattle.game.proofs.Draws.{orNext}
+use Rattle.game.proofs.Draws.{drawn-behind, drawn-from}
 use Rattle.game.proofs.Randoms.{by-draw}
 use Rattle.game.proofs.Searches.{first, goes-on, onward}
 
 -- ---- a draw
 
--- a draw and a round whose bytes begin at a place
-abbrev drawn-from : ℕ → Drawn → Drawn
-drawn-from k d = record { place = d .place; next = k + d .next }
-
-abbrev round-from : ℕ → Round → Round
-round-from k r = record { steps = r .steps; next = k + r .next }
+-- a source behind so many places of another: its draws are the other's from there on
+pub record Behind (k : ℕ) (source rest : Source) : Type 0 where
+  pub draws : (at n : ℕ) → source (k + at) n ≡ Option·map (drawn-from k) (rest at n)
 
 -- the four bytes that a draw reads
 four-dropped : (bytes : List ℕ) (k at : ℕ) → fourBytes bytes (k + at) ≡ fourBytes (drop k bytes) at
@@ -39,44 +35,21 @@ left-dropped bytes k at = ap (λ (m : ℕ). m / 4) (as-many (length bytes) (leng
     as-many : (long left : ℕ) → left ≡ long - k → long - (k + at) ≡ left - at
     as-many long left e = omega arith
 
--- the first word that is taken
-taken-dropped : (bytes : List ℕ) (mode : Mode) (n words k at : ℕ)
-    → firstTaken (fourBytes bytes) mode n words (k + at) ≡ Option·map (drawn-from k) (firstTaken (fourBytes (drop k bytes)) mode n words at)
-taken-dropped bytes mode n zero k at = refl
-taken-dropped bytes mode n (suc words) k at =
-    ap (λ (x : ℕ). orNext (taken mode n x) (record { place = x % n; next = k + at + 4 }) (firstTaken (fourBytes bytes) mode n words (k + at + 4))) (four-dropped bytes k at)
-    ∙ go (fourBytes (drop k bytes) at) (taken mode n (fourBytes (drop k bytes) at)) (rest (taken-dropped bytes mode n words k (at + 4)))
-  where
-    later : Option Drawn
-    later = Option·map (drawn-from k) (firstTaken (fourBytes (drop k bytes)) mode n words (at + 4))
-
-    rest : firstTaken (fourBytes bytes) mode n words (k + (at + 4)) ≡ later → firstTaken (fourBytes bytes) mode n words (k + at + 4) ≡ later
-    rest e = ap (firstTaken (fourBytes bytes) mode n words) (add-assoc k at 4) ∙ e
-
-    go : (x : ℕ) (b : Bool) → firstTaken (fourBytes bytes) mode n words (k + at + 4) ≡ later
-        → orNext b (record { place = x % n; next = k + at + 4 }) (firstTaken (fourBytes bytes) mode n words (k + at + 4))
-        ≡ Option·map (drawn-from k) (orNext b (record { place = x % n; next = at + 4 }) (firstTaken (fourBytes (drop k bytes)) mode n words (at + 4)))
-    go x true e = ap (λ (m : ℕ). some (record { place = x % n; next = m })) (add-assoc k at 4)
-    go x false e = e
-
--- a draw from a place on is the draw of the bytes from there on
-draw-dropped : (mode : Mode) (bytes : List ℕ) (k at n : ℕ) → draw mode bytes (k + at) n ≡ Option·map (drawn-from k) (draw mode (drop k bytes) at n)
-unfolding draw
-draw-dropped mode bytes k at n =
-    rw (left-dropped bytes k at) (rw (taken-dropped bytes mode n (wordsLeft (drop k bytes) at) k at) (go (leb n 1) (firstTaken (fourBytes (drop k bytes)) mode n (wordsLeft (drop k bytes) at) at)))
-  where
-    go : (b : Bool) (o : Option Drawn) → cond b (some (record { place = 0; next = k + at })) (Option·map (drawn-from k) o) ≡ Option·map (drawn-from k) (cond b (some (record { place = 0; next = at })) o)
-    go true o = refl
-    go false o = refl
-
--- a source behind so many places of another: its draws are the other's from there on
-record Behind (k : ℕ) (source rest : Source) : Type 0 where
-  draws : (at n : ℕ) → source (k + at) n ≡ Option·map (drawn-from k) (rest at n)
-
+-- the bytes from a place on are behind it
 lent-behind : (mode : Mode) (bytes : List ℕ) (k : ℕ) → Behind k (lent mode bytes) (lent mode (drop k bytes))
-lent-behind mode bytes k = record { draws = draw-dropped mode bytes k }
+unfolding draw
+lent-behind mode bytes k =
+    record {
+      draws = λ at n.
+          ap (λ (words : ℕ). drawnBy (fourBytes bytes) mode n words (k + at)) (left-dropped bytes k at)
+          ∙ drawn-behind (fourBytes (drop k bytes)) (fourBytes bytes) mode n k (four-dropped bytes k) (wordsLeft (drop k bytes) at) at;
+    }
 
 -- ---- a round
+
+-- a round that is so many places further on
+abbrev pub round-from : ℕ → Round → Round
+round-from k r = record { steps = r .steps; next = k + r .next }
 
 -- so many steps from there on
 from-behind : (n : ℕ) (g : Grid) (k : ℕ) (source rest : Source) → Behind k source rest → (s : Position) (at : ℕ) → randomFrom n g source s (k + at) ≡ Option·map (round-from k) (randomFrom n g rest s at)
@@ -101,7 +74,7 @@ from-behind (suc n) g k source rest b s at =
         ap (before t) (r t (d .next)) ∙ first-too t (randomFrom n g rest (afterStep g s t) (d .next))
 
 -- a round from a place on is the round of what is behind it
-round-behind : (g : Grid) (k : ℕ) (source rest : Source) → Behind k source rest → (at : ℕ) → randomRound g source (k + at) ≡ Option·map (round-from k) (randomRound g rest at)
+pub round-behind : (g : Grid) (k : ℕ) (source rest : Source) → Behind k source rest → (at : ℕ) → randomRound g source (k + at) ≡ Option·map (round-from k) (randomRound g rest at)
 unfolding randomRound
 round-behind g k source rest b at = from-behind (threeBV g) g k source rest b (untouched g) at
 
@@ -150,32 +123,30 @@ later-parts (suc m) n g source b = ap (λ (k : ℕ). searchFrom k g source b) (s
     go l none = refl
     go l (some e) = l e
 
--- a search is one of its first rounds, and then one of the others with the bytes that are left
-search-splits : (g : Grid) (mode : Mode) (bytes : List ℕ) (m n : ℕ) → 1 ≤ m → 1 ≤ n
-    → randomSearch g (lent mode bytes) (m + n) ≡ bind (randomSearch g (lent mode bytes) m) (λ a. Option·map (joined a) (randomSearch g (lent mode (drop (a .next) bytes)) n))
+-- a search is one of its first rounds, and then one of the others with what is left
+pub search-splits : (g : Grid) (source : Source) (rest : Searched → Source) (m n : ℕ) → 1 ≤ m → 1 ≤ n → ((a : Searched) → randomSearch g source m ≡ some a → Behind (a .next) source (rest a))
+    → randomSearch g source (m + n) ≡ bind (randomSearch g source m) (λ a. Option·map (joined a) (randomSearch g (rest a) n))
 unfolding randomSearch bind
-search-splits g mode bytes m n h k = go (randomRound g (lent mode bytes) 0)
+search-splits g source rest m n h k behind = go (randomRound g source 0) ∙ more (randomSearch g source m) refl
   where
-    on : Option Searched → Option Searched
-    on o = bind o (λ a. Option·map (joined a) (randomSearch g (lent mode (drop (a .next) bytes)) n))
-
-    more : (o : Option Searched) → bind o (searchFrom n g (lent mode bytes)) ≡ on o
-    more none = refl
-    more (some a) = search-behind n g a (lent mode bytes) (lent mode (drop (a .next) bytes)) (lent-behind mode bytes (a .next)) k
-
-    go : (o : Option Round) → goes-on (m + n - 1) g (lent mode bytes) first o ≡ on (goes-on (m - 1) g (lent mode bytes) first o)
+    go : (o : Option Round) → goes-on (m + n - 1) g source first o ≡ bind (goes-on (m - 1) g source first o) (searchFrom n g source)
     go none = refl
     go (some e) =
         let as-many : m + n - 1 ≡ m - 1 + n = omega arith in
-        ap (λ (j : ℕ). searchFrom j g (lent mode bytes) (first e)) as-many
-        ∙ later-parts (m - 1) n g (lent mode bytes) (first e)
-        ∙ more (searchFrom (m - 1) g (lent mode bytes) (first e))
+        ap (λ (j : ℕ). searchFrom j g source (first e)) as-many ∙ later-parts (m - 1) n g source (first e)
 
--- two searches, the second with the bytes that the first left, come to one search of all their rounds
+    more : (o : Option Searched) → randomSearch g source m ≡ o → bind o (searchFrom n g source) ≡ bind o (λ a. Option·map (joined a) (randomSearch g (rest a) n))
+    more none e = refl
+    more (some a) e = search-behind n g a source (rest a) (behind a e) k
+
+-- two searches, the second with what the first left, come to one search of all their rounds
+pub search-joins : (g : Grid) (source : Source) (rest : Searched → Source) (m n : ℕ) (a b : Searched) → 1 ≤ m → 1 ≤ n → ((a : Searched) → randomSearch g source m ≡ some a → Behind (a .next) source (rest a))
+    → randomSearch g source m ≡ some a → randomSearch g (rest a) n ≡ some b → randomSearch g source (m + n) ≡ some (joined a b)
+unfolding bind
+search-joins g source rest m n a b h k behind e q =
+    search-splits g source rest m n h k behind ∙ ap (λ (o : Option Searched). bind o (λ a. Option·map (joined a) (randomSearch g (rest a) n))) e ∙ ap (Option·map (joined a)) q
+
+-- so of lent bytes
 pub search-parts : (g : Grid) (mode : Mode) (bytes : List ℕ) (m n : ℕ) (a b : Searched) → 1 ≤ m → 1 ≤ n → randomSearch g (lent mode bytes) m ≡ some a → randomSearch g (lent mode (drop (a .next) bytes)) n ≡ some b
     → randomSearch g (lent mode bytes) (m + n) ≡ some (joined a b)
-unfolding bind
-search-parts g mode bytes m n a b h k e q =
-    search-splits g mode bytes m n h k
-    ∙ ap (λ (o : Option Searched). bind o (λ a. Option·map (joined a) (randomSearch g (lent mode (drop (a .next) bytes)) n))) e
-    ∙ ap (Option·map (joined a)) q
+search-parts g mode bytes m n a b h k = search-joins g (lent mode bytes) (λ a. lent mode (drop (a .next) bytes)) m n a b h k (λ a e. lent-behind mode bytes (a .next))

@@ -1,5 +1,5 @@
 -- The whole promise of each public call: its answer, and each lent run at exit, for all inputs (RULES 6.2, 7, 8). Assumes nothing.
-use Prim.Native.Nat.{ℕ, _*_}
+use Prim.Native.Nat.{ℕ, _*_, _/_}
 use mathlib.Core.Bool.{Bool, true, false, not, _||_}
 use mathlib.Core.List.{List, [], _∷_, _++_, map}
 use mathlib.Core.Option.{Option, none, some}
@@ -8,6 +8,7 @@ use lib.ListN.{length, take}
 use lib.Dec.{eqb, ltb}
 use Rattle.game.specs.Draws.{Mode, Source, lent}
 use Rattle.game.specs.Grid.{Grid, cells, size, wrong}
+use Rattle.game.specs.Keys.{Key, blank, keyAfter, keyNumbers, keyed}
 use Rattle.game.specs.Openings.{threeBV}
 use Rattle.game.specs.Position.{untouched, closedSafe, ending}
 use Rattle.game.specs.Moves.{Move, after, Replayed, whole, stopped, replayFrom}
@@ -18,7 +19,7 @@ use Rattle.game.specs.Area.{areaOf, listOf, clearedArea, clearedList}
 
 -- the refusals by name; NUMBER names a cell
 pub data Refusal : Type 0 where
-  shape board work trace rounds draws move frame size-over file-wrong : Refusal
+  shape board work trace rounds draws move frame size-over file-wrong key-blank : Refusal
   number-wrong : ℕ → Refusal
 
 -- the refusals by number
@@ -34,6 +35,7 @@ numberOf frame = 8
 numberOf size-over = 9
 numberOf file-wrong = 10
 numberOf (number-wrong cell) = 11
+numberOf key-blank = 12
 
 -- what a refusal names besides its number: NUMBER the cell at fault
 abbrev pub namedBy : Refusal → List ℕ
@@ -48,6 +50,7 @@ namedBy move = []
 namedBy frame = []
 namedBy size-over = []
 namedBy file-wrong = []
+namedBy key-blank = []
 
 -- an answer: 0 and its values, or the refusal's number, to which MOVE adds a place and NUMBER a cell
 pub record Answer : Type 0 where
@@ -120,6 +123,18 @@ countCheck n ms = aboveCheck (length ms) n
 -- ROUNDS: 0 rounds
 abbrev pub roundsCheck : ℕ → Check
 roundsCheck n = record { given = eqb n 0; refusal = rounds }
+
+-- the most rounds of a keyed search
+abbrev pub mostRounds : ℕ
+mostRounds = 1000000
+
+-- ROUNDS in a keyed search: 0 rounds, or above 1,000,000
+abbrev pub keyedRoundsCheck : ℕ → Check
+keyedRoundsCheck n = record { given = eqb n 0 || ltb mostRounds n; refusal = rounds }
+
+-- KEY: the five words are all 0
+abbrev pub keyCheck : Key → Check
+keyCheck k = record { given = blank k; refusal = key-blank }
 
 -- the checks of a board, in their order
 abbrev pub boardChecks : Grid → List Check
@@ -222,6 +237,38 @@ unfoldable pub randomSearchCall : Mode → Grid → List ℤ → List ℕ → �
 randomSearchCall mode g ws bytes n =
     unless (firstGiven (gridChecks g ws ++ roundsCheck n ∷ [])) ws (searchBy (lent mode bytes) n g ws)
 
+-- ---- the keyed calls
+
+-- the values of a random call, and the key after as many bytes as it used
+abbrev pub withKey : Key → List ℕ → List ℕ
+withKey k (clicks ∷ used ∷ more) = clicks ∷ used ∷ keyNumbers (keyAfter k (used / 4))
+withKey k (n ∷ []) = n ∷ []
+withKey k [] = []
+
+-- an answer with the key after the call; a refusal as it is
+abbrev pub handsKey : Key → Answer → Answer
+handsKey k a = record { number = a .number; values = withKey k (a .values) }
+
+-- a call without a list that answers the key after it
+abbrev pub handing : Key → Outcome → Outcome
+handing k o = record { answer = handsKey k (o .answer); work = o .work }
+
+-- the same with a list
+abbrev pub handingListed : Key → ListOutcome → ListOutcome
+handingListed k o = record { answer = handsKey k (o .answer); work = o .work; list = o .list }
+
+-- a single random round, by a key in a mode
+unfoldable pub keyedRoundCall : Mode → Grid → List ℤ → List ℕ → Key → ListOutcome
+keyedRoundCall mode g ws ms k =
+    unlessListed (firstGiven (gridChecks g ws ++ listCheck g ms ∷ keyCheck k ∷ [])) ws ms (handingListed k (roundBy (keyed mode k) g ws ms))
+
+-- random search over n rounds, by a key in a mode
+unfoldable pub keyedSearchCall : Mode → Grid → List ℤ → Key → ℕ → Outcome
+keyedSearchCall mode g ws k n =
+    unless (firstGiven (gridChecks g ws ++ keyedRoundsCheck n ∷ keyCheck k ∷ [])) ws (handing k (searchBy (keyed mode k) n g ws))
+
+-- ---- replay
+
 -- what a replay of n moves comes to: moves made, safe cells still closed and the ending, or MOVE with the bad move's place
 abbrev pub replayed : Grid → ℕ → Replayed → List ℤ → Outcome
 replayed g n (whole s) ws = record { answer = gives (n ∷ closedSafe g s ∷ ending g s ∷ []); work = areaOf g s ws }
@@ -257,6 +304,14 @@ strictRandomRoundCall mode g ws ms bytes = strictly (keptListed ws ms) g (random
 -- random search, strictly
 abbrev pub strictRandomSearchCall : Mode → Grid → List ℤ → List ℕ → ℕ → Outcome
 strictRandomSearchCall mode g ws bytes n = strictly (kept ws) g (randomSearchCall mode g ws bytes n)
+
+-- a keyed round, strictly
+abbrev pub strictKeyedRoundCall : Mode → Grid → List ℤ → List ℕ → Key → ListOutcome
+strictKeyedRoundCall mode g ws ms k = strictly (keptListed ws ms) g (keyedRoundCall mode g ws ms k)
+
+-- a keyed search, strictly
+abbrev pub strictKeyedSearchCall : Mode → Grid → List ℤ → Key → ℕ → Outcome
+strictKeyedSearchCall mode g ws k n = strictly (kept ws) g (keyedSearchCall mode g ws k n)
 
 -- replay, strictly
 abbrev pub strictReplayCall : Grid → List ℤ → List ℕ → ℕ → Outcome

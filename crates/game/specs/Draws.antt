@@ -48,6 +48,10 @@ firstTaken word mode n (suc k) at =
       | false ↦ firstTaken word mode n k (at + 4)
     ]
 
+-- A draw among n from k words, from a place on: n = 1 uses none and takes the first place; otherwise the first word that is taken
+abbrev pub drawnBy : (ℕ → ℕ) → Mode → ℕ → ℕ → ℕ → Option Drawn
+drawnBy word mode n k at = cond (leb n 1) (some (record { place = 0; next = at })) (firstTaken word mode n k at)
+
 -- ---- lent bytes
 
 -- the four bytes from a place on as a word, low byte first
@@ -59,10 +63,9 @@ fourBytes bytes at =
 abbrev pub wordsLeft : List ℕ → ℕ → ℕ
 wordsLeft bytes at = (length bytes - at) / 4
 
--- A draw among n: n = 1 uses no bytes and takes the first; otherwise the first word that is taken, mod n; none where none is left
+-- A draw among n: from the words that are left in the bytes
 unfoldable pub draw : Mode → List ℕ → ℕ → ℕ → Option Drawn
-draw mode bytes at n =
-    cond (leb n 1) (some (record { place = 0; next = at })) (firstTaken (fourBytes bytes) mode n (wordsLeft bytes at) at)
+draw mode bytes at n = drawnBy (fourBytes bytes) mode n (wordsLeft bytes at) at
 
 -- lent bytes as a source, in a mode
 abbrev pub lent : Mode → List ℕ → Source

@@ -6,6 +6,7 @@ pub mod Position
 pub mod Moves
 pub mod Draws
 pub mod Chances
+pub mod Keys
 pub mod Rounds
 pub mod Demands
 pub mod Area

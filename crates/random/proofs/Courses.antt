@@ -1,8 +1,8 @@
 -- A random round under way, from any source that draws among the places: the steps drawn so far, and those still to come from where they led. Assumes nothing.
-use Prim.Native.Nat.{ℕ, _+_, _<_, _≤_, suc}
+use Prim.Native.Nat.{ℕ, _*_, _+_, _<_, _≤_, suc}
 use native.Mathlib.Omega.{arith}
 use mathlib.Core.Path.{_∙_, _≡_, ap, ap₂, refl, subst, sym}
-use mathlib.Core.Bool.{false}
+use mathlib.Core.Bool.{_&&_, false}
 use mathlib.Core.List.{List, [], _++_, _∷_, append-assoc, append-nil, map}
 use mathlib.Core.Option.{Option, none, some}
 use lib.IntN.{ℤ}
@@ -14,15 +14,20 @@ use Rattle.random.specs.declared.DrawnStep.{DrawnStep}
 use Rattle.random.specs.declared.DrawnStep.the-variants as Steps
 use Rattle.random.specs.declared.Finish.the-variants as Finishes
 use Rattle.area.specs.Stages.{Stands}
-use Rattle.game.specs.Draws.{Drawn, Places, Source}
-use Rattle.game.specs.Grid.{Grid}
+use Rattle.game.specs.Draws.{Drawn, Mode, Places, Source}
+use Rattle.supplies.specs.declared.Supply.{Supply}
+use Rattle.supplies.specs.Origins.{Origin, Reads, sourceOf}
+use Rattle.game.specs.Grid.{Grid, cells, safe as isSafe}
 use Rattle.game.specs.Moves.{Move, after, word}
 use Rattle.game.specs.Openings.{threeBV}
-use Rattle.game.specs.Position.{Position, Tidy, closedSafe, untouched}
+use Rattle.game.specs.Position.{Position, Tidy, closedSafe, unopened, untouched}
 use Rattle.game.specs.Rounds.{Round, Step, afterStep, before, choice, movesOf, randomFrom, randomRound, stepOf, width}
 use Rattle.random.specs.Promises.{Rolling, Stepping, Went}
 use Rattle.moves.specs.Promises.{Made}
 use Rattle.rounds.specs.Promises.{Fresh}
+use Rattle.area.proofs.Cells.{cells-few}
+use Rattle.game.proofs.Counts.{count-le}
+use Rattle.game.proofs.Squares.{length-cells}
 use Rattle.game.proofs.Randoms.{by-draw, drawn-fits, draws-none, draws-on}
 use Rattle.game.proofs.Runs.{Fits, moves-append}
 use Rattle.game.proofs.Tidy.{untouched-tidy}
@@ -30,6 +35,7 @@ use Rattle.game.proofs.Narrow.{after-append}
 use Rattle.game.proofs.Units.{units-at-most-cells, units-untouched}
 use Rattle.moves.proofs.Partway.{Partway, partway-begins, partway-falls, partway-goes-on, partway-more}
 use Rattle.rounds.proofs.Ending.{closed-alike}
+use Rattle.supplies.proofs.Standing.{at-used}
 
 -- ---- the list past what was written
 
@@ -67,59 +73,94 @@ pub record Left (g : Grid) (source : Source) (at next : ℕ) (done : List Move) 
 abbrev pub fresh : ℕ → State
 fresh safe = record { moves = 0; closed = safe }
 
--- whatever grid the area stood for
-pub record RoundMidway (rows columns : ℕ) (w : List ℤ) (source : Source) (safe at : ℕ) (list : List ℕ) (w′ : List ℤ) (list′ : List ℕ) (t′ : State) (next : ℕ) : Type 0 where
-  pub course : (g : Grid) (old : List ℤ) → Stands rows columns g (untouched g) old w → Partway rows columns g (untouched g) old list (fresh safe) (Left g source at next) w′ list′ t′
+-- the steps so far, and the supply, at the place of the next draw
+pub record Course (rows columns : ℕ) (g : Grid) (old : List ℤ) (origin : Origin) (source : Source) (safe at : ℕ) (list : List ℕ) (w′ : List ℤ) (list′ : List ℕ) (t′ : State) (rest : Supply) : Type 0 where
+  pub way : Partway rows columns g (untouched g) old list (fresh safe) (Left g source at (rest .used)) w′ list′ t′
+  pub reads : Reads origin (rest .used) rest
 
-pub midway-begins : (rows columns : ℕ) (w : List ℤ) (source : Source) (safe at : ℕ) (list : List ℕ) → Fresh rows columns w safe
-    → RoundMidway rows columns w source safe at list w list (fresh safe) at
+-- the safe cells are few
+pub safe-few : (rows columns : ℕ) (w : List ℤ) (safe : ℕ) → Fresh rows columns w safe → safe ≤ 65025
+unfolding closedSafe
+safe-few rows columns w safe f =
+    let g = f .grid in
+    omega (
+      arith,
+      f .counts,
+      count-le (λ i. isSafe g i && unopened (untouched g) i) (cells g),
+      length-cells g,
+      cells-few rows columns (f .stands .shape),
+      ap₂ _*_ (f .stands .rows-are) (f .stands .columns-are),
+    )
+
+-- whatever grid the area stood for, and wherever the supply stood
+pub record RoundMidway (rows columns : ℕ) (w : List ℤ) (mode : Mode) (bytes : List ℕ) (safe : ℕ) (supply : Supply) (list : List ℕ) (w′ : List ℤ) (list′ : List ℕ) (t′ : State) (rest : Supply) : Type 0 where
+  pub course : (g : Grid) (old : List ℤ) (origin : Origin) (at : ℕ) → Stands rows columns g (untouched g) old w → Reads origin at supply
+      → Course rows columns g old origin (sourceOf mode bytes origin) safe at list w′ list′ t′ rest
+
+pub midway-begins : (rows columns : ℕ) (w : List ℤ) (mode : Mode) (bytes : List ℕ) (safe : ℕ) (supply : Supply) (list : List ℕ) → Fresh rows columns w safe
+    → RoundMidway rows columns w mode bytes safe supply list w list (fresh safe) supply
 unfolding randomRound
-midway-begins rows columns w source safe at list f =
+midway-begins rows columns w mode bytes safe supply list f =
     record {
-      course = λ g old st. partway-begins rows columns g (untouched g) old list (fresh safe) (Left g source at at) w (threeBV g) st (untouched-tidy g)
-          (f .counts ∙ closed-alike rows columns (f .grid) g (untouched (f .grid)) (untouched g) (f .old) old w (f .stands) st)
-          (omega (arith, units-untouched g)) (record { steps = []; moves-are = refl; all = ahead-none (randomFrom (threeBV g) g source (untouched g) at) });
+      course = λ g old origin at st d.
+          let source = sourceOf mode bytes origin in
+          record {
+            way = partway-begins rows columns g (untouched g) old list (fresh safe) (Left g source at (supply .used)) w (threeBV g) st (untouched-tidy g)
+                (f .counts ∙ closed-alike rows columns (f .grid) g (untouched (f .grid)) (untouched g) (f .old) old w (f .stands) st)
+                (omega (arith, units-untouched g))
+                (record {
+                  steps = [];
+                  moves-are = refl;
+                  all = ap (randomFrom (threeBV g) g source (untouched g)) (sym (d .used-is)) ∙ ahead-none (randomFrom (threeBV g) g source (untouched g) (supply .used));
+                });
+            reads = at-used origin at supply d;
+          };
     }
 
-module _ (rows columns : ℕ) (g : Grid) (old : List ℤ) (source : Source) (safe at : ℕ) (list : List ℕ) (v : List ℤ) (l : List ℕ) (u : State) (next : ℕ)
-    (o : Partway rows columns g (untouched g) old list (fresh safe) (Left g source at next) v l u) where
+module _ (rows columns : ℕ) (g : Grid) (old : List ℤ) (origin : Origin) (source : Source) (safe at : ℕ) (list : List ℕ) (v : List ℤ) (l : List ℕ) (u : State) (rest : Supply)
+    (c : Course rows columns g old origin source safe at list v l u rest) where
+  abbrev o : Partway rows columns g (untouched g) old list (fresh safe) (Left g source at (rest .used)) v l u
+  o = c .way
+
   abbrev here : Position
   here = after g (untouched g) (o .done)
 
   -- all safe cells are open
-  pub course-ends : u .closed ≡ 0 → Rolling rows columns g old (randomRound g source at) list v l (Finishes.Ended (u .moves) next)
+  pub course-ends : u .closed ≡ 0 → Rolling rows columns g old origin (randomRound g source at) list v l (Finishes.Ended (u .moves) rest)
   course-ends z =
-      let c = o .rest in
-      let e = draws-none (o .left-over) g source here next (sym (o .made .left-closed) ∙ z) in
-      let m : u .moves ≡ length (movesOf (c .steps)) = omega (arith, o .made .clicks, ap (λ (ms : List Move). length ms) (c .moves-are)) in
-      subst (λ (x : Option Round). Rolling rows columns g old x list v l (Finishes.Ended (u .moves) next))
-      (sym (c .all ∙ ap (ahead (c .steps)) e ∙ ap (λ (ts : List Step). some (record { steps = ts; next = next })) (append-nil (c .steps))))
+      let k = o .rest in
+      let e = draws-none (o .left-over) g source here (rest .used) (sym (o .made .left-closed) ∙ z) in
+      let m : u .moves ≡ length (movesOf (k .steps)) = omega (arith, o .made .clicks, ap (λ (ms : List Move). length ms) (k .moves-are)) in
+      subst (λ (x : Option Round). Rolling rows columns g old origin x list v l (Finishes.Ended (u .moves) rest))
+      (sym (k .all ∙ ap (ahead (k .steps)) e ∙ ap (λ (ts : List Step). some (record { steps = ts; next = rest .used })) (append-nil (k .steps))))
       (record {
-        answer = ap (λ (k : ℕ). Finishes.Ended k next) m;
-        stands = subst (λ (ms : List Move). Stands rows columns g (after g (untouched g) ms) old v) (c .moves-are) (o .made .stands);
-        noted = o .made .noted ∙ ap (λ (ms : List Move). sets list 0 (map word ms)) (c .moves-are);
+        supply = rest;
+        answer = ap (λ (n : ℕ). Finishes.Ended n rest) m;
+        reads = c .reads;
+        stands = subst (λ (ms : List Move). Stands rows columns g (after g (untouched g) ms) old v) (k .moves-are) (o .made .stands);
+        noted = o .made .noted ∙ ap (λ (ms : List Move). sets list 0 (map word ms)) (k .moves-are);
       })
 
   module _ (w′ : List ℤ) (list′ : List ℕ) (r : DrawnStep) (h : 0 < u .closed)
-      (q : (s : Position) → Stands rows columns g s old v → Tidy g s → 1 ≤ closedSafe g s → u .closed ≡ closedSafe g s
-      → Stepping rows columns g s old (source next (width (choice false g s))) l u v w′ list′ r) where
+      (q : (s : Position) (next : ℕ) → Stands rows columns g s old v → Tidy g s → 1 ≤ closedSafe g s → u .closed ≡ closedSafe g s → Reads origin next rest
+      → Stepping rows columns g s old origin (source next (width (choice false g s))) l u v w′ list′ r) where
     some-closed : 1 ≤ closedSafe g here
     some-closed = omega (arith, o .made .left-closed)
 
-    came : Stepping rows columns g here old (source next (width (choice false g here))) l u v w′ list′ r
-    came = q here (o .made .stands) (o .made .tidy) some-closed (o .made .left-closed)
+    came : Stepping rows columns g here old origin (source (rest .used) (width (choice false g here))) l u v w′ list′ r
+    came = q here (rest .used) (o .made .stands) (o .made .tidy) some-closed (o .made .left-closed) (c .reads)
 
     -- the draws ran dry
-    pub course-breaks : r ≡ Steps.Dry → Rolling rows columns g old (randomRound g source at) list w′ list′ Finishes.Dry
-    course-breaks y = go (source next (width (choice false g here))) refl came
+    pub course-breaks : r ≡ Steps.Dry → Rolling rows columns g old origin (randomRound g source at) list w′ list′ Finishes.Dry
+    course-breaks y = go (source (rest .used) (width (choice false g here))) refl came
       where
-        go : (x : Option Drawn) → source next (width (choice false g here)) ≡ x → Stepping rows columns g here old x l u v w′ list′ r
-            → Rolling rows columns g old (randomRound g source at) list w′ list′ Finishes.Dry
+        go : (x : Option Drawn) → source (rest .used) (width (choice false g here)) ≡ x → Stepping rows columns g here old origin x l u v w′ list′ r
+            → Rolling rows columns g old origin (randomRound g source at) list w′ list′ Finishes.Dry
         go none e k =
-            let n = partway-more rows columns g (untouched g) old list (fresh safe) (Left g source at next) v l u o some-closed in
+            let n = partway-more rows columns g (untouched g) old list (fresh safe) (Left g source at (rest .used)) v l u o some-closed in
             let f = k .same-list ∙ o .made .noted in
-            subst (λ (x : Option Round). Rolling rows columns g old x list w′ list′ Finishes.Dry)
-            (sym (n .1 .all ∙ ap (ahead (n .1 .steps)) (draws-on (n .0) g source here next some-closed ∙ ap (by-draw (n .0) g source here) e)))
+            subst (λ (x : Option Round). Rolling rows columns g old origin x list w′ list′ Finishes.Dry)
+            (sym (n .1 .all ∙ ap (ahead (n .1 .steps)) (draws-on (n .0) g source here (rest .used) some-closed ∙ ap (by-draw (n .0) g source here) e)))
             (record {
               answer = refl;
               position = here;
@@ -132,13 +173,13 @@ module _ (rows columns : ℕ) (g : Grid) (old : List ℤ) (source : Source) (saf
 
     -- the step went
     module _ (p : Places source) (t′ : Onward) (y : r ≡ Steps.Went t′) where
-      drew : (d : Drawn) × (source next (width (choice false g here)) ≡ some d)
-          × Went rows columns g here old (stepOf g here (choice false g here) (d .place) .moves) (d .next) l u w′ list′ r
-      drew = go (source next (width (choice false g here))) refl came
+      drew : (d : Drawn) × (source (rest .used) (width (choice false g here)) ≡ some d)
+          × Went rows columns g here old origin (stepOf g here (choice false g here) (d .place) .moves) (d .next) l u w′ list′ r
+      drew = go (source (rest .used) (width (choice false g here))) refl came
         where
-          go : (x : Option Drawn) → source next (width (choice false g here)) ≡ x → Stepping rows columns g here old x l u v w′ list′ r
-              → (d : Drawn) × (source next (width (choice false g here)) ≡ some d)
-              × Went rows columns g here old (stepOf g here (choice false g here) (d .place) .moves) (d .next) l u w′ list′ r
+          go : (x : Option Drawn) → source (rest .used) (width (choice false g here)) ≡ x → Stepping rows columns g here old origin x l u v w′ list′ r
+              → (d : Drawn) × (source (rest .used) (width (choice false g here)) ≡ some d)
+              × Went rows columns g here old origin (stepOf g here (choice false g here) (d .place) .moves) (d .next) l u w′ list′ r
           go none e k = let z : _≡_ {A = ℕ} 0 1 = cc (k .answer, y) in absurd (omega arith)
           go (some d) e k = (d, e, k)
 
@@ -146,24 +187,29 @@ module _ (rows columns : ℕ) (g : Grid) (old : List ℤ) (source : Source) (saf
       step = stepOf g here (choice false g here) (drew .0 .place)
 
       fits : Fits g here step
-      fits = drawn-fits g source p here next (drew .0) (o .made .tidy) some-closed (drew .1)
+      fits = drawn-fits g source p here (rest .used) (drew .0) (o .made .tidy) some-closed (drew .1)
 
-      -- what it handed on is the state after it, and where its draw left off
-      went : Made rows columns g here old (step .moves) l u w′ list′ (t′ .state) × (t′ .next ≡ drew .0 .next)
+      -- what it handed on is the state after it, and the supply where its draw left off
+      went : Made rows columns g here old (step .moves) l u w′ list′ (t′ .state) × Reads origin (drew .0 .next) (t′ .supply)
       went =
-          let k : record { state = drew .2 .state; next = drew .0 .next } ≡ t′ = cc (drew .2 .answer, y) in
-          (subst (λ (z : Onward). Made rows columns g here old (step .moves) l u w′ list′ (z .state)) k (drew .2 .made), sym (ap (λ (z : Onward). z .next) k))
+          let k : record { state = drew .2 .state; supply = drew .2 .supply } ≡ t′ = cc (drew .2 .answer, y) in (
+            subst (λ (z : Onward). Made rows columns g here old (step .moves) l u w′ list′ (z .state)) k (drew .2 .made),
+            subst (λ (z : Onward). Reads origin (drew .0 .next) (z .supply)) k (drew .2 .reads),
+          )
 
       pub course-falls : t′ .state .closed < u .closed
-      course-falls = partway-falls rows columns g (untouched g) old list (fresh safe) (Left g source at next) v l u o step fits w′ list′ (t′ .state) (went .0)
+      course-falls = partway-falls rows columns g (untouched g) old list (fresh safe) (Left g source at (rest .used)) v l u o step fits w′ list′ (t′ .state) (went .0)
 
-      pub course-goes-on : Partway rows columns g (untouched g) old list (fresh safe) (Left g source at (t′ .next)) w′ list′ (t′ .state)
+      pub course-goes-on : Course rows columns g old origin source safe at list w′ list′ (t′ .state) (t′ .supply)
       course-goes-on =
-          partway-goes-on rows columns g (untouched g) old list (fresh safe) (Left g source at next) v l u o step fits w′ list′ (t′ .state) (went .0) (Left g source at (t′ .next)) (λ k c.
           record {
-            steps = c .steps ++ step ∷ [];
-            moves-are = ap (λ (ms : List Move). ms ++ step .moves) (c .moves-are) ∙ sym (moves-one (c .steps) step);
-            all = c .all ∙ ap (ahead (c .steps)) (draws-on k g source here next some-closed ∙ ap (by-draw k g source here) (drew .1))
-                ∙ ahead-before (c .steps) step (randomFrom k g source (afterStep g here step) (drew .0 .next))
-                ∙ ap₂ (λ x j. ahead (c .steps ++ step ∷ []) (randomFrom k g source x j)) (sym (after-append g (o .done) (step .moves) (untouched g))) (sym (went .1));
-          })
+            way = partway-goes-on rows columns g (untouched g) old list (fresh safe) (Left g source at (rest .used)) v l u o step fits w′ list′ (t′ .state) (went .0) (Left g source at (t′ .supply .used)) (λ k c.
+                record {
+                  steps = c .steps ++ step ∷ [];
+                  moves-are = ap (λ (ms : List Move). ms ++ step .moves) (c .moves-are) ∙ sym (moves-one (c .steps) step);
+                  all = c .all ∙ ap (ahead (c .steps)) (draws-on k g source here (rest .used) some-closed ∙ ap (by-draw k g source here) (drew .1))
+                      ∙ ahead-before (c .steps) step (randomFrom k g source (afterStep g here step) (drew .0 .next))
+                      ∙ ap₂ (λ x j. ahead (c .steps ++ step ∷ []) (randomFrom k g source x j)) (sym (after-append g (o .done) (step .moves) (untouched g))) (sym (went .1 .used-is));
+                });
+            reads = at-used origin (drew .0 .next) (t′ .supply) (went .1);
+          }

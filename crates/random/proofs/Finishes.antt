@@ -1,17 +1,12 @@
--- What a random round or search came to, as an answer. Assumes nothing.
+-- What a random round or search came to, told apart by its answer. Assumes nothing.
 use Prim.Native.Nat.{ℕ}
 use native.Mathlib.Omega.{arith}
 use mathlib.Core.Path.{_≡_, ap}
-use mathlib.Core.List.{[], _∷_}
-use Rattle.game.specs.Calls.{Answer, draws, gives, refuses}
+use Rattle.supplies.specs.declared.Supply.{Supply}
+use Rattle.random.specs.Promises.{finishAnswer}
 use Rattle.random.specs.declared.Finish.{Finish}
 use Rattle.random.specs.declared.Finish.the-variants.{Dry, Ended}
 
--- the answer to be given for it
-abbrev pub answerOf : Finish → Answer
-answerOf (Ended n k) = gives (n ∷ k ∷ [])
-answerOf Dry = refuses draws
-
 -- one that ended did not run dry
-pub differ : (n k : ℕ) → Ended n k ≡ Dry → ⊥
-differ n k e = let q : _≡_ {A = ℕ} 0 6 = ap (λ (r : Finish). answerOf r .number) e in omega arith
+pub differ : (n : ℕ) (s : Supply) → Ended n s ≡ Dry → ⊥
+differ n s e = let q : _≡_ {A = ℕ} 0 6 = ap (λ (r : Finish). finishAnswer r .number) e in omega arith

@@ -1,3 +1,4 @@
+pub mod Supplies
 pub mod Takes
 pub mod Courses
 pub mod Searches

@@ -1,9 +1,9 @@
 -- A step at a drawn cell: the draw is among the cells of the choice, and the cell at the drawn place may be taken. Assumes nothing.
 use Rattle.moves.specs.declared.State.{State}
-use Rattle.draws.specs.declared.Drawn.{Drawn}
-use Rattle.draws.specs.declared.Drawn.the-variants.{Place, Short}
+use Rattle.supplies.specs.declared.Supply.{Supply}
+use Rattle.supplies.specs.declared.Dealt.{Dealt}
+use Rattle.supplies.specs.declared.Dealt.the-variants as Deals
 use Rattle.random.specs.declared.DrawnStep.the-variants.{Dry, Went}
-use Rattle.game.specs.Draws as Game
 use Prim.Native.Nat.{ℕ, _*_, _<_, _≤_}
 use native.Mathlib.Omega.{arith}
 use native.Mathlib.Decide.{decLt}
@@ -11,21 +11,21 @@ use native.Mathlib.Nat.{mul-le-mul-left}
 use mathlib.Core.Path.{_∙_, _≡_, ap, refl, subst, sym}
 use mathlib.Core.Bool.{Bool, cond, false}
 use mathlib.Core.List.{List, [], _∷_}
-use mathlib.Core.Option.{Option}
+use mathlib.Core.Option.{Option, none, some}
 use lib.Dec.{T, ltb, ltb→lt, lt→ltb, nltb→le}
 use lib.IntN.{ℤ}
 use lib.ListN.{List·getD-eq-default, getD, length}
 use Rattle.area.specs.Stages.{Shape}
 use Rattle.ties.specs.Candidates.{candidateAt, candidatesOf, forClick}
 use Rattle.choices.specs.Tops.{TopsKnown, UnitsKnown}
-use Rattle.draws.specs.Answers.{drawnOf}
-use Rattle.game.specs.Draws.{Places, Source}
+use Rattle.supplies.specs.Origins.{Dealing, DrawGrows, GrownBy, Origin, Reads}
+use Rattle.game.specs.Draws.{Drawn, Places, Source}
 use Rattle.game.specs.Grid.{Grid, safe, zeroCell}
 use Rattle.game.specs.Lists.{count, has, keep, range}
 use Rattle.game.specs.Moves.{Move, left}
 use Rattle.game.specs.Position.{Position, Tidy, closed, closedSafe}
 use Rattle.game.specs.Rounds.{Choice, choice, chords, clicks, movesAt, stepOf, topCells, unitCells, width}
-use Rattle.random.specs.Promises.{Stepping, Tells, takenMoves}
+use Rattle.random.specs.Promises.{StepGrows, Stepping, Tells, takenMoves}
 use Rattle.moves.specs.Promises.{Made}
 use Rattle.rounds.specs.Promises.{MadeKnown}
 use Rattle.game.proofs.Choices.{Top, looked→, never-stuck, premium-pays, top→, unit→}
@@ -120,23 +120,47 @@ module _ (g : Grid) (s : Position) (w : List ℤ) (cells top : ℕ) (tells : Tel
       let b = made (a .is-safe) (a .shut) (a .no-zero) in
       (subst (λ (ms : List Move). Made rows columns g s old ms list t w′ list′ r) (a .same) (b .made), b .kept kept, b .units-kept units units-kept)
 
--- what a step comes to, by what its source drew among as many as the choice is among
-module _ (rows columns : ℕ) (g : Grid) (s : Position) (old w : List ℤ) (source : Source) (next n : ℕ) (list : List ℕ) (t : State) (d : Drawn) (wide : n ≡ width (choice false g s)) (drew : drawnOf d ≡ source next n) where
-  drawn-so : drawnOf d ≡ source next (width (choice false g s))
-  drawn-so = drew ∙ ap (source next) wide
+-- what a step comes to, by what a supply dealt among as many as the choice is among
+module _ (rows columns : ℕ) (g : Grid) (s : Position) (old w : List ℤ) (origin : Origin) (source : Source) (at n : ℕ) (list : List ℕ) (t : State) (r : Dealt)
+    (wide : n ≡ width (choice false g s)) (dealt : Dealing origin (source at n) r) where
+  dealt-so : Dealing origin (source at (width (choice false g s))) r
+  dealt-so = subst (λ (k : ℕ). Dealing origin (source at k) r) wide dealt
 
-  pub step-dry : d ≡ Short → Stepping rows columns g s old (source next (width (choice false g s))) list t w w list Dry
-  step-dry e =
-      subst (λ (o : Option Game.Drawn). Stepping rows columns g s old o list t w w list Dry) (sym (ap drawnOf e) ∙ drawn-so)
-      (record { answer = refl; same-work = refl; same-list = refl })
+  pub step-dry : r ≡ Deals.Dry → Stepping rows columns g s old origin (source at (width (choice false g s))) list t w w list Dry
+  step-dry e = go (source at (width (choice false g s))) dealt-so
+    where
+      go : (o : Option Drawn) → Dealing origin o r → Stepping rows columns g s old origin o list t w w list Dry
+      go none q = record { answer = refl; same-work = refl; same-list = refl }
+      go (some d) q = let z : _≡_ {A = ℕ} 0 1 = cc (q .answer, e) in absurd (omega arith)
 
-  module _ (p k : ℕ) (e : d ≡ Place p k) where
+  module _ (p : ℕ) (rest : Supply) (e : r ≡ Deals.Place p rest) where
+    drew : (d : Drawn) × (source at (width (choice false g s)) ≡ some d) × (d .place ≡ p) × Reads origin (d .next) rest
+    drew = go (source at (width (choice false g s))) refl dealt-so
+      where
+        go : (o : Option Drawn) → source at (width (choice false g s)) ≡ o → Dealing origin o r → (d : Drawn) × (source at (width (choice false g s)) ≡ some d) × (d .place ≡ p) × Reads origin (d .next) rest
+        go none f q = let z : _≡_ {A = ℕ} 0 1 = cc (q, e) in absurd (omega arith)
+        go (some d) f q = (d, f, cc (q .answer, e), let z : q .supply ≡ rest = cc (q .answer, e) in subst (Reads origin (d .next)) z (q .reads))
+
     pub drawn-inside : Places source → Tidy g s → 1 ≤ closedSafe g s → p < width (choice false g s)
-    drawn-inside c f h =
-        c .inside next (width (choice false g s)) (record { place = p; next = k }) (never-stuck false g s f h) (sym (sym (ap drawnOf e) ∙ drawn-so))
+    drawn-inside c f h = rw (← drew .2) (c .inside at (width (choice false g s)) (drew .0) (never-stuck false g s f h) (drew .1))
 
-    pub step-went : (w′ : List ℤ) (list′ : List ℕ) (r : State) → Made rows columns g s old (stepOf g s (choice false g s) p .moves) list t w′ list′ r
-        → Stepping rows columns g s old (source next (width (choice false g s))) list t w w′ list′ (Went (record { state = r; next = k }))
-    step-went w′ list′ r m =
-        subst (λ (o : Option Game.Drawn). Stepping rows columns g s old o list t w w′ list′ (Went (record { state = r; next = k }))) (sym (ap drawnOf e) ∙ drawn-so)
-        (record { state = r; answer = refl; made = m })
+    pub step-went : (w′ : List ℤ) (list′ : List ℕ) (t′ : State) → Made rows columns g s old (stepOf g s (choice false g s) p .moves) list t w′ list′ t′
+        → Stepping rows columns g s old origin (source at (width (choice false g s))) list t w w′ list′ (Went (record { state = t′; supply = rest }))
+    step-went w′ list′ t′ m =
+        subst (λ (o : Option Drawn). Stepping rows columns g s old origin o list t w w′ list′ (Went (record { state = t′; supply = rest }))) (sym (drew .1))
+        (record {
+          state = t′;
+          supply = rest;
+          answer = refl;
+          reads = drew .3;
+          made = subst (λ (k : ℕ). Made rows columns g s old (stepOf g s (choice false g s) k .moves) list t w′ list′ t′) (sym (drew .2)) m;
+        })
+
+-- a step that went uses as much of a key as its draw
+pub went-grows : (s : Supply) (r : Dealt) (p : ℕ) (rest : Supply) (t : State) → DrawGrows s r → r ≡ Deals.Place p rest → StepGrows s (Went (record { state = t; supply = rest }))
+went-grows s r p rest t d e =
+    record { went = λ o f. let q : rest ≡ o .supply = cc f in subst (GrownBy 256 s) q (d .took p rest e) }
+
+-- one that ran dry says nothing of it
+pub dry-grows : (s : Supply) → StepGrows s Dry
+dry-grows s = record { went = λ o f. let z : _≡_ {A = ℕ} 0 1 = cc f in absurd (omega arith) }

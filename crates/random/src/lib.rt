@@ -1,12 +1,13 @@
 // Random steps, rounds and searches on a work area that stands for a position.
-use draws::Drawn;
 use draws::Mode;
 use moves::State;
 use rounds::steps;
+use supplies::Dealt;
+use supplies::Supply;
 ghost use mathlib.Core.Path.{_≡_};
 ghost use mathlib.Core.Bool.{cond, false};
 ghost use mathlib.Core.List.{List, []};
-ghost use Prim.Native.Nat.{_*_, _^_, _<_, _≤_};
+ghost use Prim.Native.Nat.{ℕ, _*_, _^_, _<_, _≤_};
 ghost use lib.Dec.{T, eqb};
 ghost use lib.IntN.{ℤ};
 ghost use lib.ListN.{length};
@@ -14,14 +15,14 @@ ghost use Rattle.area.specs.Numbers.{HasCells};
 ghost use Rattle.game.specs.Grid.{Grid, safe, zeroCell};
 ghost use Rattle.game.specs.Position.{Position, Tidy, closed as isClosed, closedSafe, untouched};
 ghost use Rattle.game.specs.Moves.{Move, after};
-ghost use Rattle.game.specs.Draws.{lent};
 ghost use Rattle.game.specs.Rounds.{choice, stepOf, topCells, width, randomRound, randomSearch, searchFrom};
 ghost use Rattle.draws.specs.Answers.{modeOf};
 ghost use Rattle.area.specs.Stages.{Shape, Stands};
+ghost use Rattle.supplies.specs.Origins.{KeyRoom, Origin, Reads, Somewhere, sourceOf};
 ghost use Rattle.choices.specs.Tops.{TopsKnown, UnitsKnown};
 ghost use Rattle.moves.specs.Promises.{Made};
 ghost use Rattle.rounds.specs.Promises.{MadeKnown, Fresh};
-ghost use Rattle.random.specs.Promises.{CountsSafe, Tells, takenMoves, once, Stepping, Rolling, Searching};
+ghost use Rattle.random.specs.Promises.{CountsSafe, Tells, takenMoves, once, RoundGrows, StepGrows, Stepping, Rolling, Searching};
 
 // What a step draws among: so many cells, and the highest raised premium; below 10 the step is one L.
 struct Candidates {
@@ -29,10 +30,10 @@ struct Candidates {
     count: usize,
 }
 
-// What a step hands on: the state after it, and the place at which the next draw reads on.
+// What a step hands on: the state after it, and the supply that the next draw reads on from.
 pub struct Onward {
     pub state: State,
-    pub next: usize,
+    pub supply: Supply,
 }
 
 // A step was made, or the draws ran dry.
@@ -41,9 +42,9 @@ pub enum DrawnStep {
     Dry,
 }
 
-// How a round or a search ends: its clicks and the place after the last draw, or the draws ran dry.
+// How a round or a search ends: its clicks and the supply after the last draw, or the draws ran dry.
 pub enum Finish {
-    Ended(usize, usize),
+    Ended(usize, Supply),
     Dry,
 }
 
@@ -114,7 +115,7 @@ fn take_place(
     take(work, rows, columns, list, tops, state, top, index)
 }
 
-// A step: the candidates are counted, one is drawn, from the place next on, and the drawn one is taken.
+// A step: the candidates are counted, one is drawn from the supply, and the drawn one is taken.
 pub fn step(
     work: &mut [i32],
     rows: usize,
@@ -125,28 +126,30 @@ pub fn step(
     tops: &mut [u8],
     units: &mut [u8],
     state: State,
-    next: usize,
+    supply: Supply,
 ) -> DrawnStep
     requires { ⌜ Shape rows columns ⌝ }
     requires { ⌜ HasCells (now work) (rows * columns) × (state .moves ≤ 2 ^ 45) ⌝ }
     requires { ⌜ TopsKnown false (now work) rows columns (now tops) × UnitsKnown (now work) rows columns (now tops) (now units) ⌝ }
-    ensures { λ r. ⌜ ((g : Grid) (s : Position) (old : List ℤ) → Stands rows columns g s old (now (work .entry)) → Tidy g s
-        → 1 ≤ closedSafe g s → state .closed ≡ closedSafe g s
-        → Stepping rows columns g s old (lent (modeOf mode) (now (draws .entry)) next (width (choice false g s))) (now (list .entry)) state (now (work .entry)) (now (work .exit)) (now (list .exit)) r
+    requires { ⌜ KeyRoom 256 supply ⌝ }
+    ensures { λ r. ⌜ StepGrows supply r ⌝ }
+    ensures { λ r. ⌜ ((g : Grid) (s : Position) (old : List ℤ) (origin : Origin) (at : ℕ) → Stands rows columns g s old (now (work .entry)) → Tidy g s
+        → 1 ≤ closedSafe g s → state .closed ≡ closedSafe g s → Reads origin at supply
+        → Stepping rows columns g s old origin (sourceOf (modeOf mode) (now (draws .entry)) origin at (width (choice false g s))) (now (list .entry)) state (now (work .entry)) (now (work .exit)) (now (list .exit)) r
         × TopsKnown false (now (work .exit)) rows columns (now (tops .exit))
         × UnitsKnown (now (work .exit)) rows columns (now (tops .exit)) (now (units .exit))) ⌝ }
 {
     let candidates = count_candidates(work, rows, columns, tops, units);
     let count = candidates.count;
     let top = candidates.top;
-    let drawn = draw_reader::draw_from(draws, next, mode, count);
-    let Drawn::Place(place, after) = drawn else {
+    let dealt = supplies::draw(draws, mode, supply, count);
+    let Dealt::Place(place, rest) = dealt else {
         return DrawnStep::Dry;
     };
     let taken = take_place(work, rows, columns, list, tops, units, state, top, place);
     DrawnStep::Went(Onward {
         state: taken,
-        next: after,
+        supply: rest,
     })
 }
 
@@ -161,20 +164,22 @@ fn roll_on(
     tops: &mut [u8],
     units: &mut [u8],
     safe: usize,
-    next: usize,
+    supply: Supply,
 ) -> Finish
     requires { ⌜ Shape rows columns ⌝ }
     requires { ⌜ HasCells (now work) (rows * columns) ⌝ }
     requires { ⌜ Fresh rows columns (now work) safe ⌝ }
+    requires { ⌜ KeyRoom (2 ^ 24) supply × Somewhere supply ⌝ }
     requires { ⌜ TopsKnown false (now work) rows columns (now tops) × UnitsKnown (now work) rows columns (now tops) (now units) ⌝ }
-    ensures { λ r. ⌜ ((g : Grid) (old : List ℤ) → Stands rows columns g (untouched g) old (now (work .entry))
-        → Rolling rows columns g old (randomRound g (lent (modeOf mode) (now (draws .entry))) next) (now (list .entry)) (now (work .exit)) (now (list .exit)) r) ⌝ }
+    ensures { λ r. ⌜ RoundGrows supply r ⌝ }
+    ensures { λ r. ⌜ ((g : Grid) (old : List ℤ) (origin : Origin) (at : ℕ) → Stands rows columns g (untouched g) old (now (work .entry)) → Reads origin at supply
+        → Rolling rows columns g old origin (randomRound g (sourceOf (modeOf mode) (now (draws .entry)) origin) at) (now (list .entry)) (now (work .exit)) (now (list .exit)) r) ⌝ }
 {
     let mut state = State {
         moves: 0,
         closed: safe,
     };
-    let mut at = next;
+    let mut rest = supply;
     while 0 < state.closed {
         let stepped = step(
             work,
@@ -186,18 +191,18 @@ fn roll_on(
             tops,
             units,
             state,
-            at,
+            rest,
         );
         let DrawnStep::Went(onward) = stepped else {
             return Finish::Dry;
         };
         state = onward.state;
-        at = onward.next;
+        rest = onward.supply;
     }
-    Finish::Ended(state.moves, at)
+    Finish::Ended(state.moves, rest)
 }
 
-// A round from the position before any move, of so many safe cells, that reads its draws from a place on.
+// A round from the position before any move, of so many safe cells, that draws from a supply.
 pub fn round(
     work: &mut [i32],
     rows: usize,
@@ -206,13 +211,15 @@ pub fn round(
     draws: &[u8],
     mode: Mode,
     safe: usize,
-    next: usize,
+    supply: Supply,
 ) -> Finish
     requires { ⌜ Shape rows columns ⌝ }
     requires { ⌜ HasCells (now work) (rows * columns) ⌝ }
     requires { ⌜ Fresh rows columns (now work) safe ⌝ }
-    ensures { λ r. ⌜ ((g : Grid) (old : List ℤ) → Stands rows columns g (untouched g) old (now (work .entry))
-        → Rolling rows columns g old (randomRound g (lent (modeOf mode) (now (draws .entry))) next) (now (list .entry)) (now (work .exit)) (now (list .exit)) r) ⌝ }
+    requires { ⌜ KeyRoom (2 ^ 24) supply × Somewhere supply ⌝ }
+    ensures { λ r. ⌜ RoundGrows supply r ⌝ }
+    ensures { λ r. ⌜ ((g : Grid) (old : List ℤ) (origin : Origin) (at : ℕ) → Stands rows columns g (untouched g) old (now (work .entry)) → Reads origin at supply
+        → Rolling rows columns g old origin (randomRound g (sourceOf (modeOf mode) (now (draws .entry)) origin) at) (now (list .entry)) (now (work .exit)) (now (list .exit)) r) ⌝ }
 {
     let mut tops = [0u8; 255];
     let mut units = [0u8; 255];
@@ -226,7 +233,7 @@ pub fn round(
         &mut tops,
         &mut units,
         safe,
-        next,
+        supply,
     )
 }
 
@@ -238,16 +245,18 @@ fn unlisted(
     draws: &[u8],
     mode: Mode,
     safe: usize,
-    next: usize,
+    supply: Supply,
 ) -> Finish
     requires { ⌜ Shape rows columns ⌝ }
     requires { ⌜ HasCells (now work) (rows * columns) ⌝ }
     requires { ⌜ Fresh rows columns (now work) safe ⌝ }
-    ensures { λ r. ⌜ ((g : Grid) (old : List ℤ) → Stands rows columns g (untouched g) old (now (work .entry))
-        → Searching rows columns g old (once (randomRound g (lent (modeOf mode) (now (draws .entry))) next)) (now (work .exit)) r) ⌝ }
+    requires { ⌜ KeyRoom (2 ^ 24) supply × Somewhere supply ⌝ }
+    ensures { λ r. ⌜ RoundGrows supply r ⌝ }
+    ensures { λ r. ⌜ ((g : Grid) (old : List ℤ) (origin : Origin) (at : ℕ) → Stands rows columns g (untouched g) old (now (work .entry)) → Reads origin at supply
+        → Searching rows columns g old origin (once (randomRound g (sourceOf (modeOf mode) (now (draws .entry)) origin) at)) (now (work .exit)) r) ⌝ }
 {
     let mut none = [0u32; 0];
-    round(work, rows, columns, &mut none, draws, mode, safe, next)
+    round(work, rows, columns, &mut none, draws, mode, safe, supply)
 }
 
 // One more round: the labels stay, and the position is the one before any move again.
@@ -258,26 +267,28 @@ fn again(
     draws: &[u8],
     mode: Mode,
     safe: usize,
-    next: usize,
+    supply: Supply,
 ) -> Finish
     requires { ⌜ Shape rows columns ⌝ }
     requires { ⌜ HasCells (now work) (rows * columns) ⌝ }
     requires { ⌜ CountsSafe rows columns (now work) safe ⌝ }
-    ensures { λ r. ⌜ ((g : Grid) (s : Position) (old : List ℤ) → Stands rows columns g s old (now (work .entry))
-        → Searching rows columns g old (once (randomRound g (lent (modeOf mode) (now (draws .entry))) next)) (now (work .exit)) r) ⌝ }
+    requires { ⌜ KeyRoom (2 ^ 24) supply × Somewhere supply ⌝ }
+    ensures { λ r. ⌜ RoundGrows supply r ⌝ }
+    ensures { λ r. ⌜ ((g : Grid) (s : Position) (old : List ℤ) (origin : Origin) (at : ℕ) → Stands rows columns g s old (now (work .entry)) → Reads origin at supply
+        → Searching rows columns g old origin (once (randomRound g (sourceOf (modeOf mode) (now (draws .entry)) origin) at)) (now (work .exit)) r) ⌝ }
 {
     start::begin::reset(work, rows, columns);
-    unlisted(work, rows, columns, draws, mode, safe, next)
+    unlisted(work, rows, columns, draws, mode, safe, supply)
 }
 
-// The rounds still to play: none after one that stayed at its place, since each later one would be the same.
+// The rounds still to play: none after one that used nothing, since each later one would be the same.
 fn rounds_left(rounds: usize, began: usize, next: usize) -> usize
     ensures { λ r. ⌜ (r ≡ cond (eqb next began) 0 rounds) × (r ≤ rounds) ⌝ }
 {
     if next == began { 0 } else { rounds }
 }
 
-// So many rounds more, after those that came to these least clicks and this place.
+// So many rounds more, after those that came to these least clicks and this supply.
 fn search_on(
     work: &mut [i32],
     rows: usize,
@@ -286,28 +297,29 @@ fn search_on(
     mode: Mode,
     safe: usize,
     clicks: usize,
-    next: usize,
+    supply: Supply,
     more: usize,
 ) -> Finish
     requires { ⌜ Shape rows columns ⌝ }
     requires { ⌜ HasCells (now work) (rows * columns) ⌝ }
     requires { ⌜ CountsSafe rows columns (now work) safe ⌝ }
-    ensures { λ r. ⌜ ((g : Grid) (old : List ℤ) (ms : List Move) → Stands rows columns g (after g (untouched g) ms) old (now (work .entry))
-        → Searching rows columns g old (searchFrom more g (lent (modeOf mode) (now (draws .entry))) (record { least = clicks; next = next; moves = ms })) (now (work .exit)) r) ⌝ }
+    requires { ⌜ KeyRoom (2 ^ 24 * more) supply × Somewhere supply ⌝ }
+    ensures { λ r. ⌜ ((g : Grid) (old : List ℤ) (ms : List Move) (origin : Origin) (at : ℕ) → Stands rows columns g (after g (untouched g) ms) old (now (work .entry)) → Reads origin at supply
+        → Searching rows columns g old origin (searchFrom more g (sourceOf (modeOf mode) (now (draws .entry)) origin) (record { least = clicks; next = at; moves = ms })) (now (work .exit)) r) ⌝ }
 {
     let mut least = clicks;
-    let mut at = next;
+    let mut rest = supply;
     let mut left = more;
     while 0 < left {
-        let rolled = again(work, rows, columns, draws, mode, safe, at);
+        let rolled = again(work, rows, columns, draws, mode, safe, rest);
         let Finish::Ended(paid, onward) = rolled else {
             return Finish::Dry;
         };
         least = area::fewer(least, paid);
-        left = rounds_left(left - 1, at, onward);
-        at = onward;
+        left = rounds_left(left - 1, rest.used, onward.used);
+        rest = onward;
     }
-    Finish::Ended(least, at)
+    Finish::Ended(least, rest)
 }
 
 // So many rounds one after another through the same draws: the least clicks.
@@ -318,18 +330,20 @@ pub fn search(
     draws: &[u8],
     mode: Mode,
     safe: usize,
+    supply: Supply,
     rounds: usize,
 ) -> Finish
     requires { ⌜ Shape rows columns ⌝ }
     requires { ⌜ HasCells (now work) (rows * columns) × (1 ≤ rounds) ⌝ }
     requires { ⌜ Fresh rows columns (now work) safe ⌝ }
-    ensures { λ r. ⌜ ((g : Grid) (old : List ℤ) → Stands rows columns g (untouched g) old (now (work .entry))
-        → Searching rows columns g old (randomSearch g (lent (modeOf mode) (now (draws .entry))) rounds) (now (work .exit)) r) ⌝ }
+    requires { ⌜ KeyRoom (2 ^ 24 * rounds) supply × Somewhere supply ⌝ }
+    ensures { λ r. ⌜ ((g : Grid) (old : List ℤ) (origin : Origin) → Stands rows columns g (untouched g) old (now (work .entry)) → Reads origin 0 supply
+        → Searching rows columns g old origin (randomSearch g (sourceOf (modeOf mode) (now (draws .entry)) origin) rounds) (now (work .exit)) r) ⌝ }
 {
-    let rolled = unlisted(work, rows, columns, draws, mode, safe, 0);
-    let Finish::Ended(clicks, next) = rolled else {
+    let rolled = unlisted(work, rows, columns, draws, mode, safe, supply);
+    let Finish::Ended(clicks, rest) = rolled else {
         return Finish::Dry;
     };
-    let more = rounds_left(rounds - 1, 0, next);
-    search_on(work, rows, columns, draws, mode, safe, clicks, next, more)
+    let more = rounds_left(rounds - 1, supply.used, rest.used);
+    search_on(work, rows, columns, draws, mode, safe, clicks, rest, more)
 }

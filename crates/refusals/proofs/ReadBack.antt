@@ -9,11 +9,11 @@ use mathlib.Mathlib.Logic.Function.Defs.{LeftInverse·injective}
 use borrow.Author.Tests.{ne-eqb}
 use lib.Dec.{eqb}
 use lib.ListN.{getD, length}
-use Rattle.game.specs.Calls.{Answer, board, draws, file-wrong, frame, move, namedBy, number-wrong, numberOf, refuses, rounds, shape, size-over, trace, work}
+use Rattle.game.specs.Calls.{Answer, board, draws, file-wrong, frame, key-blank, move, namedBy, number-wrong, numberOf, refuses, rounds, shape, size-over, trace, work}
 use Rattle.game.specs.Calls as Game
 use Rattle.refusals.specs.Names.{named, refusalOf}
 use Rattle.refusals.specs.declared.Refusal.{Refusal}
-use Rattle.refusals.specs.declared.Refusal.the-variants.{Shape, Board, Work, Trace, Rounds, Draws, Move, Frame, Size, File, Number}
+use Rattle.refusals.specs.declared.Refusal.the-variants.{Shape, Board, Work, Trace, Rounds, Draws, Move, Frame, Size, File, Number, Key}
 use Rattle.refusals.specs.declared.Checked.{Checked}
 use Rattle.refusals.specs.declared.Checked.the-variants.{Fine, Refused}
 
@@ -21,7 +21,7 @@ use Rattle.refusals.specs.declared.Checked.the-variants.{Fine, Refused}
 abbrev pub refusalBy : Answer → Refusal
 refusalBy a =
     let n = a .number in
-    cond (eqb n 1) Shape (cond (eqb n 2) Board (cond (eqb n 3) Work (cond (eqb n 4) Trace (cond (eqb n 5) Rounds (cond (eqb n 6) Draws (cond (eqb n 7) Move (cond (eqb n 8) Frame (cond (eqb n 9) Size (cond (eqb n 10) File (Number (getD (a .values) 0 0)))))))))))
+    cond (eqb n 1) Shape (cond (eqb n 2) Board (cond (eqb n 3) Work (cond (eqb n 4) Trace (cond (eqb n 5) Rounds (cond (eqb n 6) Draws (cond (eqb n 7) Move (cond (eqb n 8) Frame (cond (eqb n 9) Size (cond (eqb n 10) File (cond (eqb n 11) (Number (getD (a .values) 0 0)) Key))))))))))
 
 -- a refusal is read back from its number and what it names
 pub number-back : (f : Refusal) → refusalBy (refuses (named f)) ≡ f
@@ -36,6 +36,7 @@ number-back Frame = refl
 number-back Size = refl
 number-back File = refl
 number-back (Number cell) = refl
+number-back Key = refl
 
 -- no refusal's number is 0
 pub numbered : (f : Game.Refusal) → 1 ≤ numberOf f
@@ -50,6 +51,7 @@ numbered frame = omega arith
 numbered size-over = omega arith
 numbered file-wrong = omega arith
 numbered (number-wrong cell) = omega arith
+numbered key-blank = omega arith
 
 -- a refusal names one thing at most
 pub names-one : (f : Game.Refusal) → length (namedBy f) ≤ 1
@@ -64,6 +66,7 @@ names-one frame = omega arith
 names-one size-over = omega arith
 names-one file-wrong = omega arith
 names-one (number-wrong cell) = omega arith
+names-one key-blank = omega arith
 
 -- the checks' verdict: the refusal determines it
 pub checked-once : (o : Option Game.Refusal) (r r′ : Checked) → refusalOf r ≡ o → refusalOf r′ ≡ o → r ≡ r′

@@ -16,6 +16,7 @@ pub enum Refusal {
     Size,
     File,
     Number(usize),
+    Key,
 }
 
 // What checks say.
@@ -40,5 +41,6 @@ pub fn number_of(refusal: Refusal) -> u8
         Refusal::Size => 9,
         Refusal::File => 10,
         Refusal::Number(_) => 11,
+        Refusal::Key => 12,
     }
 }

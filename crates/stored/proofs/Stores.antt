@@ -1,13 +1,14 @@
 -- Stored move lists: what is written is read back the same, and what is read was written so. Assumes nothing.
 use Prim.Native.Nat.{ℕ, _+_, _*_, _/_, _%_, _<_, _≤_}
 use native.Mathlib.Omega.{arith}
-use mathlib.Core.Path.{_≡_, ap, refl, _∙_}
+use mathlib.Core.Path.{_≡_, ap, ap₂, refl, _∙_}
 use mathlib.Core.List.{List, [], _∷_}
 use mathlib.Core.Option.{none}
 use lib.Dec.{ltb}
 use lib.ListN.{drop, getD, length, length-drop}
 use Rattle.game.specs.Lists.{Each, concat-map}
 use Rattle.game.specs.Calls.{firstGiven, trace}
+use Rattle.game.proofs.KeyDraws.{four-back}
 use Rattle.hex.specs.Hex.{byteDigits, bytesOf, hexDigit}
 use Rattle.stored.specs.MoveLine.{moveLine, moveLineChecks, storedOf, wordBytes, wordsOf}
 use Rattle.hex.proofs.Bytes.{length-bytes}
@@ -26,18 +27,9 @@ words-small : (ws : List ℕ) → Below 256 (concat-map wordBytes ws)
 words-small [] = tt
 words-small (w ∷ ws) = (omega arith, (omega arith, (omega arith, (omega arith, words-small ws))))
 
--- a number by its four bytes
-by-bytes : (w p q r a b c d : ℕ) → w ≡ 256 * p + d → p ≡ 256 * q + c → q ≡ 256 * r + b → r ≡ a → 16777216 * a + 65536 * b + 256 * c + d ≡ w
-by-bytes w p q r a b c d e f g h = omega arith
-
-word-back : (w : ℕ) → w < 4294967296 → 16777216 * (w / 16777216 % 256) + 65536 * (w / 65536 % 256) + 256 * (w / 256 % 256) + w % 256 ≡ w
-word-back w h =
-    by-bytes w (w / 256) (w / 65536) (w / 16777216) (w / 16777216 % 256) (w / 65536 % 256) (w / 256 % 256) (w % 256) (omega arith) (omega arith) (omega arith) (omega arith)
-
 words-back : (ws : List ℕ) → Below 4294967296 ws → wordsOf (concat-map wordBytes ws) ≡ ws
 words-back [] s = refl
-words-back (w ∷ ws) s =
-    λ i. word-back w (s .0) i ∷ words-back ws (s .1) i
+words-back (w ∷ ws) s = ap₂ (λ (v : ℕ) (vs : List ℕ). v ∷ vs) (omega (arith, four-back w (s .0))) (words-back ws (s .1))
 
 moves-back : (bs : List ℕ) → Below 256 bs → length bs % 4 ≡ 0 → concat-map wordBytes (wordsOf bs) ≡ bs
 moves-back [] s h = refl

@@ -1,15 +1,18 @@
 // The strict form of each call: it takes only -1 for a mine and, for a safe cell, exactly its number. NUMBER names the lowest cell at fault; on any other grid the call does what the present one does.
 use answers::Counted;
+use answers::KeyRolled;
 use answers::Priced;
 use answers::Replayed;
 use answers::Rolled;
 use draws::Mode;
+use keys::Key;
 use refusals::Checked;
 ghost use mathlib.Core.Bool.{false, true};
-ghost use Rattle.game.specs.Calls.{strictPriceCall, strictRandomRoundCall, strictRandomSearchCall, strictReplayCall, strictThreeBVCall};
+ghost use Rattle.game.specs.Calls.{strictKeyedRoundCall, strictKeyedSearchCall, strictPriceCall, strictRandomRoundCall, strictRandomSearchCall, strictReplayCall, strictThreeBVCall};
 ghost use Rattle.draws.specs.Answers.{modeOf};
+ghost use Rattle.keys.specs.Stands.{keyOf};
 ghost use Rattle.area.specs.Numbers.{gridOf};
-ghost use Rattle.answers.specs.Answers.{Keeps, KeepsList, countedAnswer, pricedAnswer, replayedAnswer, rolledAnswer};
+ghost use Rattle.answers.specs.Answers.{Keeps, KeepsList, countedAnswer, keyRolledAnswer, pricedAnswer, replayedAnswer, rolledAnswer};
 
 // 3BV of a grid; the work area is left at the position before any move.
 pub fn three_bv(rows: usize, columns: usize, grid: &[i32], work: &mut [i32]) -> Counted
@@ -121,6 +124,52 @@ pub fn random_search(
             grid,
             work,
             draws,
+            mode,
+            rounds,
+        ),
+    }
+}
+
+// A single random round by a key: its clicks, its moves in the list, the bytes of the key used, and the key after it.
+pub fn keyed_round(
+    rows: usize,
+    columns: usize,
+    grid: &[i32],
+    work: &mut [i32],
+    list: &mut [u32],
+    key: Key,
+    mode: Mode,
+) -> KeyRolled
+    ensures { λ r. ⌜ KeepsList (strictKeyedRoundCall (modeOf mode) (gridOf rows columns (now (grid .entry))) (now (work .entry)) (now (list .entry)) (keyOf key)) (keyRolledAnswer r) (now (work .exit)) (now (list .exit)) ⌝ }
+{
+    let checked = number_check::check_numbers(rows, columns, grid);
+    match checked {
+        Checked::Refused(refusal) => KeyRolled::Refused(refusal),
+        Checked::Fine => random_round_call::keyed_round(rows, columns, grid, work, list, key, mode),
+    }
+}
+
+// Random search over so many rounds by a key, at most 1,000,000: the least clicks, the bytes of the key used, and the key after it.
+pub fn keyed_search(
+    rows: usize,
+    columns: usize,
+    grid: &[i32],
+    work: &mut [i32],
+    key: Key,
+    mode: Mode,
+    rounds: usize,
+) -> KeyRolled
+    ensures { λ r. ⌜ Keeps (strictKeyedSearchCall (modeOf mode) (gridOf rows columns (now (grid .entry))) (now (work .entry)) (keyOf key) rounds) (keyRolledAnswer r) (now (work .exit)) ⌝ }
+{
+    let checked = number_check::check_numbers(rows, columns, grid);
+    match checked {
+        Checked::Refused(refusal) => KeyRolled::Refused(refusal),
+        Checked::Fine => random_search_call::keyed_search(
+            rows,
+            columns,
+            grid,
+            work,
+            key,
             mode,
             rounds,
         ),

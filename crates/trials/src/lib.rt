@@ -1,5 +1,6 @@
 // What the programs share that run the calls: case lines, answers as numbers, and what is printed.
 use plain::Plain;
+use zini::random_calls::Key;
 
 pub mod plain; // answers as numbers
 pub mod fields; // what a case line says
@@ -19,7 +20,18 @@ pub fn print_number(n: u64) {
     io::print_decimal(1, n);
 }
 
-// Prints an answer: its number and its two values, and behind a replay's the ending.
+// Prints a key: its five words and its counter.
+pub fn print_key(key: Key) {
+    print_number(key.x as u64);
+    print_number(key.y as u64);
+    print_number(key.z as u64);
+    print_number(key.w as u64);
+    print_number(key.v as u64);
+    print_number(key.counter as u64);
+    io::write_all(1, b"\n");
+}
+
+// Prints an answer: its number and its two values, behind a replay's the ending, and after a keyed call's the key.
 pub fn print_answer(answer: Plain) {
     print_number(answer.number);
     print_number(answer.first);
@@ -28,6 +40,10 @@ pub fn print_answer(answer: Plain) {
         print_number(answer.ending);
     }
     io::write_all(1, b"\n");
+    if answer.keyed {
+        let key = answer.key;
+        print_key(key);
+    }
 }
 
 // A space and a signed number.

@@ -1,17 +1,33 @@
-// What the calls answer, as three numbers, and a replay's as four.
+// What the calls answer, as three numbers, a replay's as four, and a keyed call's with the key after it.
 use refusals::Refusal;
 use zini::Counted;
+use zini::KeyRolled;
 use zini::Priced;
 use zini::Replayed;
 use zini::Rolled;
+use zini::random_calls::Key;
 
-// An answer: its number, 0 for success, and its two values, 0 for none; a replay's has the ending too.
+// An answer: its number, 0 for success, and its two values, 0 for none; a replay's has the ending too, a keyed call's the key after it.
 pub struct Plain {
     pub number: u64,
     pub first: u64,
     pub second: u64,
     pub ending: u64,
     pub replayed: bool,
+    pub key: Key,
+    pub keyed: bool,
+}
+
+// No key.
+fn no_key() -> Key {
+    Key {
+        x: 0,
+        y: 0,
+        z: 0,
+        w: 0,
+        v: 0,
+        counter: 0,
+    }
 }
 
 // An answer of three numbers.
@@ -22,6 +38,21 @@ pub fn numbers(number: u64, first: u64, second: u64) -> Plain {
         second,
         ending: 0,
         replayed: false,
+        key: no_key(),
+        keyed: false,
+    }
+}
+
+// A keyed call's answer of three numbers, with the key after it.
+pub fn key_numbers(number: u64, first: u64, second: u64, key: Key) -> Plain {
+    Plain {
+        number,
+        first,
+        second,
+        ending: 0,
+        replayed: false,
+        key,
+        keyed: true,
     }
 }
 
@@ -33,6 +64,8 @@ fn replay_numbers(number: u64, first: u64, second: u64, ending: u64) -> Plain {
         second,
         ending,
         replayed: true,
+        key: no_key(),
+        keyed: false,
     }
 }
 
@@ -65,6 +98,19 @@ pub fn of_rolled(answer: Rolled) -> Plain {
     match answer {
         Rolled::Clicks(clicks, used) => numbers(0, clicks as u64, used as u64),
         Rolled::Refused(refusal) => of_refusal(refusal),
+    }
+}
+
+// What a keyed call answered that was given a key, which a refusal leaves.
+pub fn of_key_rolled(answer: KeyRolled, given: Key) -> Plain {
+    match answer {
+        KeyRolled::Clicks(clicks, used, after) => {
+            key_numbers(0, clicks as u64, used as u64, after)
+        }
+        KeyRolled::Refused(refusal) => {
+            let refused = of_refusal(refusal);
+            key_numbers(refused.number, refused.first, 0, given)
+        }
     }
 }
 

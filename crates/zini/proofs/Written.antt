@@ -1,4 +1,4 @@
--- What greedy, openings-first and a random round answered and wrote, and each round of a search, meets demand 3. Assumes nothing.
+-- What greedy, openings-first and a random round, by lent bytes or a key, answered and wrote, and each round of a search, meets demand 3. Assumes nothing.
 use Prim.Native.Nat.{ℕ, _+_, _≤_, min}
 use native.Mathlib.Omega.{arith}
 use mathlib.Core.Path.{_≡_, ap, ap₂, refl, sym, _∙_}
@@ -9,17 +9,19 @@ use lib.IntN.{ℤ}
 use lib.ListN.{drop, getD, length, length-map, take}
 use lib.Seq.{take-at}
 use borrow.Author.Tests.{ne-eqb}
-use Rattle.game.specs.Draws.{Mode, lent}
+use Rattle.game.specs.Draws.{Mode, Places, Source, lent}
+use Rattle.game.specs.Keys.{Key, keyed}
 use Rattle.game.specs.Grid.{Grid, size}
 use Rattle.game.specs.Area.{listOf}
 use Rattle.game.specs.Moves.{replayFrom, word}
 use Rattle.game.specs.Position.{untouched}
 use Rattle.game.specs.Rounds.{Round, Searched, Step, greedySteps, movesOf, openingsFirstSteps, randomRound, randomSearch}
 use Rattle.game.specs.Demands.{Sound, SoundSearch}
-use Rattle.game.specs.Calls.{Answer, ListOutcome, Outcome, Refusal, drawnRound, drawnSearch, draws, firstGiven, gives, greedyCall, gridChecks, listCheck, numberOf, openingsFirstCall, playedRound, priceCall, randomRoundCall, randomSearchCall, rounds, roundsCheck, trace, unless, unlessListed}
+use Rattle.game.specs.Calls.{Answer, ListOutcome, Outcome, Refusal, drawnRound, drawnSearch, firstGiven, gives, greedyCall, gridChecks, handing, handingListed, keyCheck, keyedRoundCall, keyedRoundsCheck, keyedSearchCall, listCheck, numberOf, openingsFirstCall, playedRound, priceCall, randomRoundCall, randomSearchCall, roundBy, rounds, roundsCheck, searchBy, trace, unless, unlessListed, withKey}
 use Rattle.game.proofs.Parts.{joined, search-parts}
 use Rattle.game.proofs.Replays.{round-answers, round-replays}
 use Rattle.game.proofs.Draws.{lent-places}
+use Rattle.game.proofs.Keys.{keyed-places}
 use Rattle.game.proofs.Randoms.{random-sound}
 use Rattle.game.proofs.Rounds.{greedy-sound, openings-first-sound}
 use Rattle.game.proofs.Searches.{search-sound}
@@ -27,8 +29,8 @@ use Rattle.area.proofs.Cells.{cells-few}
 use Rattle.refusals.proofs.ReadBack.{numbered}
 use Rattle.answers.specs.Answers.{Keeps, KeepsList}
 use Rattle.zini.specs.Written.{Told, Written}
-use Rattle.checks.proofs.More.{none-below}
-use Rattle.checks.proofs.Verdict.{all-passed}
+use Rattle.checks.proofs.More.{first-none, none-below}
+use Rattle.checks.proofs.Verdict.{all-passed, keyed-passed}
 
 -- a call that answered 0 was not refused
 not-refused : (o : Option Refusal) (w w′ : List ℤ) (l l′ : List ℕ) (x : ListOutcome) (vs : List ℕ) → KeepsList (unlessListed o w l x) (gives vs) w′ l′ → (o ≡ none) × KeepsList x (gives vs) w′ l′
@@ -68,34 +70,68 @@ pub openings-first-written : (g : Grid) (w w′ : List ℤ) (l l′ : List ℕ) 
 unfolding priceCall
 openings-first-written g w w′ l l′ n k = played-written g (openingsFirstSteps g) w w′ l l′ n (openings-first-sound g) k
 
+-- what a random round from a source comes to: its clicks and list
+drawn-written : (g : Grid) (source : Source) → Places source → (w : List ℤ) (l l′ : List ℕ) (n : ℕ) → size g ≤ 65536 → 0 ≡ roundBy source g w l .answer .number
+    → n ≡ getD (roundBy source g w l .answer .values) 0 0 → l′ ≡ roundBy source g w l .list → Written g n l′
+drawn-written g source p w l l′ n h = go (randomRound g source 0) (λ r e. random-sound g source p 0 r e)
+  where
+    go : (o : Option Round) → ((r : Round) → o ≡ some r → Sound g (r .steps)) → 0 ≡ drawnRound g o w l .answer .number → n ≡ getD (drawnRound g o w l .answer .values) 0 0 → l′ ≡ drawnRound g o w l .list → Written g n l′
+    go none d z e q = absurd (omega arith)
+    go (some r) d z e q = stands-written g (r .steps) l l′ n h (d r refl) e q
+
+-- a round by lent bytes
 pub random-written : (mode : Mode) (g : Grid) (w w′ : List ℤ) (l l′ bytes : List ℕ) (n used : ℕ) → KeepsList (randomRoundCall mode g w l bytes) (gives (n ∷ used ∷ [])) w′ l′ → Written g n l′
 unfolding randomRoundCall
 random-written mode g w w′ l l′ bytes n used k =
-    let p = not-refused (firstGiven (gridChecks g w ++ listCheck g l ∷ [])) w w′ l l′ (drawnRound g (randomRound g (lent mode bytes) 0) w l) (n ∷ used ∷ []) k in
-    go (randomRound g (lent mode bytes) 0) (λ r e. random-sound g (lent mode bytes) (lent-places mode bytes) 0 r e) (small g w l (p .0)) (p .1)
-  where
-    go : (o : Option Round) → ((r : Round) → o ≡ some r → Sound g (r .steps)) → size g ≤ 65536 → KeepsList (drawnRound g o w l) (gives (n ∷ used ∷ [])) w′ l′ → Written g n l′
-    go none d h k = absurd (let e : 0 ≡ numberOf draws = ap (λ (a : Answer). a .number) (k .answers) in omega arith)
-    go (some r) d h k = stands-written g (r .steps) l l′ n h (d r refl) (ap (λ (a : Answer). getD (a .values) 0 0) (k .answers)) (k .lists)
+    let p = not-refused (firstGiven (gridChecks g w ++ listCheck g l ∷ [])) w w′ l l′ (roundBy (lent mode bytes) g w l) (n ∷ used ∷ []) k in
+    drawn-written g (lent mode bytes) (lent-places mode bytes) w l l′ n (small g w l (p .0)) (ap (λ (a : Answer). a .number) (p .1 .answers)) (ap (λ (a : Answer). getD (a .values) 0 0) (p .1 .answers)) (p .1 .lists)
 
--- each round of a search
-pub search-told : (mode : Mode) (g : Grid) (w w′ : List ℤ) (bytes : List ℕ) (n clicks used : ℕ) → Keeps (randomSearchCall mode g w bytes n) (gives (clicks ∷ used ∷ [])) w′ → Told mode g bytes n clicks used
+-- the first value of an answer is no part of the key
+first-value : (k : Key) (vs : List ℕ) → getD (withKey k vs) 0 0 ≡ getD vs 0 0
+first-value k [] = refl
+first-value k (n ∷ []) = refl
+first-value k (n ∷ used ∷ vs) = refl
+
+-- a round by a key
+pub keyed-written : (mode : Mode) (g : Grid) (w w′ : List ℤ) (l l′ : List ℕ) (key : Key) (n : ℕ) (vs : List ℕ) → KeepsList (keyedRoundCall mode g w l key) (gives (n ∷ vs)) w′ l′ → Written g n l′
+unfolding keyedRoundCall
+keyed-written mode g w w′ l l′ key n vs k =
+    let p = not-refused (firstGiven (gridChecks g w ++ listCheck g l ∷ keyCheck key ∷ [])) w w′ l l′ (handingListed key (roundBy (keyed mode key) g w l)) (n ∷ vs) k in
+    drawn-written g (keyed mode key) (keyed-places mode key) w l l′ n (small g w l (first-none (gridChecks g w ++ listCheck g l ∷ []) (keyCheck key ∷ []) (p .0))) (ap (λ (a : Answer). a .number) (p .1 .answers))
+    (ap (λ (a : Answer). getD (a .values) 0 0) (p .1 .answers) ∙ first-value key (roundBy (keyed mode key) g w l .answer .values)) (p .1 .lists)
+
+-- what a search from a source comes to, and each of its rounds
+drawn-told : (g : Grid) (source : Source) → Places source → (w : List ℤ) (n clicks used : ℕ) → 1 ≤ n → 0 ≡ searchBy source n g w .answer .number
+    → clicks ≡ getD (searchBy source n g w .answer .values) 0 0 → used ≡ getD (searchBy source n g w .answer .values) 1 0 → Told source g n clicks used
+drawn-told g source p w n clicks used h = go (randomSearch g source n) (λ r e. search-sound g source p n r h e) refl
+  where
+    go : (o : Option Searched) → ((r : Searched) → o ≡ some r → SoundSearch g source n r) → randomSearch g source n ≡ o → 0 ≡ drawnSearch g o w .answer .number
+        → clicks ≡ getD (drawnSearch g o w .answer .values) 0 0 → used ≡ getD (drawnSearch g o w .answer .values) 1 0 → Told source g n clicks used
+    go none d e z c u = absurd (omega arith)
+    go (some r) d e z c u = record { came-to = r; searched = e; clicks-are = c; used-are = u; sound = d r refl }
+
+-- a search by lent bytes
+pub search-told : (mode : Mode) (g : Grid) (w w′ : List ℤ) (bytes : List ℕ) (n clicks used : ℕ) → Keeps (randomSearchCall mode g w bytes n) (gives (clicks ∷ used ∷ [])) w′ → Told (lent mode bytes) g n clicks used
 unfolding randomSearchCall
 search-told mode g w w′ bytes n clicks used k =
-    let p = not-turned-down (firstGiven (gridChecks g w ++ roundsCheck n ∷ [])) w w′ (drawnSearch g (randomSearch g (lent mode bytes) n) w) (clicks ∷ used ∷ []) k in
+    let p = not-turned-down (firstGiven (gridChecks g w ++ roundsCheck n ∷ [])) w w′ (searchBy (lent mode bytes) n g w) (clicks ∷ used ∷ []) k in
     let h : 1 ≤ n = all-passed g w n 1 rounds (ap (λ (b : Bool). firstGiven (gridChecks g w ++ record { given = b; refusal = rounds } ∷ [])) (none-below n) ∙ p .0) .1 in
-    go (randomSearch g (lent mode bytes) n) (λ r e. search-sound g (lent mode bytes) (lent-places mode bytes) n r h e) refl (p .1)
-  where
-    go : (o : Option Searched) → ((r : Searched) → o ≡ some r → SoundSearch g (lent mode bytes) n r) → randomSearch g (lent mode bytes) n ≡ o → Keeps (drawnSearch g o w) (gives (clicks ∷ used ∷ [])) w′ → Told mode g bytes n clicks used
-    go none d e k = absurd (let e : 0 ≡ numberOf draws = ap (λ (a : Answer). a .number) (k .answers) in omega arith)
-    go (some r) d e k =
-        record {
-          came-to = r;
-          searched = e;
-          clicks-are = ap (λ (a : Answer). getD (a .values) 0 0) (k .answers);
-          used-are = ap (λ (a : Answer). getD (a .values) 1 0) (k .answers);
-          sound = d r refl;
-        }
+    drawn-told g (lent mode bytes) (lent-places mode bytes) w n clicks used h (ap (λ (a : Answer). a .number) (p .1 .answers)) (ap (λ (a : Answer). getD (a .values) 0 0) (p .1 .answers)) (ap (λ (a : Answer). getD (a .values) 1 0) (p .1 .answers))
+
+-- the second value of an answer is no part of the key either
+second-value : (k : Key) (vs : List ℕ) → getD (withKey k vs) 1 0 ≡ getD vs 1 0
+second-value k [] = refl
+second-value k (n ∷ []) = refl
+second-value k (n ∷ used ∷ vs) = refl
+
+-- a search by a key
+pub keyed-told : (mode : Mode) (g : Grid) (w w′ : List ℤ) (key : Key) (n clicks used : ℕ) (vs : List ℕ) → Keeps (keyedSearchCall mode g w key n) (gives (clicks ∷ used ∷ vs)) w′ → Told (keyed mode key) g n clicks used
+unfolding keyedSearchCall
+keyed-told mode g w w′ key n clicks used vs k =
+    let p = not-turned-down (firstGiven (gridChecks g w ++ keyedRoundsCheck n ∷ keyCheck key ∷ [])) w w′ (handing key (searchBy (keyed mode key) n g w)) (clicks ∷ used ∷ vs) k in
+    drawn-told g (keyed mode key) (keyed-places mode key) w n clicks used (keyed-passed g w n key (p .0) .1) (ap (λ (a : Answer). a .number) (p .1 .answers))
+    (ap (λ (a : Answer). getD (a .values) 0 0) (p .1 .answers) ∙ first-value key (searchBy (keyed mode key) n g w .answer .values))
+    (ap (λ (a : Answer). getD (a .values) 1 0) (p .1 .answers) ∙ second-value key (searchBy (keyed mode key) n g w .answer .values))
 
 -- two searches, the second with the bytes that the first left, answer together what one search of all their rounds answers
 pub searches-join : (mode : Mode) (g : Grid) (w w′ v v′ : List ℤ) (bytes : List ℕ) (m n clicks used clicks′ used′ : ℕ)
@@ -107,10 +143,10 @@ searches-join mode g w w′ v v′ bytes m n clicks used clicks′ used′ k k�
     ∙ ap (λ (o : Option Searched). drawnSearch g o w .answer) whole
     ∙ ap₂ (λ (c u : ℕ). gives (c ∷ u ∷ [])) (ap₂ min (sym (a .clicks-are)) (sym (b .clicks-are))) (ap₂ _+_ (sym (a .used-are)) (sym (b .used-are)))
   where
-    a : Told mode g bytes m clicks used
+    a : Told (lent mode bytes) g m clicks used
     a = search-told mode g w w′ bytes m clicks used k
 
-    b : Told mode g (drop used bytes) n clicks′ used′
+    b : Told (lent mode (drop used bytes)) g n clicks′ used′
     b = search-told mode g v v′ (drop used bytes) n clicks′ used′ k′
 
     fine : (firstGiven (gridChecks g w ++ roundsCheck m ∷ []) ≡ none) × Keeps (drawnSearch g (randomSearch g (lent mode bytes) m) w) (gives (clicks ∷ used ∷ [])) w′

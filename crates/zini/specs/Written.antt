@@ -6,7 +6,7 @@ use mathlib.Core.Option.{some}
 use lib.IntN.{ℤ}
 use lib.ListN.{length, take}
 use Rattle.game.specs.Calls.{gives, replayedList}
-use Rattle.game.specs.Draws.{Mode, lent}
+use Rattle.game.specs.Draws.{Source}
 use Rattle.game.specs.Grid.{Grid}
 use Rattle.game.specs.Position.{untouched}
 use Rattle.game.specs.Moves.{replayFrom, whole, word}
@@ -23,10 +23,10 @@ pub record Written (g : Grid) (n : ℕ) (list : List ℕ) : Type 0 where
   -- a replay of them answers that all were made, that no safe cell is closed, and that the game is won
   pub wins : (ws : List ℤ) → replayedList g ws list n .answer ≡ gives (n ∷ 0 ∷ 1 ∷ [])
 
--- a search of so many rounds in a mode answered clicks and bytes used: the least and the last byte of rounds that each meet demand 3
-pub record Told (mode : Mode) (g : Grid) (bytes : List ℕ) (rounds clicks used : ℕ) : Type 0 where
+-- a search of so many rounds that draw from a source answered clicks and bytes used: the least and the last byte of rounds that each meet demand 3
+pub record Told (source : Source) (g : Grid) (rounds clicks used : ℕ) : Type 0 where
   pub came-to : Searched
-  pub searched : randomSearch g (lent mode bytes) rounds ≡ some came-to
+  pub searched : randomSearch g source rounds ≡ some came-to
   pub clicks-are : clicks ≡ came-to .least
   pub used-are : used ≡ came-to .next
-  pub sound : SoundSearch g (lent mode bytes) rounds came-to
+  pub sound : SoundSearch g source rounds came-to

@@ -1,5 +1,6 @@
 // The public calls under one name: each checks its input in the order of RULES 8, and answers an enum.
 pub use answers::Counted;
+pub use answers::KeyRolled;
 pub use answers::Priced;
 pub use answers::Replayed;
 pub use answers::Rolled;

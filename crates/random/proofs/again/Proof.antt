@@ -12,16 +12,19 @@ unlisted-requires c κs =
     let x = c .before .before .reset in
     let b = c .before .before .before .before .before in
     let a = b .args in
-    (b .pre .0, (search needs, reset-fresh (a .rows) (a .columns) (a .work .now) (x .last .0) (a .safe) (b .pre .1 .1) (x .ensures)))
+    (b .pre .0, (search needs, (reset-fresh (a .rows) (a .columns) (a .work .now) (x .last .0) (a .safe) (b .pre .1 .1 .0) (x .ensures), b .pre .1 .1 .1)))
 
 same-length : tie.Need-same-length
 same-length c = search needs
 
 returns : tie.Need-returns
 returns c =
-    let x = c .before .before .before .before .reset in
-    let a = c .before .before .before .before .before .before .before .args in
-    λ g s old st. c .before .unlisted .ensures g old (reset-stands (a .rows) (a .columns) g s old (a .work .now) (x .last .0) st (x .ensures g s old st))
+    let u = c .before in
+    let x = u .before .before .before .reset in
+    let a = u .before .before .before .before .before .before .args in (
+      u .unlisted .ensures .0,
+      λ g s old origin at st d. u .unlisted .ensures .1 g old origin at (reset-stands (a .rows) (a .columns) g s old (a .work .now) (x .last .0) st (x .ensures g s old st)) d,
+    )
 
 pub again-spec : {M : Type 1} → statement M
 again-spec = tie.close (tie.spec reset-requires unlisted-requires same-length returns)

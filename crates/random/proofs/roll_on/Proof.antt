@@ -1,27 +1,28 @@
--- `random::roll_on`: the steps so far are those of the definition; fewer safe cells are closed after each; what is kept of the columns stays right. Assumes nothing.
+-- `random::roll_on`: the steps so far are those of the definition; fewer safe cells are closed after each, so a key has room; what is kept of the columns stays right. Assumes nothing.
 use native.Mathlib.Omega.{arith}
 use mathlib.Core.Path.{_≡_, refl}
 use mathlib.Core.Bool.{false}
 use lib.ListN.{length}
 use borrow.Author.Needs.{needs}
 use Rattle.choices.specs.Tops.{TopsKnown, UnitsKnown}
-use Rattle.game.specs.Draws.{lent}
 use Rattle.game.specs.Moves.{after}
 use Rattle.game.specs.Position.{untouched}
-use Rattle.game.proofs.Draws.{lent-places}
 use Rattle.moves.proofs.Partway.{partway-few}
 use Rattle.draws.specs.Answers.{modeOf}
-use Rattle.random.proofs.Courses.{RoundMidway, course-breaks, course-ends, course-falls, course-goes-on, fresh, midway-begins}
+use Rattle.supplies.specs.Origins.{sourceOf}
+use Rattle.random.proofs.Courses.{RoundMidway, course-breaks, course-ends, course-falls, course-goes-on, fresh, midway-begins, safe-few}
+use Rattle.random.proofs.Supplies.{Spent, origin-places, round-dry, round-ended, round-grew, spent-more, spent-none, step-room}
 use Rattle.random.proofs.roll_on.Statement.{statement}
 use Rattle.random.proofs.roll_on.Tie as tie
 
 abbrev Inv-loop : tie.InvT-loop
-Inv-loop work₀ rows columns list₀ draws mode tops₀ units₀ safe next state₀ at₀ work list tops units state at =
+Inv-loop work₀ rows columns list₀ draws mode tops₀ units₀ safe state₀ rest₀ work list tops units state rest =
     (length work ≡ length work₀) × (length list ≡ length list₀) × (length tops ≡ length tops₀) × (length units ≡ length units₀)
-    × RoundMidway rows columns work₀ (lent (modeOf mode) draws) safe next list₀ work list state at × TopsKnown false work rows columns tops × UnitsKnown work rows columns tops units
+    × RoundMidway rows columns work₀ (modeOf mode) draws safe rest₀ list₀ work list state rest × TopsKnown false work rows columns tops × UnitsKnown work rows columns tops units
+    × Spent rest₀ safe rest (state .closed)
 
 abbrev μ-loop : tie.MeasureT-loop
-μ-loop work₀ rows columns list₀ draws mode tops₀ units₀ safe next state₀ at₀ work list tops units state at = state .closed
+μ-loop work₀ rows columns list₀ draws mode tops₀ units₀ safe state₀ rest₀ work list tops units state rest = state .closed
 
 loop-holds : tie.Need-loop-holds Inv-loop μ-loop
 loop-holds c =
@@ -31,17 +32,20 @@ loop-holds c =
       refl,
       refl,
       refl,
-      midway-begins (a .rows) (a .columns) (a .work .now) (lent (modeOf (a .mode)) (a .draws .now)) (a .safe) (a .next) (a .list .now) (b .pre .1 .1 .0),
-      b .pre .1 .1 .1 .0,
-      b .pre .1 .1 .1 .1,
+      midway-begins (a .rows) (a .columns) (a .work .now) (modeOf (a .mode)) (a .draws .now) (a .safe) (a .supply) (a .list .now) (b .pre .1 .1 .0),
+      b .pre .1 .1 .1 .1 .0,
+      b .pre .1 .1 .1 .1 .1,
+      spent-none (a .supply) (a .safe),
     )
 
 step-requires : tie.Need-step-requires Inv-loop μ-loop
 step-requires c κs =
-    let l = c .before .before .before .before .before .before in
+    let k = c .before .before .before .before in
+    let l = k .before .before in
     let b = l .before .before .before .before .before in
     let a = b .args in
-    let f = b .pre .1 .1 .0 in (
+    let f = b .pre .1 .1 .0 in
+    let i = b .pre .1 .1 .1 .0 .1 in (
       b .pre .0,
       (
         (
@@ -49,10 +53,13 @@ step-requires c κs =
           omega (
             arith,
             partway-few (a .rows) (a .columns) (f .grid) (untouched (f .grid)) (f .old) (a .list .now) (fresh (a .safe)) _ (l .loop .work) (l .loop .list) (l .loop .state)
-                (l .loop .inv .4 .course (f .grid) (f .old) (f .stands)) (b .pre .0),
+                (l .loop .inv .4 .course (f .grid) (f .old) (i .origin) (a .supply .used) (f .stands) (i .reads) .way) (b .pre .0),
           ),
         ),
-        (l .loop .inv .5, l .loop .inv .6),
+        (
+          (l .loop .inv .5, l .loop .inv .6),
+          step-room (a .supply) (a .safe) (l .loop .rest) (l .loop .state .closed) (l .loop .inv .7) (safe-few (a .rows) (a .columns) (a .work .now) (a .safe) f) (b .pre .1 .1 .1 .0 .0) (k .if1 .taken),
+        ),
       ),
     )
 
@@ -79,20 +86,39 @@ returns c =
     let x = c .before .before .before .before .before .before .before .before .before in
     let k = x .before .before .before .before .before in
     let l = k .before .before in
-    let a = l .before .before .before .before .before .args in
-    λ g old st. course-breaks (a .rows) (a .columns) g old (lent (modeOf (a .mode)) (a .draws .now)) (a .safe) (a .next) (a .list .now) (l .loop .work) (l .loop .list) (l .loop .state) (l .loop .at) (l .loop .inv .4 .course g old st)
-    (x .step .last .0) (x .step .last .1 .1 .1 .0) (x .step .result) (k .if1 .taken) (λ s v f h e. x .step .ensures g s old v f h e .0) (c .enum-told .given .1)
+    let a = l .before .before .before .before .before .args in (
+      round-dry (a .supply),
+      λ g old origin at st d. course-breaks (a .rows) (a .columns) g old origin (sourceOf (modeOf (a .mode)) (a .draws .now) origin) (a .safe) at (a .list .now) (l .loop .work) (l .loop .list) (l .loop .state) (l .loop .rest)
+          (l .loop .inv .4 .course g old origin at st d) (x .step .last .0) (x .step .last .1 .1 .1 .0) (x .step .result) (k .if1 .taken) (λ s n v f h e q. x .step .ensures .1 g s old origin n v f h e q .0) (c .enum-told .given .1),
+    )
 
 loop-less : tie.Need-loop-less Inv-loop μ-loop
 loop-less c =
-    let x = c .before .before .before .before .before .before .before .before .before .before .before in
+    let x = c .before .before .before .before .before .before .before .before .before .before .before .before in
     let k = x .before .before .before .before .before in
     let l = k .before .before in
     let b = l .before .before .before .before .before in
     let a = b .args in
     let f = b .pre .1 .1 .0 in
-    course-falls (a .rows) (a .columns) (f .grid) (f .old) (lent (modeOf (a .mode)) (a .draws .now)) (a .safe) (a .next) (a .list .now) (l .loop .work) (l .loop .list) (l .loop .state) (l .loop .at)
-    (l .loop .inv .4 .course (f .grid) (f .old) (f .stands)) (x .step .last .0) (x .step .last .1 .1 .1 .0) (x .step .result) (k .if1 .taken) (λ s v p h e. x .step .ensures (f .grid) s (f .old) v p h e .0) (lent-places (modeOf (a .mode)) (a .draws .now)) _ (c .before .before .stepped .given .1)
+    let i = b .pre .1 .1 .1 .0 .1 in
+    course-falls (a .rows) (a .columns) (f .grid) (f .old) (i .origin) (sourceOf (modeOf (a .mode)) (a .draws .now) (i .origin)) (a .safe) (a .supply .used) (a .list .now) (l .loop .work) (l .loop .list) (l .loop .state) (l .loop .rest)
+    (l .loop .inv .4 .course (f .grid) (f .old) (i .origin) (a .supply .used) (f .stands) (i .reads)) (x .step .last .0) (x .step .last .1 .1 .1 .0) (x .step .result) (k .if1 .taken)
+    (λ s n v p h e q. x .step .ensures .1 (f .grid) s (f .old) (i .origin) n v p h e q .0) (origin-places (modeOf (a .mode)) (a .draws .now) (i .origin)) _ (c .before .before .before .stepped .given .1)
+
+-- what is kept of the columns stays right in a step
+columns-kept : (x : tie.After-step Inv-loop μ-loop) → let a = x .before .before .before .before .before .before .before .before .before .before .before .before .args in
+    TopsKnown false (x .step .last .0) (a .rows) (a .columns) (x .step .last .1 .1 .1 .1 .1 .1 .0)
+    × UnitsKnown (x .step .last .0) (a .rows) (a .columns) (x .step .last .1 .1 .1 .1 .1 .1 .0) (x .step .last .1 .1 .1 .1 .1 .1 .1 .0)
+columns-kept x =
+    let k = x .before .before .before .before .before in
+    let l = k .before .before in
+    let b = l .before .before .before .before .before in
+    let f = b .pre .1 .1 .0 in
+    let i = b .pre .1 .1 .1 .0 .1 in
+    let o = l .loop .inv .4 .course (f .grid) (f .old) (i .origin) (b .args .supply .used) (f .stands) (i .reads) in
+    let m = o .way .made in
+    let z = x .step .ensures .1 (f .grid) (after (f .grid) (untouched (f .grid)) (o .way .done)) (f .old) (i .origin) (l .loop .rest .used) (m .stands) (m .tidy) (omega (arith, m .left-closed, k .if1 .taken)) (m .left-closed) (o .reads) in
+    (z .1, z .2)
 
 loop-again : tie.Need-loop-again Inv-loop μ-loop
 loop-again c = (
@@ -100,26 +126,21 @@ loop-again c = (
   search needs,
   search needs,
   search needs,
-  let x = c .before .before .before .before .before .before .before .before .before .before .before in
+  let x = c .before .before .before .before .before .before .before .before .before .before .before .before in
       let k = x .before .before .before .before .before in
       let l = k .before .before in
       let a = l .before .before .before .before .before .args in
       record {
-        course = λ g old st. course-goes-on (a .rows) (a .columns) g old (lent (modeOf (a .mode)) (a .draws .now)) (a .safe) (a .next) (a .list .now) (l .loop .work) (l .loop .list) (l .loop .state) (l .loop .at)
-            (l .loop .inv .4 .course g old st) (x .step .last .0) (x .step .last .1 .1 .1 .0) (x .step .result) (k .if1 .taken) (λ s v f h e. x .step .ensures g s old v f h e .0) (lent-places (modeOf (a .mode)) (a .draws .now)) _ (c .before .before .stepped .given .1);
+        course = λ g old origin at st d. course-goes-on (a .rows) (a .columns) g old origin (sourceOf (modeOf (a .mode)) (a .draws .now) origin) (a .safe) at (a .list .now) (l .loop .work) (l .loop .list) (l .loop .state) (l .loop .rest)
+            (l .loop .inv .4 .course g old origin at st d) (x .step .last .0) (x .step .last .1 .1 .1 .0) (x .step .result) (k .if1 .taken)
+            (λ s n v f h e q. x .step .ensures .1 g s old origin n v f h e q .0) (origin-places (modeOf (a .mode)) (a .draws .now) origin) _ (c .before .before .before .stepped .given .1);
       },
-  let x = c .before .before .before .before .before .before .before .before .before .before .before in
-      let k = x .before .before .before .before .before in
-      let l = k .before .before in
-      let f = l .before .before .before .before .before .pre .1 .1 .0 in
-      let o = l .loop .inv .4 .course (f .grid) (f .old) (f .stands) in
-      x .step .ensures (f .grid) (after (f .grid) (untouched (f .grid)) (o .done)) (f .old) (o .made .stands) (o .made .tidy) (omega (arith, o .made .left-closed, k .if1 .taken)) (o .made .left-closed) .1,
-  let x = c .before .before .before .before .before .before .before .before .before .before .before in
-      let k = x .before .before .before .before .before in
-      let l = k .before .before in
-      let f = l .before .before .before .before .before .pre .1 .1 .0 in
-      let o = l .loop .inv .4 .course (f .grid) (f .old) (f .stands) in
-      x .step .ensures (f .grid) (after (f .grid) (untouched (f .grid)) (o .done)) (f .old) (o .made .stands) (o .made .tidy) (omega (arith, o .made .left-closed, k .if1 .taken)) (o .made .left-closed) .2,
+  columns-kept (c .before .before .before .before .before .before .before .before .before .before .before .before) .0,
+  columns-kept (c .before .before .before .before .before .before .before .before .before .before .before .before) .1,
+  let x = c .before .before .before .before .before .before .before .before .before .before .before .before in
+      let l = x .before .before .before .before .before .before .before in
+      let a = l .before .before .before .before .before .args in
+      spent-more (a .supply) (a .safe) (l .loop .rest) (l .loop .state .closed) (l .loop .inv .7) _ _ (x .step .ensures .0 .went _ (c .before .before .before .stepped .given .1)) (loop-less c),
 )
 
 same-length-5 : tie.Need-same-length-5 Inv-loop μ-loop
@@ -137,8 +158,13 @@ same-length-8 c = search needs
 returns-2 : tie.Need-returns-2 Inv-loop μ-loop
 returns-2 c =
     let l = c .before .before in
-    let a = l .before .before .before .before .before .args in
-    λ g old st. course-ends (a .rows) (a .columns) g old (lent (modeOf (a .mode)) (a .draws .now)) (a .safe) (a .next) (a .list .now) (l .loop .work) (l .loop .list) (l .loop .state) (l .loop .at) (l .loop .inv .4 .course g old st) (omega arith)
+    let b = l .before .before .before .before .before in
+    let a = b .args in (
+      round-ended (a .supply) (l .loop .state .moves) (l .loop .rest)
+          (round-grew (a .supply) (a .safe) (l .loop .rest) (l .loop .state .closed) (l .loop .inv .7) (safe-few (a .rows) (a .columns) (a .work .now) (a .safe) (b .pre .1 .1 .0))),
+      λ g old origin at st d. course-ends (a .rows) (a .columns) g old origin (sourceOf (modeOf (a .mode)) (a .draws .now) origin) (a .safe) at (a .list .now) (l .loop .work) (l .loop .list) (l .loop .state) (l .loop .rest)
+          (l .loop .inv .4 .course g old origin at st d) (omega arith),
+    )
 
 pub roll-on-spec : {M : Type 1} → statement M
 roll-on-spec =

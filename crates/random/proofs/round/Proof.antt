@@ -16,7 +16,7 @@ roll-on-requires c κs =
     let b = c .before .before .before .before .before .before in
     let a = b .args in
     let few = b .pre .0 .few-columns in
-    (b .pre .0, (b .pre .1 .0, (b .pre .1 .1, (none-kept false (a .work .now) (a .rows) (a .columns) 255 few, no-units-kept (a .work .now) (a .rows) (a .columns) 255 _ few))))
+    (b .pre .0, (b .pre .1 .0, (b .pre .1 .1 .0, (b .pre .1 .1 .1, (none-kept false (a .work .now) (a .rows) (a .columns) 255 few, no-units-kept (a .work .now) (a .rows) (a .columns) 255 _ few)))))
 
 same-length : tie.Need-same-length
 same-length c = search needs

@@ -1,17 +1,22 @@
 -- `random::search`: the first round, then the others. Assumes nothing.
+use native.Mathlib.Omega.{arith}
 use mathlib.Core.Path.{subst, sym}
 use mathlib.Core.Option.{Option}
-use Rattle.game.specs.Draws.{lent}
 use Rattle.game.specs.Rounds.{Searched}
 use Rattle.random.specs.Promises.{Searching}
 use Rattle.draws.specs.Answers.{modeOf}
-use Rattle.random.proofs.Searches.{first-breaks, first-ends}
+use Rattle.supplies.specs.Origins.{sourceOf}
+use Rattle.random.proofs.Searches.{first-breaks, first-ends, once-counted}
+use Rattle.random.proofs.Supplies.{round-room, rounds-room}
 use borrow.Author.Needs.{needs}
 use Rattle.random.proofs.search.Statement.{statement}
 use Rattle.random.proofs.search.Tie as tie
 
 unlisted-requires : tie.Need-unlisted-requires
-unlisted-requires c κs = search needs
+unlisted-requires c κs =
+    let b = c .before .before in
+    let a = b .args in
+    (b .pre .0, (b .pre .1 .0 .0, (b .pre .1 .1 .0, (round-room (a .rounds) (a .supply) (b .pre .1 .1 .1 .0) (b .pre .1 .0 .1), b .pre .1 .1 .1 .1))))
 
 enum-known-rolled : tie.Need-enum-known-rolled
 enum-known-rolled c = search needs
@@ -26,7 +31,7 @@ returns : tie.Need-returns
 returns c =
     let x = c .before .before .before in
     let a = x .before .before .before .args in
-    λ g old st. first-breaks (a .rows) (a .columns) g old (lent (modeOf (a .mode)) (a .draws .now)) (x .unlisted .last .0) (x .unlisted .result) (x .unlisted .ensures g old st) (a .rounds) (c .enum-told .given .1)
+    λ g old origin st d. first-breaks (a .rows) (a .columns) g old origin (sourceOf (modeOf (a .mode)) (a .draws .now) origin) (x .unlisted .last .0) (x .unlisted .result) (x .unlisted .ensures .1 g old origin 0 st d) (a .rounds) (c .enum-told .given .1)
 
 sub-rounds-left : tie.Need-sub-rounds-left
 sub-rounds-left c = search needs
@@ -41,10 +46,22 @@ search-on-requires c κs =
     let x = o .before .before .before in
     let b = x .before .before .before in
     let a = b .args in
-    let f = b .pre .1 .1 in
-    let d = first-ends (a .rows) (a .columns) (f .grid) (f .old) (lent (modeOf (a .mode)) (a .draws .now)) (x .unlisted .last .0) (x .unlisted .result) (x .unlisted .ensures (f .grid) (f .old) (f .stands)) (a .rounds)
-    _ _ (z .rounds-left .result) (o .rolled .given .1) (z .rounds-left .ensures .0) in
-    (b .pre .0, (search needs, record { grid = f .grid; old = f .old; moves = d .moves; stands = d .stands; counts = f .counts }))
+    let f = b .pre .1 .1 .0 in
+    let i = b .pre .1 .1 .1 .1 in
+    let t = once-counted (a .rows) (a .columns) (a .work .now) (a .safe) f (i .origin) (sourceOf (modeOf (a .mode)) (a .draws .now) (i .origin)) (a .supply .used) (x .unlisted .last .0) (x .unlisted .result)
+    (x .unlisted .ensures .1 (f .grid) (f .old) (i .origin) (a .supply .used) (f .stands) (i .reads)) _ _ (o .rolled .given .1) in (
+      b .pre .0,
+      (
+        search needs,
+        (
+          t .0,
+          (
+            rounds-room (a .rounds) (z .rounds-left .result) (a .supply) _ (b .pre .1 .1 .1 .0) (x .unlisted .ensures .0 .ended _ _ (o .rolled .given .1)) (omega (arith, z .rounds-left .ensures .1)),
+            t .1,
+          ),
+        ),
+      ),
+    )
 
 same-length-2 : tie.Need-same-length-2
 same-length-2 c = search needs
@@ -56,10 +73,11 @@ returns-2 c =
     let o = z .before .before in
     let x = o .before .before .before in
     let a = x .before .before .before .args in
-    λ g old st.
-    let d = first-ends (a .rows) (a .columns) g old (lent (modeOf (a .mode)) (a .draws .now)) (x .unlisted .last .0) (x .unlisted .result) (x .unlisted .ensures g old st) (a .rounds)
-    _ _ (z .rounds-left .result) (o .rolled .given .1) (z .rounds-left .ensures .0) in
-    subst (λ (s : Option Searched). Searching (a .rows) (a .columns) g old s (y .search-on .last .0) (y .search-on .result)) (sym (d .rest)) (y .search-on .ensures g old (d .moves) (d .stands))
+    λ g old origin st d.
+    let f = first-ends (a .rows) (a .columns) g old origin (sourceOf (modeOf (a .mode)) (a .draws .now) origin) (x .unlisted .last .0) (x .unlisted .result) (x .unlisted .ensures .1 g old origin 0 st d) (a .rounds)
+    _ _ (a .supply .used) (z .rounds-left .result) (o .rolled .given .1) (d .used-is) (z .rounds-left .ensures .0) in
+    subst (λ (s : Option Searched). Searching (a .rows) (a .columns) g old origin s (y .search-on .last .0) (y .search-on .result)) (sym (f .rest))
+    (y .search-on .ensures g old (f .moves) origin _ (f .stands) (f .reads))
 
 pub search-spec : {M : Type 1} → statement M
 search-spec =

@@ -1,8 +1,8 @@
 -- `random::step`: as many are drawn among as the choice has, so the drawn place is one of its places, and it is taken. Assumes nothing.
-use Rattle.game.specs.Draws.{lent}
-use Rattle.game.proofs.Draws.{lent-places}
 use Rattle.draws.specs.Answers.{modeOf}
-use Rattle.random.proofs.Takes.{any-marks, drawn-inside, step-dry, step-went}
+use Rattle.supplies.specs.Origins.{sourceOf}
+use Rattle.random.proofs.Supplies.{origin-places}
+use Rattle.random.proofs.Takes.{any-marks, drawn-inside, dry-grows, step-dry, step-went, went-grows}
 use borrow.Author.Needs.{needs}
 use Rattle.random.proofs.step.Statement.{statement}
 use Rattle.random.proofs.step.Tie as tie
@@ -10,11 +10,11 @@ use Rattle.random.proofs.step.Tie as tie
 count-candidates-requires : tie.Need-count-candidates-requires
 count-candidates-requires c κs = search needs
 
-draw-from-requires : tie.Need-draw-from-requires
-draw-from-requires c κs = search needs
+draw-requires : tie.Need-draw-requires
+draw-requires c κs = search needs
 
-enum-known-drawn : tie.Need-enum-known-drawn
-enum-known-drawn c = search needs
+enum-known-dealt : tie.Need-enum-known-dealt
+enum-known-dealt c = search needs
 
 enum-told : tie.Need-enum-told
 enum-told c = search needs
@@ -32,12 +32,14 @@ returns : tie.Need-returns
 returns c =
     let d = c .before .before in
     let n = d .before .before .before .before .before in
-    let a = n .before .before .before .before .before .before .before .before .args in
-    λ g s old st f h e. (
-      step-dry (a .rows) (a .columns) g s old (a .work .now) (lent (modeOf (a .mode)) (a .draws .now)) (a .next) (n .count-candidates .result .count) (a .list .now) (a .state) (d .draw-from .result)
-          (n .count-candidates .ensures .1 .1 g s old st .1) (d .draw-from .ensures) (c .enum-told .given .1),
-      n .count-candidates .ensures .0 .1,
-      any-marks (a .work .now) (a .rows) (a .columns) _ _ (n .count-candidates .ensures .1 .0 .1),
+    let a = n .before .before .before .before .before .before .before .before .args in (
+      dry-grows (a .supply),
+      λ g s old origin at st f h e q. (
+        step-dry (a .rows) (a .columns) g s old (a .work .now) origin (sourceOf (modeOf (a .mode)) (a .draws .now) origin) at (n .count-candidates .result .count) (a .list .now) (a .state) (d .draw .result)
+            (n .count-candidates .ensures .1 .1 g s old st .1) (d .draw .ensures .1 origin at q) (c .enum-told .given .1),
+        n .count-candidates .ensures .0 .1,
+        any-marks (a .work .now) (a .rows) (a .columns) _ _ (n .count-candidates .ensures .1 .0 .1),
+      ),
     )
 
 take-place-requires : tie.Need-take-place-requires
@@ -65,16 +67,19 @@ returns-2 c =
     let d = o .before .before in
     let n = d .before .before .before .before .before in
     let a = n .before .before .before .before .before .before .before .before .args in
-    let y = m .take-place in
-    λ g s old st f h e.
-    let k = n .count-candidates .ensures .1 .1 g s old st in
-    let i = drawn-inside (a .rows) (a .columns) g s old (a .work .now) (lent (modeOf (a .mode)) (a .draws .now)) (a .next) (n .count-candidates .result .count) (a .list .now) (a .state) (d .draw-from .result)
-    (k .1) (d .draw-from .ensures) _ _ (o .drawn .given .1) (lent-places (modeOf (a .mode)) (a .draws .now)) f h in
-    let z = y .ensures g s old st f (k .0) i e in (
-      step-went (a .rows) (a .columns) g s old (a .work .now) (lent (modeOf (a .mode)) (a .draws .now)) (a .next) (n .count-candidates .result .count) (a .list .now) (a .state) (d .draw-from .result)
-          (k .1) (d .draw-from .ensures) _ _ (o .drawn .given .1) (y .last .0) (y .last .1 .1 .1 .0) (y .result) (z .0),
-      z .1,
-      z .2,
+    let y = m .take-place in (
+      went-grows (a .supply) (d .draw .result) _ _ (y .result) (d .draw .ensures .0) (o .dealt .given .1),
+      λ g s old origin at st f h e q.
+          let source = sourceOf (modeOf (a .mode)) (a .draws .now) origin in
+          let k = n .count-candidates .ensures .1 .1 g s old st in
+          let i = drawn-inside (a .rows) (a .columns) g s old (a .work .now) origin source at (n .count-candidates .result .count) (a .list .now) (a .state) (d .draw .result)
+          (k .1) (d .draw .ensures .1 origin at q) _ _ (o .dealt .given .1) (origin-places (modeOf (a .mode)) (a .draws .now) origin) f h in
+          let z = y .ensures g s old st f (k .0) i e in (
+            step-went (a .rows) (a .columns) g s old (a .work .now) origin source at (n .count-candidates .result .count) (a .list .now) (a .state) (d .draw .result)
+                (k .1) (d .draw .ensures .1 origin at q) _ _ (o .dealt .given .1) (y .last .0) (y .last .1 .1 .1 .0) (y .result) (z .0),
+            z .1,
+            z .2,
+          ),
     )
 
 pub step-spec : {M : Type 1} → statement M
@@ -82,8 +87,8 @@ step-spec =
     tie.close
     (tie.spec
     count-candidates-requires
-    draw-from-requires
-    enum-known-drawn
+    draw-requires
+    enum-known-dealt
     enum-told
     same-length
     same-length-2

@@ -1,7 +1,7 @@
 -- `random::unlisted`: a round with an empty list. Assumes nothing.
-use Rattle.game.specs.Draws.{lent}
 use Rattle.game.specs.Rounds.{randomRound}
 use Rattle.draws.specs.Answers.{modeOf}
+use Rattle.supplies.specs.Origins.{sourceOf}
 use Rattle.random.proofs.Searches.{once-searched}
 use borrow.Author.Needs.{needs}
 use Rattle.random.proofs.unlisted.Statement.{statement}
@@ -19,8 +19,10 @@ same-length c = search needs
 returns : tie.Need-returns
 returns c =
     let x = c .before .before .round in
-    let a = c .before .before .before .before .before .before .args in
-    λ g old st. once-searched (a .rows) (a .columns) g old (randomRound g (lent (modeOf (a .mode)) (a .draws .now)) (a .next)) _ (x .last .0) _ (x .result) (x .ensures g old st)
+    let a = c .before .before .before .before .before .before .args in (
+      x .ensures .0,
+      λ g old origin at st d. once-searched (a .rows) (a .columns) g old origin (randomRound g (sourceOf (modeOf (a .mode)) (a .draws .now) origin) at) _ (x .last .0) _ (x .result) (x .ensures .1 g old origin at st d),
+    )
 
 pub unlisted-spec : {M : Type 1} → statement M
 unlisted-spec = tie.close (tie.spec slice-aggregate-round round-requires same-length returns)

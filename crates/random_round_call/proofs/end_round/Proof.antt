@@ -1,17 +1,18 @@
 -- `random_round_call::end_round`: by the case that it is. Assumes nothing.
 use Prim.Native.Nat.{ℕ, _*_}
-use mathlib.Core.Path.{subst, sym}
+use mathlib.Core.Path.{_∙_, subst, sym}
 use lib.IntN.{pos}
 use lib.ListN.{length}
 use Rattle.game.specs.Rounds.{randomRound}
+use Rattle.random.proofs.Finishes.{differ}
 use Rattle.clears.specs.Clearing.{Cleared}
 use Rattle.random_round_call.proofs.Rolling.{few-moves, round-dry, round-ended}
 use borrow.Author.Needs.{needs}
 use Rattle.random_round_call.proofs.end_round.Statement.{statement}
 use Rattle.random_round_call.proofs.end_round.Tie as tie
 
-enum-known-rolled : tie.Need-enum-known-rolled
-enum-known-rolled c = search needs
+enum-told : tie.Need-enum-told
+enum-told c = search needs
 
 mul-settle : tie.Need-mul-settle
 mul-settle c = search needs
@@ -19,8 +20,8 @@ mul-settle c = search needs
 settle-requires : tie.Need-settle-requires
 settle-requires c κs = search needs
 
-enum-told : tie.Need-enum-told
-enum-told c = search needs
+enum-told-2 : tie.Need-enum-told-2
+enum-told-2 c = search needs
 
 mul-clear-area : tie.Need-mul-clear-area
 mul-clear-area c = search needs
@@ -42,10 +43,12 @@ same-length c = search needs
 
 returns : tie.Need-returns
 returns c =
-    let a = c .before .before .before .before .before .before .before .args in
-    λ g source old before d e h b p.
-    round-ended (a .rows) (a .columns) g old (a .work .now) (c .before .settle .last .0) (a .rolled) (randomRound g source 0) before (a .list .now) _ _
-    (λ r q. few-moves g source d (length before) r b q) (c .before .before .before .before .rolled .given .1) (λ s q. c .before .settle .ensures g s old e h q) p
+    let x = c .before in
+    let t = x .before .before in
+    let a = t .before .before .before .args in
+    λ g source origin old before d e h b p.
+    round-ended (a .rows) (a .columns) g origin old (a .work .now) (x .settle .last .0) (a .finish) (randomRound g source 0) before (a .list .now)
+    (λ r q. few-moves g source d (length before) r b q) (λ y. differ _ _ (sym (t .enum-told .given .1) ∙ y)) (λ s q. x .settle .ensures g s old e h q) p
 
 same-length-2 : tie.Need-same-length-2
 same-length-2 c = search needs
@@ -55,20 +58,23 @@ same-length-3 c = search needs
 
 returns-2 : tie.Need-returns-2
 returns-2 c =
-    let a = c .before .before .before .before .before .before .before .before .before .before .args in
-    λ g source old before d e h b p.
-    round-dry (a .rows) (a .columns) g old (a .work .now) (c .before .before .before .before .before .clear-area .last .0) (a .rolled) (randomRound g source 0) before (a .list .now) (c .before .before .clear-list .last .0) h b (c .before .before .before .before .before .before .before .enum-told .given .1)
-    (subst (λ (n : ℕ). Cleared (pos 0) (5 * n) (a .work .now) (c .before .before .before .before .before .clear-area .last .0)) (sym e) (c .before .before .before .before .before .clear-area .ensures))
-    (subst (λ (n : ℕ). Cleared 0 n (a .list .now) (c .before .before .clear-list .last .0)) (sym e) (c .before .before .clear-list .ensures)) p
+    let cl = c .before .before in
+    let ca = cl .before .before .before in
+    let t = ca .before .before in
+    let a = t .before .before .before .args in
+    λ g source origin old before d e h b p.
+    round-dry (a .rows) (a .columns) g origin old (a .work .now) (ca .clear-area .last .0) (a .finish) (randomRound g source 0) before (a .list .now) (cl .clear-list .last .0) h b (t .enum-told2 .given .1)
+    (subst (λ (n : ℕ). Cleared (pos 0) (5 * n) (a .work .now) (ca .clear-area .last .0)) (sym e) (ca .clear-area .ensures))
+    (subst (λ (n : ℕ). Cleared 0 n (a .list .now) (cl .clear-list .last .0)) (sym e) (cl .clear-list .ensures)) p
 
 pub end-round-spec : {M : Type 1} → statement M
 end-round-spec =
     tie.close
     (tie.spec
-    enum-known-rolled
+    enum-told
     mul-settle
     settle-requires
-    enum-told
+    enum-told-2
     mul-clear-area
     mul-clear-area-2
     clear-area-requires

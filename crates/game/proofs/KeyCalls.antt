@@ -1,0 +1,98 @@
+-- The keyed calls: one that isn't refused is the call by as many of the key's bytes as it used, and the old mode never runs dry. Assumes nothing.
+use Prim.Native.Nat.{ℕ, _≤_}
+use native.Mathlib.Omega.{arith}
+use mathlib.Core.Path.{_≡_, ap₂, refl, sym}
+use mathlib.Core.List.{List, [], _++_, _∷_}
+use mathlib.Core.Option.{Option, Option·none-ne-some, none, some}
+use lib.Dec.{eqb, ltb}
+use lib.IntN.{ℤ}
+use lib.ListN.{getD}
+use Rattle.game.specs.Calls.{Check, Refusal, draws, drawnRound, drawnSearch, firstGiven, gridChecks, handing, handingListed, keyCheck, keyedRoundCall, keyedRoundsCheck, keyedSearchCall, listCheck, mostRounds, numberOf, randomRoundCall, randomSearchCall, refuses, roundsCheck, unless, unlessListed}
+use Rattle.game.specs.Draws.{Mode, old}
+use Rattle.game.specs.Grid.{Grid}
+use Rattle.game.specs.Keys.{Key, keyBytes, keyed}
+use Rattle.game.specs.Rounds.{Round, Searched, randomRound, randomSearch}
+use Rattle.game.proofs.Checks.{Fails, each-fails, given-each, no-draws, none-given}
+use Rattle.game.proofs.Draws.{IfSome}
+use Rattle.game.proofs.KeyRounds.{keyed-round-lent, keyed-search-lent, old-round, old-search}
+use Rattle.game.proofs.Truth.{or-no}
+
+-- ---- the checks
+
+-- the checks of a keyed call: the grid's, the call's own and the key's
+abbrev keyedChecks : Grid → List ℤ → Check → Key → List Check
+keyedChecks g ws c k = gridChecks g ws ++ c ∷ keyCheck k ∷ []
+
+-- a refusal whose number isn't 0, and isn't that of DRAWS
+abbrev Numbered : Refusal → Type 0
+Numbered f = (1 ≤ numberOf f) × (numberOf f ≡ 6 → ⊥)
+
+-- so is each that the checks give
+numbered : (g : Grid) (ws : List ℤ) (c : Check) (k : Key) → Numbered (c .refusal) → IfSome Numbered (firstGiven (keyedChecks g ws c k))
+numbered g ws c k h =
+    given-each Numbered (keyedChecks g ws c k)
+    ((omega arith, λ e. omega arith), ((omega arith, λ e. omega arith), ((omega arith, λ e. omega arith), (h, ((omega arith, λ e. omega arith), tt)))))
+
+-- where none is given, none is without the key, with a check in place of the call's own that fails with it
+passes : (g : Grid) (ws : List ℤ) (c d : Check) (k : Key) → (Fails c → Fails d) → firstGiven (keyedChecks g ws c k) ≡ none → firstGiven (gridChecks g ws ++ d ∷ []) ≡ none
+passes g ws c d k f e =
+    let h = each-fails (keyedChecks g ws c k) e in
+    none-given (gridChecks g ws ++ d ∷ []) (h .0, (h .1 .0, (h .1 .1 .0, (f (h .1 .1 .1 .0), tt))))
+
+-- ---- a call by the key's bytes
+
+-- a keyed round that isn't refused is the round by as many of the key's bytes as it used, with the key after them
+pub keyed-round-is-lent : (mode : Mode) (g : Grid) (ws : List ℤ) (ms : List ℕ) (k : Key) → keyedRoundCall mode g ws ms k .answer .number ≡ 0
+    → keyedRoundCall mode g ws ms k ≡ handingListed k (randomRoundCall mode g ws ms (keyBytes k (getD (keyedRoundCall mode g ws ms k .answer .values) 1 0)))
+unfolding keyedRoundCall randomRoundCall
+keyed-round-is-lent mode g ws ms k = go (firstGiven (keyedChecks g ws (listCheck g ms) k)) refl (numbered g ws (listCheck g ms) k (omega arith, λ e. omega arith)) (randomRound g (keyed mode k) 0) refl
+  where
+    go : (f : Option Refusal) → firstGiven (keyedChecks g ws (listCheck g ms) k) ≡ f → IfSome Numbered f → (o : Option Round) → randomRound g (keyed mode k) 0 ≡ o
+        → unlessListed f ws ms (handingListed k (drawnRound g o ws ms)) .answer .number ≡ 0
+        → unlessListed f ws ms (handingListed k (drawnRound g o ws ms)) ≡ handingListed k (randomRoundCall mode g ws ms (keyBytes k (getD (unlessListed f ws ms (handingListed k (drawnRound g o ws ms)) .answer .values) 1 0)))
+    go (some f) q l o e z = absurd (omega arith)
+    go none q l none e z = absurd (omega arith)
+    go none q l (some r) e z =
+        ap₂ (λ (f : Option Refusal) (o : Option Round). handingListed k (unlessListed f ws ms (drawnRound g o ws ms)))
+        (sym (passes g ws (listCheck g ms) (listCheck g ms) k (λ h. h) q)) (sym (keyed-round-lent mode k g r e))
+
+-- and so is a keyed search
+pub keyed-search-is-lent : (mode : Mode) (g : Grid) (ws : List ℤ) (k : Key) (n : ℕ) → keyedSearchCall mode g ws k n .answer .number ≡ 0
+    → keyedSearchCall mode g ws k n ≡ handing k (randomSearchCall mode g ws (keyBytes k (getD (keyedSearchCall mode g ws k n .answer .values) 1 0)) n)
+unfolding keyedSearchCall randomSearchCall
+keyed-search-is-lent mode g ws k n = go (firstGiven (keyedChecks g ws (keyedRoundsCheck n) k)) refl (numbered g ws (keyedRoundsCheck n) k (omega arith, λ e. omega arith)) (randomSearch g (keyed mode k) n) refl
+  where
+    go : (f : Option Refusal) → firstGiven (keyedChecks g ws (keyedRoundsCheck n) k) ≡ f → IfSome Numbered f → (o : Option Searched) → randomSearch g (keyed mode k) n ≡ o
+        → unless f ws (handing k (drawnSearch g o ws)) .answer .number ≡ 0
+        → unless f ws (handing k (drawnSearch g o ws)) ≡ handing k (randomSearchCall mode g ws (keyBytes k (getD (unless f ws (handing k (drawnSearch g o ws)) .answer .values) 1 0)) n)
+    go (some f) q l o e z = absurd (omega arith)
+    go none q l none e z = absurd (omega arith)
+    go none q l (some r) e z =
+        ap₂ (λ (f : Option Refusal) (o : Option Searched). handing k (unless f ws (drawnSearch g o ws)))
+        (sym (passes g ws (keyedRoundsCheck n) (roundsCheck n) k (λ h. or-no (eqb n 0) (ltb mostRounds n) h .0) q)) (sym (keyed-search-lent mode k g n r e))
+
+-- ---- the old mode
+
+-- a keyed round in the old mode never answers DRAWS
+pub keyed-round-not-dry : (g : Grid) (ws : List ℤ) (ms : List ℕ) (k : Key) → keyedRoundCall old g ws ms k .answer ≡ refuses draws → ⊥
+unfolding keyedRoundCall
+keyed-round-not-dry g ws ms k =
+    let r = old-round k g 0 in
+    go (firstGiven (keyedChecks g ws (listCheck g ms) k)) (numbered g ws (listCheck g ms) k (omega arith, λ e. omega arith)) (randomRound g (keyed old k) 0) (r .0) (r .1)
+  where
+    go : (f : Option Refusal) → IfSome Numbered f → (o : Option Round) (r : Round) → o ≡ some r → unlessListed f ws ms (handingListed k (drawnRound g o ws ms)) .answer ≡ refuses draws → ⊥
+    go (some f) l o r q = no-draws (refuses f) (l .1)
+    go none l none r q = absurd (Option·none-ne-some r q)
+    go none l (some x) r q = no-draws (handingListed k (drawnRound g (some x) ws ms) .answer) (λ e. omega arith)
+
+-- nor does a keyed search
+pub keyed-search-not-dry : (g : Grid) (ws : List ℤ) (k : Key) (n : ℕ) → keyedSearchCall old g ws k n .answer ≡ refuses draws → ⊥
+unfolding keyedSearchCall
+keyed-search-not-dry g ws k n =
+    let r = old-search k g n in
+    go (firstGiven (keyedChecks g ws (keyedRoundsCheck n) k)) (numbered g ws (keyedRoundsCheck n) k (omega arith, λ e. omega arith)) (randomSearch g (keyed old k) n) (r .0) (r .1)
+  where
+    go : (f : Option Refusal) → IfSome Numbered f → (o : Option Searched) (r : Searched) → o ≡ some r → unless f ws (handing k (drawnSearch g o ws)) .answer ≡ refuses draws → ⊥
+    go (some f) l o r q = no-draws (refuses f) (l .1)
+    go none l none r q = absurd (Option·none-ne-some r q)
+    go none l (some x) r q = no-draws (handing k (drawnSearch g (some x) ws) .answer) (λ e. omega arith)

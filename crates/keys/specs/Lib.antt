@@ -1,0 +1,2 @@
+-- What a key of the code stands for.
+pub mod Stands

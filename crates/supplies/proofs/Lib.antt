@@ -1,0 +1,4 @@
+pub mod Growth
+pub mod KeyTurns
+pub mod Bytes
+pub mod Standing
