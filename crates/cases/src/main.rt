@@ -121,16 +121,21 @@ fn lay_board(text: &[u8], grid: &mut [i32]) {
     fields::lay_last(text, b"last=", grid);
 }
 
-// Fills what is lent to a case, runs its call, and prints what was lent.
+// Runs a case's call on what was filled for it, and prints what was lent.
+fn run_laid(text: &[u8], grid: &[i32], work: &mut [i32], list: &mut [u32], draws: &[u8]) {
+    let answer = call(text, grid, work, list, draws);
+    trials::print_answer(answer);
+    print_list(list);
+    trials::print_area(work);
+}
+
+// Fills what is lent to a case, and runs its call.
 fn run_on(text: &[u8], grid: &mut [i32], work: &mut [i32], list: &mut [u32], draws: &mut [u8]) {
     lay_board(text, grid);
     fields::lay_values(text, b"work=", work);
     fields::lay_words(text, b"list=", list);
     fields::lay_bytes(text, b"draws=", draws);
-    let answer = call(text, grid, work, list, draws);
-    trials::print_answer(answer);
-    print_list(list);
-    trials::print_area(work);
+    run_laid(text, grid, work, list, draws);
 }
 
 // Runs a case on the first numbers of what there is to lend.
