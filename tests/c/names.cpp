@@ -49,7 +49,7 @@ int main() {
     const bool strictly = typed == LAVGERIN_NUMBER && cell == 0 && right == LAVGERIN_SUCCESS && again == 5;
     const bool both_modes = old_mode == LAVGERIN_SUCCESS && rolled == 5 && used == 12 && fair_mode == LAVGERIN_SUCCESS &&
                             fairly == 5 && spent == 16;
-    const bool keys_too = keyed == LAVGERIN_SUCCESS && by_key == 5 && words == 12 && key[5] == 6615241 + 3 * 362437 &&
+    const bool keys_too = keyed == LAVGERIN_SUCCESS && by_key == 5 && words == 8 && key[5] == 6615241 + 2 * 362437 &&
                           no_key == LAVGERIN_KEY;
     return as_expected && files_too && strictly && both_modes && keys_too ? 0 : 1;
 }
