@@ -8,7 +8,7 @@ import random, sys
 
 from case_lines import board_of, case_lines, printed, run, values
 
-PRESENT = {"3bv", "greedy", "openings-first", "random-round", "random-search", "replay", "write-mbf"}
+PRESENT = {"3bv", "greedy", "openings-first", "random-round", "random-search", "keyed-round", "keyed-search", "replay", "write-mbf"}
 
 
 def fields(case):
@@ -42,6 +42,8 @@ def refused(case):
     lines = [f"{name} 11 {cell} 0" + (" 0" if call == "replay" else "")]
     if call == "write-mbf":
         return lines + [printed(values(found["file"], "bytes"))]
+    if call.startswith("keyed"):
+        lines.append("".join(f" {n}" for n in found["key"].split(",")))
     words = values(found.get("list", ""), "numbers")
     return lines + ([printed(words, True)] if words else []) + [printed(values(found.get("work", ""), "numbers"))]
 
@@ -77,14 +79,16 @@ def random_case(rng, k):
     if call == "write-mbf":
         return line + f" file=77x{rng.choice((2, 4 + 2 * cells, 4 + 2 * cells + 3))}"
     line += f" work=7x{5 * cells + rng.choice((-1, 0, 0, 3))}"
-    if call in ("greedy", "openings-first", "random-round"):
+    if call in ("greedy", "openings-first", "random-round", "keyed-round"):
         line += f" list=4294967295x{cells + rng.choice((-1, 0, 0, 2))}"
     if call == "replay":
         moves = [rng.choice("LFCU") + str(rng.randrange(cells + 1)) for _ in range(rng.randint(1, 5))]
         line += f" list={','.join(moves)} count={len(moves) + rng.choice((0, 0, 0, 1))}"
     if call in ("random-round", "random-search"):
         line += f" draws={''.join('%02X' % rng.randrange(256) for _ in range(rng.choice((3, 40, 160))))}{'FF' * rng.choice((0, 8))} fair={rng.choice((0, 1))}"
-    return line + (f" rounds={rng.choice((0, 1, 3))}" if call == "random-search" else "")
+    if call.startswith("keyed"):
+        line += f" key={','.join(str(rng.choice((0, 0, 1, rng.getrandbits(32)))) for _ in range(6))} fair={rng.choice((0, 1))}"
+    return line + (f" rounds={rng.choice((0, 1, 3))}" if call.endswith("search") else "")
 
 
 def main():
