@@ -1,11 +1,12 @@
-//! Measures ours and the Rust on the same boards in one run, then our replays, our files, our strict calls, the modes of our draws and the memory, and prints the tables. docs/SPEED.md says what is counted.
+//! Measures ours and the Rust on the same boards in one run, then our replays, our files, our strict calls, the modes of our draws, our keys and the memory, and prints the tables. docs/SPEED.md says what is counted.
 //!
-//! With no word it runs all rows, with `replays`, `files`, `strict`, `modes` or `memory` these alone. `count ROW SIDE`, `replay ROW`, `file ROW`, `form ROW` and `mode ROW` are what it runs of itself under callgrind: one call a board.
+//! With no word it runs all rows, with `replays`, `files`, `strict`, `modes`, `keys` or `memory` these alone. `count ROW SIDE`, `replay ROW`, `file ROW`, `form ROW`, `mode ROW` and `key ROW` are what it runs of itself under callgrind: one call a board.
 #[allow(dead_code)]
 #[path = "../oracle/boards.rs"]
 mod boards;
 mod clock;
 mod files;
+mod keys;
 mod lists;
 mod lots;
 mod memory;
@@ -26,7 +27,7 @@ use original::safe_board; // where the Rust looks for it
 use rows::Row;
 use sides::{MEASURED, SIDES, Side};
 use std::process::Command;
-use table::{Filed, Formed, Measures, Replayed, Searched, Touched};
+use table::{Filed, Formed, Keyed, Measures, Replayed, Searched, Touched};
 
 /// Prints each answer: both sides must print the same.
 fn count(row: &Row, side: Side) {
@@ -65,6 +66,14 @@ fn mode(row: &modes::Row) {
     let boards = row.lot.make();
     for case in &mut modes::cases(row, &boards) {
         modes::play(case);
+    }
+}
+
+/// Searches on each board by lent bytes or by a key; ends if an answer is wrong.
+fn key(row: &keys::Row) {
+    let boards = row.lot.make();
+    for case in &mut keys::cases(row, &boards) {
+        keys::play(case);
     }
 }
 
@@ -235,6 +244,25 @@ fn measure_mode(place: usize, row: &modes::Row) -> Searched {
     }
 }
 
+/// A search by lent bytes or by a key measured.
+fn measure_key(place: usize, row: &keys::Row) -> Keyed {
+    let boards = row.lot.make();
+    let mut cases = keys::cases(row, &boards);
+    let words = ["key", &place.to_string()];
+    let (instructions, time) = alone(
+        &row.file_name(),
+        &words,
+        &mut cases,
+        keys::play,
+        row.samples,
+    );
+    Keyed {
+        row: *row,
+        instructions,
+        time,
+    }
+}
+
 /// Data read and written by a call, and misses, the mean over the boards. callgrind's order: instructions, reads, writes, misses of instructions, of reads, of writes.
 fn measure_memory(row: &memory::Row) -> Touched {
     eprintln!("measuring {}", row.file_name());
@@ -289,6 +317,14 @@ fn print_modes() {
     table::print_modes(&searched.collect::<Vec<Searched>>());
 }
 
+/// All keys.
+fn print_keys() {
+    let rows = keys::all();
+    let rows = rows.iter().enumerate();
+    let keyed = rows.map(|(place, row)| measure_key(place, row));
+    table::print_keys(&keyed.collect::<Vec<Keyed>>());
+}
+
 /// All of the memory.
 fn print_memory() {
     let touched: Vec<Touched> = memory::all().iter().map(measure_memory).collect();
@@ -306,6 +342,7 @@ fn run() {
             print_files();
             print_forms();
             print_modes();
+            print_keys();
             print_memory();
             table::print_notes();
         }
@@ -313,6 +350,7 @@ fn run() {
         ["files"] => print_files(),
         ["strict"] => print_forms(),
         ["modes"] => print_modes(),
+        ["keys"] => print_keys(),
         ["memory"] => print_memory(),
         ["count", place, side] => {
             let side = SIDES.into_iter().find(|one| one.word() == side);
@@ -323,8 +361,9 @@ fn run() {
         ["file", place] => file(&files::all()[place_of(place)]),
         ["form", place] => form(&strict::all()[place_of(place)]),
         ["mode", place] => mode(&modes::all()[place_of(place)]),
+        ["key", place] => key(&keys::all()[place_of(place)]),
         _ => panic!(
-            "no words, or: replays, or: files, or: strict, or: modes, or: memory, or: count ROW SIDE, or: replay ROW, or: file ROW, or: form ROW, or: mode ROW"
+            "no words, or: replays, or: files, or: strict, or: modes, or: keys, or: memory, or: count ROW SIDE, or: replay ROW, or: file ROW, or: form ROW, or: mode ROW, or: key ROW"
         ),
     }
 }

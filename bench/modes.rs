@@ -105,27 +105,32 @@ pub fn cases<'a>(row: &Row, boards: &'a [Board]) -> Vec<Case<'a>> {
     lent.map(&mut case).collect()
 }
 
-/// One search.
-fn search(case: &mut Case, mode: Mode) -> Answer {
+/// One search of so many rounds by these draws.
+pub fn search_by(board: &Board, work: &mut [i32], draws: &[u8], mode: Mode, rounds: usize) -> Answer {
     let (mut clicks, mut used) = (0, 0);
-    // SAFETY: each pointer is of a vector with the length beside it, and none of them overlap.
+    // SAFETY: each pointer is of a slice with the length beside it, and none of them overlap.
     let number = unsafe {
         lavgerin_random_search(
-            case.board.rows,
-            case.board.columns,
-            case.board.values.as_ptr(),
-            case.board.values.len(),
-            case.work.as_mut_ptr(),
-            case.work.len(),
-            case.draws.as_ptr(),
-            case.draws.len(),
+            board.rows,
+            board.columns,
+            board.values.as_ptr(),
+            board.values.len(),
+            work.as_mut_ptr(),
+            work.len(),
+            draws.as_ptr(),
+            draws.len(),
             mode as u8,
-            case.row.rounds,
+            rounds,
             &mut clicks,
             &mut used,
         )
     };
     (number, clicks, used)
+}
+
+/// The search of a case.
+fn search(case: &mut Case, mode: Mode) -> Answer {
+    search_by(case.board, &mut case.work, &case.draws, mode, case.row.rounds)
 }
 
 /// Whether the fair mode may spend one of the words that the old mode takes: it is below 2^32 by no more than there are cells, and so candidates.

@@ -1,5 +1,6 @@
-//! What is printed: the ratios, how the cost of a cell grows with the board, the replays, the files, the strict calls, the modes, the memory, and what was counted.
+//! What is printed: the ratios, how the cost of a cell grows with the board, the replays, the files, the strict calls, the modes, the keys, the memory, and what was counted.
 use crate::files::{self, Work};
+use crate::keys::{self, Origin};
 use crate::lots::Lot;
 use crate::modes::{self, Mode, SPARE};
 use crate::replays;
@@ -39,6 +40,13 @@ pub struct Formed {
 pub struct Searched {
     pub row: modes::Row,
     pub used: u64,
+    pub instructions: f64,
+    pub time: f64,
+}
+
+/// A random search of ours by lent bytes or by a key: instructions and microseconds.
+pub struct Keyed {
+    pub row: keys::Row,
     pub instructions: f64,
     pub time: f64,
 }
@@ -254,6 +262,44 @@ pub fn print_modes(all: &[Searched]) {
     let fair = all.iter().filter(|searched| !is_old(searched));
     let used: Vec<String> = fair.map(|fair| bytes_used(fair, old_of(fair))).collect();
     println!("\nDraw bytes used over all boards: {}.", used.join("; "));
+}
+
+const KEYS: &str = "\
+| draws from | mode | board | boards | rounds | instructions | beside lent bytes | µs | samples |
+|---|---|---|--:|--:|--:|--:|--:|--:|";
+
+/// A search by lent bytes or by a key, beside the lent bytes in that mode on the same boards.
+fn print_keyed(keyed: &Keyed, lent: &Keyed) {
+    let row = keyed.row;
+    let ratio = keyed.instructions / lent.instructions;
+    println!(
+        "| {} | {} | {} | {} | {} | {} | {} | {} | {} |",
+        row.origin.name(),
+        row.mode.name(),
+        row.lot.name(),
+        row.lot.boards,
+        row.rounds,
+        shown(keyed.instructions),
+        match row.origin {
+            Origin::Lent => String::new(),
+            Origin::Key => format!("{ratio:.4}"),
+        },
+        shown(keyed.time),
+        row.samples
+    );
+}
+
+/// The table of the keys.
+pub fn print_keys(all: &[Keyed]) {
+    let lent_of = |keyed: &Keyed| {
+        let same = |other: &Keyed| other.row.lot == keyed.row.lot && other.row.mode == keyed.row.mode;
+        let lent = |other: &&Keyed| other.row.origin == Origin::Lent && same(other);
+        all.iter().find(lent).expect("the lent bytes")
+    };
+    println!("\n{KEYS}");
+    for keyed in all {
+        print_keyed(keyed, lent_of(keyed));
+    }
 }
 
 const MEMORY: &str = "\

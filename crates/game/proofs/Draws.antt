@@ -6,7 +6,7 @@ use mathlib.Core.Path.{_∙_, _≡_, ap, refl, subst, sym}
 use mathlib.Core.Logic.{_⊎_, inl, inr}
 use mathlib.Core.Bool.{Bool, cond, false, true}
 use mathlib.Core.List.{List}
-use mathlib.Core.Option.{Option, Option·map, none, some}
+use mathlib.Core.Option.{Option, Option·map, Option·some-ne-none, none, some}
 use lib.Dec.{T, leb, leb→le, nleb→lt}
 use lib.ListN.{length}
 use borrow.Author.Tests.{le-leb, lt-leb}
@@ -95,6 +95,25 @@ module _ (word to : ℕ → ℕ) (mode : Mode) (n c : ℕ) (same : (a : ℕ) →
       go : (b : Bool) → cond b (some (record { place = 0; next = c + at })) (firstTaken to mode n k (c + at)) ≡ Option·map (drawn-from c) (cond b (some (record { place = 0; next = at })) (firstTaken word mode n k at))
       go true = refl
       go false = taken-behind k at
+
+-- none of k words is taken: each is spent
+pub all-spent : (word : ℕ → ℕ) (mode : Mode) (n k at : ℕ) → firstTaken word mode n k at ≡ none → (i : ℕ) → i < k → taken mode n (word (at + 4 * i)) ≡ false
+all-spent word mode n zero at e i h = absurd (omega arith)
+all-spent word mode n (suc k) at e i h = go (taken mode n (word at)) refl (λ q j l. all-spent word mode n k (at + 4) q j l) e i h
+  where
+    go : (b : Bool) → taken mode n (word at) ≡ b → (firstTaken word mode n k (at + 4) ≡ none → (j : ℕ) → j < k → taken mode n (word (at + 4 + 4 * j)) ≡ false)
+        → orNext b (taking word n at) (firstTaken word mode n k (at + 4)) ≡ none → (i : ℕ) → i < suc k → taken mode n (word (at + 4 * i)) ≡ false
+    go true q r e i h = absurd (Option·some-ne-none _ e)
+    go false q r e zero h = ap (λ (a : ℕ). taken mode n (word a)) (omega arith) ∙ q
+    go false q r e (suc i) h = ap (λ (a : ℕ). taken mode n (word a)) (omega arith) ∙ r e i (omega arith)
+
+-- each is spent: none is taken
+pub spent-dry : (word : ℕ → ℕ) (mode : Mode) (n k at : ℕ) → ((i : ℕ) → i < k → taken mode n (word (at + 4 * i)) ≡ false) → firstTaken word mode n k at ≡ none
+spent-dry word mode n zero at h = refl
+spent-dry word mode n (suc k) at h =
+    let here : taken mode n (word at) ≡ false = ap (λ (a : ℕ). taken mode n (word a)) (omega arith) ∙ h 0 (omega arith) in
+    ap (λ (b : Bool). orNext b (taking word n at) (firstTaken word mode n k (at + 4))) here
+    ∙ spent-dry word mode n k (at + 4) (λ i l. ap (λ (a : ℕ). taken mode n (word a)) (omega arith) ∙ h (suc i) (omega arith))
 
 -- ---- a draw from lent bytes
 

@@ -1,17 +1,17 @@
--- The keyed calls: one that isn't refused is the call by as many of the key's bytes as it used, and the old mode never runs dry. Assumes nothing.
-use Prim.Native.Nat.{ℕ, _≤_}
+-- The keyed calls: one that isn't refused is the call by as many of the key's bytes as it used, and answers the key after so many words; the old mode never runs dry. Assumes nothing.
+use Prim.Native.Nat.{ℕ, _/_, _≤_}
 use native.Mathlib.Omega.{arith}
 use mathlib.Core.Path.{_≡_, ap₂, refl, sym}
 use mathlib.Core.List.{List, [], _++_, _∷_}
 use mathlib.Core.Option.{Option, Option·none-ne-some, none, some}
 use lib.Dec.{eqb, ltb}
 use lib.IntN.{ℤ}
-use lib.ListN.{getD}
-use Rattle.game.specs.Calls.{Check, Refusal, draws, drawnRound, drawnSearch, firstGiven, gridChecks, handing, handingListed, keyCheck, keyedRoundCall, keyedRoundsCheck, keyedSearchCall, listCheck, mostRounds, numberOf, randomRoundCall, randomSearchCall, refuses, roundsCheck, unless, unlessListed}
+use lib.ListN.{getD, length}
+use Rattle.game.specs.Calls.{Check, Refusal, draws, drawnRound, drawnSearch, firstGiven, gridChecks, handing, handingListed, keyCheck, keyedRoundCall, keyedRoundsCheck, keyedSearchCall, listCheck, mostRounds, numberOf, randomRoundCall, randomSearchCall, refuses, roundsCheck, unless, unlessListed, withKey}
 use Rattle.game.specs.Draws.{Mode, old}
 use Rattle.game.specs.Grid.{Grid}
-use Rattle.game.specs.Keys.{Key, keyBytes, keyed}
-use Rattle.game.specs.Rounds.{Round, Searched, randomRound, randomSearch}
+use Rattle.game.specs.Keys.{Key, keyAfter, keyBytes, keyNumbers, keyed}
+use Rattle.game.specs.Rounds.{Round, Searched, movesOf, randomRound, randomSearch}
 use Rattle.game.proofs.Checks.{Fails, each-fails, given-each, no-draws, none-given}
 use Rattle.game.proofs.Draws.{IfSome}
 use Rattle.game.proofs.KeyRounds.{keyed-round-lent, keyed-search-lent, old-round, old-search}
@@ -70,6 +70,36 @@ keyed-search-is-lent mode g ws k n = go (firstGiven (keyedChecks g ws (keyedRoun
     go none q l (some r) e z =
         ap₂ (λ (f : Option Refusal) (o : Option Searched). handing k (unless f ws (drawnSearch g o ws)))
         (sym (passes g ws (keyedRoundsCheck n) (roundsCheck n) k (λ h. or-no (eqb n 0) (ltb mostRounds n) h .0) q)) (sym (keyed-search-lent mode k g n r e))
+
+-- ---- the key after a call
+
+-- the values of a random call, with a key
+handed : (k : Key) (clicks used : ℕ) → withKey k (clicks ∷ used ∷ []) ≡ clicks ∷ used ∷ keyNumbers (keyAfter k (used / 4))
+handed k clicks used = refl
+
+-- a keyed round that isn't refused answers clicks, bytes used and the key after so many words
+pub keyed-round-hands : (mode : Mode) (g : Grid) (ws : List ℤ) (ms : List ℕ) (k : Key) → keyedRoundCall mode g ws ms k .answer .number ≡ 0
+    → (clicks : ℕ) × (used : ℕ) × (keyedRoundCall mode g ws ms k .answer .values ≡ clicks ∷ used ∷ keyNumbers (keyAfter k (used / 4)))
+unfolding keyedRoundCall
+keyed-round-hands mode g ws ms k = go (firstGiven (keyedChecks g ws (listCheck g ms) k)) (numbered g ws (listCheck g ms) k (omega arith, λ e. omega arith)) (randomRound g (keyed mode k) 0)
+  where
+    go : (f : Option Refusal) → IfSome Numbered f → (o : Option Round) → unlessListed f ws ms (handingListed k (drawnRound g o ws ms)) .answer .number ≡ 0
+        → (clicks : ℕ) × (used : ℕ) × (unlessListed f ws ms (handingListed k (drawnRound g o ws ms)) .answer .values ≡ clicks ∷ used ∷ keyNumbers (keyAfter k (used / 4)))
+    go (some f) l o z = absurd (omega arith)
+    go none l none z = absurd (omega arith)
+    go none l (some r) z = (length (movesOf (r .steps)), r .next, handed k (length (movesOf (r .steps))) (r .next))
+
+-- and so does a keyed search
+pub keyed-search-hands : (mode : Mode) (g : Grid) (ws : List ℤ) (k : Key) (n : ℕ) → keyedSearchCall mode g ws k n .answer .number ≡ 0
+    → (clicks : ℕ) × (used : ℕ) × (keyedSearchCall mode g ws k n .answer .values ≡ clicks ∷ used ∷ keyNumbers (keyAfter k (used / 4)))
+unfolding keyedSearchCall
+keyed-search-hands mode g ws k n = go (firstGiven (keyedChecks g ws (keyedRoundsCheck n) k)) (numbered g ws (keyedRoundsCheck n) k (omega arith, λ e. omega arith)) (randomSearch g (keyed mode k) n)
+  where
+    go : (f : Option Refusal) → IfSome Numbered f → (o : Option Searched) → unless f ws (handing k (drawnSearch g o ws)) .answer .number ≡ 0
+        → (clicks : ℕ) × (used : ℕ) × (unless f ws (handing k (drawnSearch g o ws)) .answer .values ≡ clicks ∷ used ∷ keyNumbers (keyAfter k (used / 4)))
+    go (some f) l o z = absurd (omega arith)
+    go none l none z = absurd (omega arith)
+    go none l (some r) z = (r .least, r .next, handed k (r .least) (r .next))
 
 -- ---- the old mode
 

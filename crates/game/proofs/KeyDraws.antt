@@ -1,17 +1,19 @@
 -- A key that is not blank stays so: its last word is mixed from the first. Its bytes stand for its words, so a draw that ends in them is the same from them. The key after so many words is behind them. Assumes nothing.
 use Prim.Native.Nat.{ℕ, _%_, _*_, _+_, _-_, _/_, _<_, _≤_, _^_, suc, zero}
 use native.Mathlib.Omega.{arith}
+use native.Mathlib.Decide.{decLe}
 use native.Mathlib.Nat.{add-suc, add-zero, sub-zero}
 use mathlib.Core.Path.{_∙_, _≡_, ap, ap₂, refl, subst, sym}
 use mathlib.Core.Bool.{Bool, _&&_, cond, false, true}
-use mathlib.Core.Option.{Option, none, some}
+use mathlib.Core.Option.{Option, Option·some-ne-none, none, some}
 use lib.Bits.{and-le-l, and-le-r, bitXor, xor-add-and}
 use lib.Dec.{T, eqb, eqb→eq, leb}
 use lib.ListN.{getD, length, length-map}
 use Rattle.game.specs.Draws.{Drawn, Mode, allWords, draw, firstTaken, fourBytes, lent, old, taken, wordsLeft}
 use Rattle.game.specs.Keys.{Key, blank, givenBy, keyAfter, keyByte, keyBytes, keyWord, keyed, mixLeft, mixRight, mostSpent, nextKey}
 use Rattle.game.specs.Lists.{range}
-use Rattle.game.proofs.Draws.{IfSome, Whole, by-drawn, by-taken, drawn-behind, orNext, taken-turn, taking}
+use Rattle.game.proofs.Draws.{IfSome, Whole, all-spent, by-drawn, by-taken, drawn-behind, orNext, spent-dry, taken-turn, taking}
+use Rattle.game.proofs.Keys.{keyed-more, keyed-one}
 use Rattle.game.proofs.Members.{getD-range, length-from}
 use Rattle.game.proofs.Parts.{Behind}
 use Rattle.game.proofs.Truth.{no→false}
@@ -110,6 +112,23 @@ key-spends mode k at n d e =
 -- at most 64 words are spent on a draw
 pub keyed-within : (mode : Mode) (k : Key) (at n : ℕ) (d : Drawn) → keyed mode k at n ≡ some d → (at ≤ d .next) × (d .next ≤ at + 256)
 keyed-within mode k at n d e = let h = key-spends mode k at n d e in (h .0 .onward, h .1)
+
+-- the word that is so many words on from a place
+word-on : (at i : ℕ) → (at + 4 * i) / 4 ≡ at / 4 + i
+word-on at i = omega arith
+
+-- a draw is dry exactly where there is more than one candidate and 64 words are spent
+pub keyed-dry : (mode : Mode) (k : Key) (at n : ℕ) → keyed mode k at n ≡ none → (1 < n) × ((i : ℕ) → i < 64 → taken mode n (keyWord k (at / 4 + i)) ≡ false)
+keyed-dry mode k at n e =
+    elim (decLe n 1) [
+      | yes h ↦ absurd (Option·some-ne-none _ (sym (keyed-one mode k at n h) ∙ e))
+      | no h ↦ let more : 1 < n = omega arith in
+          (more, λ i l. ap (λ (j : ℕ). taken mode n (keyWord k j)) (sym (word-on at i)) ∙ all-spent (λ a. keyWord k (a / 4)) mode n 64 at (sym (keyed-more mode k at n more) ∙ e) i l)
+    ]
+
+pub keyed-spent : (mode : Mode) (k : Key) (at n : ℕ) → 1 < n → ((i : ℕ) → i < 64 → taken mode n (keyWord k (at / 4 + i)) ≡ false) → keyed mode k at n ≡ none
+keyed-spent mode k at n h e =
+    keyed-more mode k at n h ∙ spent-dry (λ a. keyWord k (a / 4)) mode n 64 at (λ i l. ap (λ (j : ℕ). taken mode n (keyWord k j)) (word-on at i) ∙ e i l)
 
 -- and whole ones
 pub keyed-whole : (mode : Mode) (k : Key) (at n : ℕ) (d : Drawn) → keyed mode k at n ≡ some d → Whole at (d .next)
