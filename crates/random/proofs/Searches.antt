@@ -1,11 +1,13 @@
 -- Rounds one after another: what they came to so far; a round that stayed at its place would come again and again. Assumes nothing.
-use Prim.Native.Nat.{ℕ, _-_, _<_, min, suc, zero}
+use Prim.Native.Nat.{ℕ, _+_, _-_, _/_, _<_, _≤_, min, suc, zero}
 use native.Mathlib.Omega.{arith}
 use mathlib.Core.Path.{_∙_, _≡_, ap, ap₂, refl, subst, sym}
-use mathlib.Core.Bool.{cond}
+use mathlib.Core.Logic.{inl, inr}
+use mathlib.Core.Bool.{Bool, cond, false, true}
 use mathlib.Core.List.{List}
 use mathlib.Core.Option.{Option, none, some}
-use lib.Dec.{eqb}
+use lib.Dec.{T, eqb}
+use borrow.Author.Tests.{eq-eqb}
 use lib.IntN.{ℤ}
 use lib.ListN.{length}
 use Rattle.random.specs.declared.Finish.{Finish}
@@ -13,7 +15,7 @@ use Rattle.random.specs.declared.Finish.the-variants.{Dry, Ended}
 use Rattle.area.specs.Stages.{Stands, held}
 use Rattle.game.specs.Draws.{Mode, Source}
 use Rattle.supplies.specs.declared.Supply.{Supply}
-use Rattle.supplies.specs.Origins.{Origin, Reads, Somewhere, sourceOf}
+use Rattle.supplies.specs.Origins.{Origin, Reads, Somewhere, bytes-lent, key-given, sourceOf}
 use Rattle.game.specs.Grid.{Grid}
 use Rattle.game.specs.Moves.{Move, after}
 use Rattle.game.specs.Position.{Position, untouched}
@@ -21,6 +23,8 @@ use Rattle.game.specs.Rounds.{Round, Searched, movesOf, randomRound, randomSear
 use Rattle.random.specs.Promises.{CountsSafe, Rolling, Searching, once}
 use Rattle.rounds.specs.Promises.{Fresh}
 use Rattle.game.proofs.Tidy.{untouched-tidy}
+use Rattle.game.proofs.Draws.{Used}
+use Rattle.game.proofs.Randoms.{random-uses}
 use Rattle.game.proofs.Searches.{first, goes-on, onward, still-same}
 use Rattle.supplies.proofs.Standing.{at-used}
 
@@ -181,3 +185,49 @@ pub still-counted : (rows columns : ℕ) (w : List ℤ) (mode : Mode) (bytes : L
 still-counted rows columns w mode bytes clicks supply more w′ least rest left safe m i f =
     let s = m .sofar (f .grid) (f .old) (f .moves) (i .origin) (supply .used) (f .stands) (i .reads) in
     (record { grid = f .grid; old = f .old; moves = s .moves; stands = s .stands; counts = f .counts }, record { origin = i .origin; reads = s .reads })
+
+-- ---- few rounds are left
+
+-- the rounds that can still be played by lent bytes: none, or one more than a quarter of the bytes that are left
+abbrev turns : ℕ → ℕ → ℕ → ℕ
+turns bytes at zero = 0
+turns bytes at (suc left) = 1 + (bytes - at) / 4
+
+-- by a key as many as are left
+abbrev pub turnsOf : ℕ → Supply → ℕ → ℕ
+turnsOf bytes s left = cond (s .keyed) left (turns bytes (s .used) left)
+
+-- a round that used no bytes is the last, any other used four at least
+turns-used : (bytes : List ℕ) (at next left still : ℕ) → 0 < left → Used bytes at next → still ≡ cond (eqb next at) 0 (left - 1) → turns (length bytes) next still < turns (length bytes) at left
+turns-used bytes at next zero still h u z = absurd (omega arith)
+turns-used bytes at next (suc left) still h u z = go (eqb next at) refl still z u
+  where
+    go : (b : Bool) → eqb next at ≡ b → (k : ℕ) → k ≡ cond b 0 (suc left - 1) → Used bytes at next → turns (length bytes) next k < 1 + (length bytes - at) / 4
+    go true e zero q u = omega arith
+    go true e (suc k) q u = absurd (omega arith)
+    go false e zero q u = omega arith
+    go false e (suc k) q (inl f) = absurd (subst T (sym (eq-eqb next at f) ∙ e) tt)
+    go false e (suc k) q (inr f) =
+        let h : 1 + (length bytes - next) / 4 < 1 + (length bytes - at) / 4 = omega (arith, f .0, f .1) in h
+
+-- each round played leaves fewer that can still be played
+pub turns-fall : (rows columns : ℕ) (mode : Mode) (bytes : List ℕ) (w w′ : List ℤ) (rest : Supply) (r : Finish) (safe : ℕ) → CountsSafe rows columns w safe → Somewhere rest
+    → ((g : Grid) (s : Position) (old : List ℤ) (origin : Origin) (at : ℕ) → Stands rows columns g s old w → Reads origin at rest → Searching rows columns g old origin (once (randomRound g (sourceOf mode bytes origin) at)) w′ r)
+    → (paid : ℕ) (on : Supply) (left still : ℕ) → r ≡ Ended paid on → 0 < left → still ≡ cond (eqb (on .used) (rest .used)) 0 (left - 1) → still ≤ left - 1
+    → turnsOf (length bytes) on still < turnsOf (length bytes) rest left
+turns-fall rows columns mode bytes w w′ rest r safe f i q paid on left still y h z l = go (i .origin) (i .reads) (λ origin d. drawn rows columns g (f .old) origin (sourceOf mode bytes origin) (rest .used) w′ r (q g s (f .old) origin (rest .used) (f .stands) d) paid on y)
+  where
+    g : Grid
+    g = f .grid
+
+    s : Position
+    s = after g (untouched g) (f .moves)
+
+    go : (origin : Origin) → Reads origin (rest .used) rest
+        → ((origin : Origin) → Reads origin (rest .used) rest → Drawn rows columns g (f .old) origin (sourceOf mode bytes origin) (rest .used) w′ paid on)
+        → turnsOf (length bytes) on still < turnsOf (length bytes) rest left
+    go bytes-lent d c =
+        let e = c bytes-lent d in
+        let u : Used bytes (rest .used) (on .used) = rw (e .reads .used-is) (random-uses g mode bytes (rest .used) (e .round) (e .drew)) in
+        rw (e .reads .from, d .from) (turns-used bytes (rest .used) (on .used) left still h u z)
+    go (key-given k) d c = let e = c (key-given k) d in rw (e .reads .from .0, d .from .0) (omega arith)

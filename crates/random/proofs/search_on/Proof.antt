@@ -9,7 +9,7 @@ use Rattle.game.specs.Position.{untouched}
 use Rattle.game.specs.Rounds.{searchFrom}
 use Rattle.draws.specs.Answers.{modeOf}
 use Rattle.supplies.specs.Origins.{KeyRoom, sourceOf}
-use Rattle.random.proofs.Searches.{SearchMidway, midway-begins, search-breaks, search-ends, search-goes-on, still-counted}
+use Rattle.random.proofs.Searches.{SearchMidway, midway-begins, search-breaks, search-ends, search-goes-on, still-counted, turns-fall, turnsOf}
 use Rattle.random.proofs.Supplies.{round-room, rounds-room}
 use Rattle.random.proofs.search_on.Statement.{statement}
 use Rattle.random.proofs.search_on.Tie as tie
@@ -19,7 +19,7 @@ Inv-loop work₀ rows columns draws mode safe clicks more least₀ rest₀ left�
     (length work ≡ length work₀) × SearchMidway rows columns work₀ (modeOf mode) draws clicks rest₀ more work least rest left × KeyRoom (2 ^ 24 * left) rest
 
 abbrev μ-loop : tie.MeasureT-loop
-μ-loop work₀ rows columns draws mode safe clicks more least₀ rest₀ left₀ work least rest left = left
+μ-loop work₀ rows columns draws mode safe clicks more least₀ rest₀ left₀ work least rest left = turnsOf (length draws) rest left
 
 loop-holds : tie.Need-loop-holds Inv-loop μ-loop
 loop-holds c =
@@ -66,7 +66,16 @@ rounds-left-requires : tie.Need-rounds-left-requires Inv-loop μ-loop
 rounds-left-requires c κs = search needs
 
 loop-less : tie.Need-loop-less Inv-loop μ-loop
-loop-less c = search needs
+loop-less c =
+    let o = c .before .before .before in
+    let x = o .before .before .before in
+    let l = x .before .before .before in
+    let b = l .before .before in
+    let a = b .args in
+    let t = still-counted (a .rows) (a .columns) (a .work .now) (modeOf (a .mode)) (a .draws .now) (a .clicks) (a .supply) (a .more) (l .loop .work) (l .loop .least) (l .loop .rest) (l .loop .left) (a .safe)
+    (l .loop .inv .1) (b .pre .1 .1 .1 .1) (b .pre .1 .1 .0) in
+    turns-fall (a .rows) (a .columns) (modeOf (a .mode)) (a .draws .now) (l .loop .work) (x .again .last .0) (l .loop .rest) (x .again .result) (a .safe) (t .0) (t .1) (x .again .ensures .1)
+    _ _ (l .loop .left) (c .rounds-left .result) (o .rolled .given .1) (omega arith) (c .rounds-left .ensures .0) (omega (arith, c .rounds-left .ensures .1))
 
 loop-again : tie.Need-loop-again Inv-loop μ-loop
 loop-again c =
@@ -83,7 +92,7 @@ loop-again c =
             (x .again .last .0) (x .again .result) (x .again .ensures .1 g (after g (untouched g) (f .moves)) old origin (l .loop .rest .used) (f .stands) (f .reads)) (omega arith)
             _ _ (c .before .fewer .result) (c .rounds-left .result) (o .rolled .given .1) (c .before .fewer .ensures) (c .rounds-left .ensures .0);
       },
-      rounds-room (l .loop .left) (c .rounds-left .result) (l .loop .rest) _ (l .loop .inv .2) (x .again .ensures .0 .ended _ _ (o .rolled .given .1)) (loop-less c),
+      rounds-room (l .loop .left) (c .rounds-left .result) (l .loop .rest) _ (l .loop .inv .2) (x .again .ensures .0 .ended _ _ (o .rolled .given .1)) (omega (arith, c .rounds-left .ensures .1)),
     )
 
 same-length-2 : tie.Need-same-length-2 Inv-loop μ-loop
