@@ -355,6 +355,7 @@ Replays: lavgerin_replay, the moves of a list the mean over the boards; moves ma
 Files: lavgerin_read_mbf and lavgerin_write_mbf, mines in index order; the mines read and the bytes written are checked, and that a refused read leaves the grid.
 Strict calls: lavgerin_three_bv and lavgerin_strict_three_bv on boards with right numbers; the cell that NUMBER names is checked, and that it leaves the work area.
 Modes: lavgerin_random_search, the same boards and draws in both, {SPARE} words a board more than are always enough in the old mode; success is checked, and that clicks and draw bytes used are the same where no word was spent.
+Keys: lavgerin_random_search with a key's words as bytes, and lavgerin_keyed_search with that key; answers have to be the same, and the key handed back the one after the bytes used.
 Memory: callgrind's cache simulator, which is cachegrind's, with a first-level data cache of 8 KiB, two ways and 32-byte lines; one call a board, the mean over the boards."
     );
 }

@@ -19,7 +19,7 @@
  * length, and none may be NULL, also where the length is 0. What a function writes must not overlap anything else that
  * is passed.
  *
- * A call takes less than 64 KiB of stack: at most 50,064 bytes were measured up to 512 cells, where functions call each
+ * A call takes less than 64 KiB of stack: at most 50,288 bytes were measured up to 512 cells, where functions call each
  * other, and less than 2 KiB above that. On files reading took 8,344 bytes, whatever the file, and writing 88, in its
  * strict form less than 400.
  *
