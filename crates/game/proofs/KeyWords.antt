@@ -1,8 +1,5 @@
 -- The first words of the key that Marsaglia's paper begins with. Assumes nothing.
-use Prim.Native.Nat.{ℕ}
 use mathlib.Core.Bool.{_&&_}
-use mathlib.Core.List.{List, [], _∷_, map}
-use mathlib.Core.Path.{_≡_, refl}
 use lib.Dec.{T, eqb}
 use Rattle.game.specs.Keys.{Key, givenBy, keyWord, nextKey}
 

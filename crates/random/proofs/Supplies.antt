@@ -1,14 +1,14 @@
 -- Supplies of draws: their origin draws among the places; how much of a key steps and rounds leave. Assumes nothing.
-use Prim.Native.Nat.{ℕ, _*_, _+_, _/_, _<_, _^_, _≤_}
+use Prim.Native.Nat.{ℕ, _*_, _+_, _<_, _^_, _≤_}
 use native.Mathlib.Omega.{arith}
 use mathlib.Core.Path.{_∙_, _≡_, refl, subst, sym}
-use mathlib.Core.Bool.{Bool, false, true}
+use mathlib.Core.Bool.{true}
 use mathlib.Core.List.{List}
 use Rattle.game.specs.Draws.{Mode, Places}
 use Rattle.game.proofs.Draws.{lent-places}
 use Rattle.game.proofs.Keys.{keyed-places}
 use Rattle.supplies.specs.declared.Supply.{Supply}
-use Rattle.supplies.specs.Origins.{GrownBy, KeyRoom, Origin, Reads, bytes-lent, key-given, sourceOf}
+use Rattle.supplies.specs.Origins.{GrownBy, KeyRoom, Origin, bytes-lent, key-given, sourceOf}
 use Rattle.random.specs.declared.Finish.the-variants as Finishes
 use Rattle.random.specs.Promises.{RoundGrows}
 

@@ -13,7 +13,6 @@ use Rattle.game.proofs.Draws.{orNext, taken-turn, taking}
 use Rattle.draws.specs.Answers.{Bounds}
 use Rattle.keys.specs.declared.Key.{Key}
 use Rattle.keys.specs.Stands.{keyOf}
-use Rattle.supplies.specs.declared.Supply.{Supply}
 use Rattle.supplies.specs.declared.Dealt.the-variants as Deals
 use Rattle.supplies.specs.Origins.{Dealing, key-given}
 

@@ -1,7 +1,7 @@
 -- A supply of draws by its origin, lent bytes or a key, and a place there (RULES 5.1, 5.6). Assumes nothing.
 use Prim.Native.Nat.{ℕ, _+_, _/_, _^_, _≤_}
 use mathlib.Core.Path.{_≡_}
-use mathlib.Core.Bool.{Bool, false, true}
+use mathlib.Core.Bool.{false, true}
 use mathlib.Core.List.{List}
 use mathlib.Core.Option.{Option, none, some}
 use Rattle.game.specs.Draws.{Drawn, Mode, Source, lent}

@@ -1,5 +1,4 @@
 -- `supplies::draw_of_key`: among one nothing is used, among more the first word below the bound. Assumes nothing.
-use Prim.Native.Nat.{ℕ}
 use mathlib.Core.Path.{refl, subst, sym}
 use mathlib.Core.Option.{Option}
 use native.Mathlib.Omega.{arith}
