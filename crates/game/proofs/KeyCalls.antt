@@ -101,6 +101,26 @@ keyed-search-hands mode g ws k n = go (firstGiven (keyedChecks g ws (keyedRounds
     go none l none z = absurd (omega arith)
     go none l (some r) z = (r .least, r .next, handed k (r .least) (r .next))
 
+-- a keyed round that is refused answers as a refusal does, without a key
+pub keyed-round-refused : (mode : Mode) (g : Grid) (ws : List ℤ) (ms : List ℕ) (k : Key) → (keyedRoundCall mode g ws ms k .answer .number ≡ 0 → ⊥) → (f : Refusal) × (keyedRoundCall mode g ws ms k .answer ≡ refuses f)
+unfolding keyedRoundCall
+keyed-round-refused mode g ws ms k = go (firstGiven (keyedChecks g ws (listCheck g ms) k)) (randomRound g (keyed mode k) 0)
+  where
+    go : (f : Option Refusal) (o : Option Round) → (unlessListed f ws ms (handingListed k (drawnRound g o ws ms)) .answer .number ≡ 0 → ⊥) → (r : Refusal) × (unlessListed f ws ms (handingListed k (drawnRound g o ws ms)) .answer ≡ refuses r)
+    go (some f) o n = (f, refl)
+    go none none n = (draws, refl)
+    go none (some r) n = absurd (n refl)
+
+-- and so does a keyed search
+pub keyed-search-refused : (mode : Mode) (g : Grid) (ws : List ℤ) (k : Key) (n : ℕ) → (keyedSearchCall mode g ws k n .answer .number ≡ 0 → ⊥) → (f : Refusal) × (keyedSearchCall mode g ws k n .answer ≡ refuses f)
+unfolding keyedSearchCall
+keyed-search-refused mode g ws k n = go (firstGiven (keyedChecks g ws (keyedRoundsCheck n) k)) (randomSearch g (keyed mode k) n)
+  where
+    go : (f : Option Refusal) (o : Option Searched) → (unless f ws (handing k (drawnSearch g o ws)) .answer .number ≡ 0 → ⊥) → (r : Refusal) × (unless f ws (handing k (drawnSearch g o ws)) .answer ≡ refuses r)
+    go (some f) o z = (f, refl)
+    go none none z = (draws, refl)
+    go none (some r) z = absurd (z refl)
+
 -- ---- the old mode
 
 -- a keyed round in the old mode never answers DRAWS

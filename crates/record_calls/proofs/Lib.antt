@@ -4,4 +4,5 @@ pub mod OneAnswer
 pub mod Replays
 mod Walk
 mod RandomWalk
+mod KeyedWalk
 mod ReplayWalk

@@ -4,11 +4,12 @@ use mathlib.Core.Path.{_∙_, _≡_, sym}
 use mathlib.Core.List.{List}
 use lib.IntN.{ℤ}
 use Rattle.game.specs.Calls.{ListOutcome}
-use Rattle.answers.specs.Answers.{KeepsList, pricedAnswer, replayedAnswer, rolledAnswer}
+use Rattle.answers.specs.Answers.{KeepsList, keyRolledAnswer, pricedAnswer, replayedAnswer, rolledAnswer}
+use Rattle.answers.specs.declared.KeyRolled.{KeyRolled}
 use Rattle.answers.specs.declared.Priced.{Priced}
 use Rattle.answers.specs.declared.Replayed.{Replayed}
 use Rattle.answers.specs.declared.Rolled.{Rolled}
-use Rattle.answers.proofs.OneAnswer.{priced-once, replayed-once, rolled-once}
+use Rattle.answers.proofs.OneAnswer.{key-rolled-once, priced-once, replayed-once, rolled-once}
 use Rattle.records.specs.declared.MoveRecord.{MoveRecord}
 use Rattle.record_checks.specs.Promises.{KeepsRecords, RecordsOutcome}
 
@@ -20,6 +21,10 @@ module _ (p : RecordsOutcome) (w w′ : List ℤ) (l l′ : List ℕ) (run run�
   -- a single random round over a run
   pub rolled-run-once : (r r′ : Rolled) → KeepsRecords p (rolledAnswer r) w l run → KeepsRecords p (rolledAnswer r′) w′ l′ run′ → (r ≡ r′) × (w ≡ w′) × (l ≡ l′) × (run ≡ run′)
   rolled-run-once r r′ k k′ = let e = rolled-once (p .flat) r r′ w w′ l l′ (k .flat) (k′ .flat) in (e .0, e .1, e .2, k .in-records ∙ sym (k′ .in-records))
+
+  -- a keyed round over a run
+  pub keyed-run-once : (r r′ : KeyRolled) → KeepsRecords p (keyRolledAnswer r) w l run → KeepsRecords p (keyRolledAnswer r′) w′ l′ run′ → (r ≡ r′) × (w ≡ w′) × (l ≡ l′) × (run ≡ run′)
+  keyed-run-once r r′ k k′ = let e = key-rolled-once (p .flat) r r′ w w′ l l′ (k .flat) (k′ .flat) in (e .0, e .1, e .2, k .in-records ∙ sym (k′ .in-records))
 
 -- a replay over a run
 pub replay-once : (p : ListOutcome) (r r′ : Replayed) (w w′ : List ℤ) (l l′ : List ℕ) → KeepsList p (replayedAnswer r) w l → KeepsList p (replayedAnswer r′) w′ l′ → (r ≡ r′) × (w ≡ w′) × (l ≡ l′)

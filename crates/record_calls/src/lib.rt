@@ -1,14 +1,17 @@
 // The rounds and the replay over runs of move records, each as it is and in a strict form: in a round the flat list that is lent beside the run is written by the covered call, and its words become the run's records.
 use draws::Mode;
+use keys::Key;
 use records::MoveRecord;
+use zini::KeyRolled;
 use zini::Priced;
 use zini::Replayed;
 use zini::Rolled;
 ghost use mathlib.Core.Bool.{false, true};
 ghost use Rattle.draws.specs.Answers.{modeOf};
+ghost use Rattle.keys.specs.Stands.{keyOf};
 ghost use Rattle.area.specs.Numbers.{gridOf};
-ghost use Rattle.answers.specs.Answers.{KeepsList, pricedAnswer, replayedAnswer, rolledAnswer};
-ghost use Rattle.record_checks.specs.Promises.{KeepsRecords, priceRecordsCall, randomRecordsCall, replayRecordsCall, strictPriceRecordsCall, strictRandomRecordsCall, strictReplayRecordsCall};
+ghost use Rattle.answers.specs.Answers.{KeepsList, keyRolledAnswer, pricedAnswer, replayedAnswer, rolledAnswer};
+ghost use Rattle.record_checks.specs.Promises.{KeepsRecords, keyedRecordsCall, priceRecordsCall, randomRecordsCall, replayRecordsCall, strictKeyedRecordsCall, strictPriceRecordsCall, strictRandomRecordsCall, strictReplayRecordsCall};
 
 // Greedy ZiNi: its clicks, and its moves in the list and as records of the run.
 pub fn greedy_records(
@@ -87,6 +90,35 @@ pub fn random_round_records(
         false,
     );
     let count = record_checks::written_by_roll(rolled, grid.len());
+    records::records_of(run, list, count, rows);
+    rolled
+}
+
+// A single random round by a key: its clicks, its moves in the list and as records of the run, the bytes of the key used, and the key after it.
+pub fn keyed_round_records(
+    rows: usize,
+    columns: usize,
+    grid: &[i32],
+    work: &mut [i32],
+    list: &mut [u32],
+    run: &mut [MoveRecord],
+    key: Key,
+    mode: Mode,
+) -> KeyRolled
+    ensures { λ r. ⌜ KeepsRecords (keyedRecordsCall (modeOf mode) (gridOf rows columns (now (grid .entry))) (now (work .entry)) (now (list .entry)) (now (run .entry)) (keyOf key)) (keyRolledAnswer r) (now (work .exit)) (now (list .exit)) (now (run .exit)) ⌝ }
+{
+    let rolled = record_checks::keyed_in_form(
+        rows,
+        columns,
+        grid,
+        work,
+        list,
+        key,
+        mode,
+        run.len(),
+        false,
+    );
+    let count = record_checks::written_by_key(rolled, grid.len());
     records::records_of(run, list, count, rows);
     rolled
 }
@@ -195,6 +227,35 @@ pub fn strict_random_round_records(
         true,
     );
     let count = record_checks::written_by_roll(rolled, grid.len());
+    records::records_of(run, list, count, rows);
+    rolled
+}
+
+// `keyed_round_records`, but a wrong value in the grid is refused by NUMBER, and nothing lent changes.
+pub fn strict_keyed_round_records(
+    rows: usize,
+    columns: usize,
+    grid: &[i32],
+    work: &mut [i32],
+    list: &mut [u32],
+    run: &mut [MoveRecord],
+    key: Key,
+    mode: Mode,
+) -> KeyRolled
+    ensures { λ r. ⌜ KeepsRecords (strictKeyedRecordsCall (modeOf mode) (gridOf rows columns (now (grid .entry))) (now (work .entry)) (now (list .entry)) (now (run .entry)) (keyOf key)) (keyRolledAnswer r) (now (work .exit)) (now (list .exit)) (now (run .exit)) ⌝ }
+{
+    let rolled = record_checks::keyed_in_form(
+        rows,
+        columns,
+        grid,
+        work,
+        list,
+        key,
+        mode,
+        run.len(),
+        true,
+    );
+    let count = record_checks::written_by_key(rolled, grid.len());
     records::records_of(run, list, count, rows);
     rolled
 }

@@ -8,13 +8,14 @@ use lib.IntN.{ℤ}
 use lib.ListN.{length, take}
 use Rattle.game.specs.Draws.{Mode}
 use Rattle.game.specs.Grid.{Grid}
-use Rattle.game.specs.Calls.{ListOutcome, Refusal, aboveCheck, boardChecks, firstGiven, keptListed, priceCall, randomRoundCall, replayCall, roomCheck, strictly, unless, workCheck}
+use Rattle.game.specs.Keys.{Key}
+use Rattle.game.specs.Calls.{ListOutcome, Refusal, aboveCheck, boardChecks, firstGiven, keptListed, keyedRoundCall, priceCall, randomRoundCall, replayCall, roomCheck, strictly, unless, workCheck}
 use Rattle.game.proofs.Checks.{first-decides}
 use Rattle.game.proofs.Strict.{AllRight}
 use Rattle.game.proofs.StrictCalls.{same-strictly, strict-board, strict-right}
 use Rattle.records.specs.Records.{moveWord, over}
 use Rattle.records.specs.declared.MoveRecord.{MoveRecord}
-use Rattle.record_checks.specs.Promises.{copiedIf, inRecords, keptRecords, priceRecordsCall, randomRecordsCall, replayRecordsCall, strictPriceRecordsCall, strictRandomRecordsCall, strictReplayRecordsCall, withList, within}
+use Rattle.record_checks.specs.Promises.{copiedIf, inRecords, keptRecords, keyedRecordsCall, priceRecordsCall, randomRecordsCall, replayRecordsCall, strictKeyedRecordsCall, strictPriceRecordsCall, strictRandomRecordsCall, strictReplayRecordsCall, withList, within}
 use Rattle.record_checks.proofs.Keeping.{form-in-records}
 
 module _ (g : Grid) (r : AllRight g) (ws : List ℤ) (ms : List ℕ) (run : List MoveRecord) where
@@ -29,6 +30,9 @@ module _ (g : Grid) (r : AllRight g) (ws : List ℤ) (ms : List ℕ) (run : List
 
   pub right-random : (mode : Mode) (bytes : List ℕ) → strictRandomRecordsCall mode g ws ms run bytes ≡ randomRecordsCall mode g ws ms run bytes
   right-random mode bytes = right-round (randomRoundCall mode g ws ms bytes)
+
+  pub right-keyed : (mode : Mode) (k : Key) → strictKeyedRecordsCall mode g ws ms run k ≡ keyedRecordsCall mode g ws ms run k
+  right-keyed mode k = right-round (keyedRoundCall mode g ws ms k)
 
   -- SHAPE or BOARD of a replay copies no word
   replay-board : (n : ℕ) (f : Refusal) → firstGiven (boardChecks g) ≡ some f → replayRecordsCall g ws ms run n ≡ keptListed ws ms f

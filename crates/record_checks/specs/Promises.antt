@@ -9,7 +9,8 @@ use lib.Dec.{eqb}
 use lib.ListN.{getD, length, take}
 use Rattle.game.specs.Draws.{Mode}
 use Rattle.game.specs.Grid.{Grid}
-use Rattle.game.specs.Calls.{Answer, Check, ListOutcome, Outcome, Refusal, aboveCheck, draws, firstGiven, gridChecks, keptListed, numberOf, priceCall, randomRoundCall, replayCall, roomCheck, strictly, unless, unlessListed}
+use Rattle.game.specs.Keys.{Key}
+use Rattle.game.specs.Calls.{Answer, Check, ListOutcome, Outcome, Refusal, aboveCheck, draws, firstGiven, gridChecks, keptListed, keyedRoundCall, numberOf, priceCall, randomRoundCall, replayCall, roomCheck, strictly, unless, unlessListed}
 use Rattle.answers.specs.Answers.{KeepsList}
 use Rattle.records.specs.Records.{moveWord, over, recordOf}
 use Rattle.records.specs.declared.MoveRecord.{MoveRecord}
@@ -43,6 +44,10 @@ priceRecordsCall openingsFirst g ws ms run = inRecords g (within g ws ms (length
 abbrev pub randomRecordsCall : Mode → Grid → List ℤ → List ℕ → List MoveRecord → List ℕ → RecordsOutcome
 randomRecordsCall mode g ws ms run bytes = inRecords g (within g ws ms (length run) (randomRoundCall mode g ws ms bytes)) run
 
+-- a keyed round over a run
+abbrev pub keyedRecordsCall : Mode → Grid → List ℤ → List ℕ → List MoveRecord → Key → RecordsOutcome
+keyedRecordsCall mode g ws ms run k = inRecords g (within g ws ms (length run) (keyedRoundCall mode g ws ms k)) run
+
 -- a refusal changes nothing lent: the work area, the list and the run stay
 abbrev pub keptRecords : List ℤ → List ℕ → List MoveRecord → Refusal → RecordsOutcome
 keptRecords ws ms run f = record { flat = keptListed ws ms f; run = run }
@@ -54,6 +59,10 @@ strictPriceRecordsCall openingsFirst g ws ms run = strictly (keptRecords ws ms r
 -- a single random round over a run, strictly
 abbrev pub strictRandomRecordsCall : Mode → Grid → List ℤ → List ℕ → List MoveRecord → List ℕ → RecordsOutcome
 strictRandomRecordsCall mode g ws ms run bytes = strictly (keptRecords ws ms run) g (randomRecordsCall mode g ws ms run bytes)
+
+-- a keyed round over a run, strictly
+abbrev pub strictKeyedRecordsCall : Mode → Grid → List ℤ → List ℕ → List MoveRecord → Key → RecordsOutcome
+strictKeyedRecordsCall mode g ws ms run k = strictly (keptRecords ws ms run) g (keyedRecordsCall mode g ws ms run k)
 
 -- a call over a run keeps its promise: that of the flat call, and the run's
 pub record KeepsRecords (promise : RecordsOutcome) (answer : Answer) (work : List ℤ) (list : List ℕ) (run : List MoveRecord) : Type 0 where

@@ -1,7 +1,9 @@
 // What the calls over runs of move records decide before and after the flat call: by the run's length whether it is refused, and how many records are written or copied. No user calls these: `record_calls` does.
 use draws::Mode;
+use keys::Key;
 use refusals::Checked;
 use refusals::Refusal;
+use zini::KeyRolled;
 use zini::Priced;
 use zini::Replayed;
 use zini::Rolled;
@@ -10,12 +12,13 @@ ghost use mathlib.Core.List.{List};
 ghost use mathlib.Core.Option.{some};
 ghost use lib.IntN.{ℤ};
 ghost use lib.ListN.{length};
-ghost use Rattle.game.specs.Calls.{firstGiven, keptListed, priceCall, randomRoundCall, refuses, replayCall, unless};
+ghost use Rattle.game.specs.Calls.{firstGiven, keptListed, keyedRoundCall, priceCall, randomRoundCall, refuses, replayCall, unless};
 ghost use Rattle.area.specs.Numbers.{gridOf};
 ghost use Rattle.draws.specs.Answers.{modeOf};
+ghost use Rattle.keys.specs.Stands.{keyOf};
 ghost use Rattle.refusals.specs.Names.{named, refusalOf};
 ghost use Rattle.number_check.specs.Forms.{inForm};
-ghost use Rattle.answers.specs.Answers.{Keeps, KeepsList, pricedAnswer, replayedAnswer, rolledAnswer};
+ghost use Rattle.answers.specs.Answers.{Keeps, KeepsList, keyRolledAnswer, pricedAnswer, replayedAnswer, rolledAnswer};
 ghost use Rattle.record_checks.specs.Promises.{copiedIf, replayChecks, within, writtenBy};
 
 // Greedy or openings-first for a run of so many records (no user calls it).
@@ -65,6 +68,34 @@ pub fn random_within(
     }
 }
 
+// A keyed round for a run of so many records (no user calls it).
+pub fn keyed_within(
+    rows: usize,
+    columns: usize,
+    grid: &[i32],
+    work: &mut [i32],
+    list: &mut [u32],
+    key: Key,
+    mode: Mode,
+    room: usize,
+) -> KeyRolled
+    ensures { λ r. ⌜ KeepsList (within (gridOf rows columns (now (grid .entry))) (now (work .entry)) (now (list .entry)) room (keyedRoundCall (modeOf mode) (gridOf rows columns (now (grid .entry))) (now (work .entry)) (now (list .entry)) (keyOf key))) (keyRolledAnswer r) (now (work .exit)) (now (list .exit)) ⌝ }
+{
+    let checked = checks::check_room(rows, columns, grid, work, room);
+    match checked {
+        Checked::Refused(refusal) => KeyRolled::Refused(refusal),
+        Checked::Fine => zini::random_calls::keyed_round(
+            rows,
+            columns,
+            grid,
+            work,
+            list,
+            key,
+            mode,
+        ),
+    }
+}
+
 // Greedy or openings-first for a run of so many records, in the strict form or as it is (no user calls it).
 pub fn price_in_form(
     rows: usize,
@@ -106,6 +137,27 @@ pub fn random_in_form(
     }
 }
 
+// A keyed round for a run of so many records, in the strict form or as it is (no user calls it).
+pub fn keyed_in_form(
+    rows: usize,
+    columns: usize,
+    grid: &[i32],
+    work: &mut [i32],
+    list: &mut [u32],
+    key: Key,
+    mode: Mode,
+    room: usize,
+    strict: bool,
+) -> KeyRolled
+    ensures { λ r. ⌜ KeepsList (inForm «strict» (keptListed (now (work .entry)) (now (list .entry))) (gridOf rows columns (now (grid .entry))) (within (gridOf rows columns (now (grid .entry))) (now (work .entry)) (now (list .entry)) room (keyedRoundCall (modeOf mode) (gridOf rows columns (now (grid .entry))) (now (work .entry)) (now (list .entry)) (keyOf key)))) (keyRolledAnswer r) (now (work .exit)) (now (list .exit)) ⌝ }
+{
+    let checked = number_check::check_form(rows, columns, grid, strict);
+    match checked {
+        Checked::Refused(refusal) => KeyRolled::Refused(refusal),
+        Checked::Fine => keyed_within(rows, columns, grid, work, list, key, mode, room),
+    }
+}
+
 // How many records a refusal writes: one for each cell after DRAWS.
 fn written_on(refusal: Refusal, cells: usize) -> usize
     ensures { λ r. ⌜ r ≡ writtenBy cells (refuses (named refusal)) ⌝ }
@@ -134,6 +186,16 @@ pub fn written_by_roll(rolled: Rolled, cells: usize) -> usize
     match rolled {
         Rolled::Clicks(clicks, _) => clicks,
         Rolled::Refused(refusal) => written_on(refusal, cells),
+    }
+}
+
+// How many records a keyed round writes (no user calls it).
+pub fn written_by_key(rolled: KeyRolled, cells: usize) -> usize
+    ensures { λ r. ⌜ r ≡ writtenBy cells (keyRolledAnswer rolled) ⌝ }
+{
+    match rolled {
+        KeyRolled::Clicks(clicks, _, _) => clicks,
+        KeyRolled::Refused(refusal) => written_on(refusal, cells),
     }
 }
 

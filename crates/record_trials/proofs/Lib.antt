@@ -3,5 +3,6 @@ mod Arrays
 mod Pieces
 mod Pricing
 mod Rolling
+mod KeyRolling
 mod Replaying
 mod Reading

@@ -1,17 +1,20 @@
-// Runs the calls over move records and by a draw reader on P7 and P11, as they are and in the strict form, in both modes of the draws, and their refusals: each prints its answer and what was lent.
+// Runs the calls over move records and by a draw reader on P7 and P11, as they are and in the strict form, in both modes of the draws, by bytes and by a key, and their refusals: each prints its answer and what was lent.
 use draws::Drawn;
 use draws::Mode;
+use keys::Key;
 use records::MoveRecord;
 use trials::plain;
 use trials::plain::Plain;
+use zini::KeyRolled;
 use zini::Priced;
 use zini::Replayed;
 use zini::Rolled;
 ghost use mathlib.Core.Bool.{false, true};
 ghost use Rattle.area.specs.Numbers.{gridOf};
 ghost use Rattle.draws.specs.Answers.{modeOf};
-ghost use Rattle.answers.specs.Answers.{KeepsList, pricedAnswer, replayedAnswer, rolledAnswer};
-ghost use Rattle.record_checks.specs.Promises.{KeepsRecords, priceRecordsCall, randomRecordsCall, replayRecordsCall, strictPriceRecordsCall, strictRandomRecordsCall, strictReplayRecordsCall};
+ghost use Rattle.keys.specs.Stands.{keyOf};
+ghost use Rattle.answers.specs.Answers.{KeepsList, keyRolledAnswer, pricedAnswer, replayedAnswer, rolledAnswer};
+ghost use Rattle.record_checks.specs.Promises.{KeepsRecords, keyedRecordsCall, priceRecordsCall, randomRecordsCall, replayRecordsCall, strictKeyedRecordsCall, strictPriceRecordsCall, strictRandomRecordsCall, strictReplayRecordsCall};
 ghost use Rattle.record_trials.specs.Readings.{Twice};
 
 // What greedy or openings-first answers, and the run that was lent.
@@ -23,6 +26,12 @@ pub struct PricedRun {
 // What a random round answers, and the run that was lent.
 pub struct RolledRun {
     pub answer: Rolled,
+    pub run: [MoveRecord; 9],
+}
+
+// What a keyed round answers, and the run that was lent.
+pub struct KeyRolledRun {
+    pub answer: KeyRolled,
     pub run: [MoveRecord; 9],
 }
 
@@ -90,6 +99,33 @@ fn random_run(
         mode,
     );
     RolledRun { answer, run: lent }
+}
+
+// A keyed round over a run of nine records.
+fn keyed_run(
+    rows: usize,
+    columns: usize,
+    grid: &[i32],
+    work: &mut [i32],
+    list: &mut [u32],
+    run: [MoveRecord; 9],
+    key: Key,
+    mode: Mode,
+) -> KeyRolledRun
+    ensures { λ r. ⌜ KeepsRecords (keyedRecordsCall (modeOf mode) (gridOf rows columns (now (grid .entry))) (now (work .entry)) (now (list .entry)) run (keyOf key)) (keyRolledAnswer (r .answer)) (now (work .exit)) (now (list .exit)) (r .run) ⌝ }
+{
+    let mut lent = run;
+    let answer = record_calls::keyed_round_records(
+        rows,
+        columns,
+        grid,
+        work,
+        list,
+        &mut lent,
+        key,
+        mode,
+    );
+    KeyRolledRun { answer, run: lent }
 }
 
 // The first records of a run of nine are replayed.
@@ -195,6 +231,33 @@ fn strict_random_run(
         mode,
     );
     RolledRun { answer, run: lent }
+}
+
+// A keyed round in the strict form over a run of nine records.
+fn strict_keyed_run(
+    rows: usize,
+    columns: usize,
+    grid: &[i32],
+    work: &mut [i32],
+    list: &mut [u32],
+    run: [MoveRecord; 9],
+    key: Key,
+    mode: Mode,
+) -> KeyRolledRun
+    ensures { λ r. ⌜ KeepsRecords (strictKeyedRecordsCall (modeOf mode) (gridOf rows columns (now (grid .entry))) (now (work .entry)) (now (list .entry)) run (keyOf key)) (keyRolledAnswer (r .answer)) (now (work .exit)) (now (list .exit)) (r .run) ⌝ }
+{
+    let mut lent = run;
+    let answer = record_calls::strict_keyed_round_records(
+        rows,
+        columns,
+        grid,
+        work,
+        list,
+        &mut lent,
+        key,
+        mode,
+    );
+    KeyRolledRun { answer, run: lent }
 }
 
 // The first records of a run of nine are replayed in the strict form.
@@ -341,6 +404,23 @@ fn random_in_form(
     random_run(rows, columns, grid, work, list, unwritten(), draws, mode)
 }
 
+// A keyed round over a run that nothing was written into, in the strict form or as it is.
+fn keyed_in_form(
+    strict: bool,
+    rows: usize,
+    columns: usize,
+    grid: &[i32],
+    work: &mut [i32],
+    list: &mut [u32],
+    key: Key,
+    mode: Mode,
+) -> KeyRolledRun {
+    if strict {
+        return strict_keyed_run(rows, columns, grid, work, list, unwritten(), key, mode);
+    }
+    keyed_run(rows, columns, grid, work, list, unwritten(), key, mode)
+}
+
 // A replay of records, in the strict form or as it is.
 fn replay_in_form(
     strict: bool,
@@ -457,6 +537,25 @@ fn rolls(
     let answer = rolled.answer;
     let run = rolled.run;
     report(strict, name, plain::of_rolled(answer));
+    print_lent(run, list, work);
+}
+
+// A keyed round over a run: its answer with the key after it, and what was lent.
+fn key_rolls(
+    strict: bool,
+    name: &[u8],
+    rows: usize,
+    columns: usize,
+    grid: &[i32],
+    work: &mut [i32],
+    list: &mut [u32],
+    key: Key,
+    mode: Mode,
+) {
+    let rolled = keyed_in_form(strict, rows, columns, grid, work, list, key, mode);
+    let answer = rolled.answer;
+    let run = rolled.run;
+    report(strict, name, plain::of_key_rolled(answer, key));
     print_lent(run, list, work);
 }
 
@@ -772,6 +871,37 @@ fn fair_11(strict: bool) {
     from_11(strict, b"fair, the bytes from 4", &bytes, 4, Mode::Fair);
 }
 
+// A keyed round on P11 over a run.
+fn key_11(strict: bool, name: &[u8], key: Key, mode: Mode) {
+    let grid = p11(strict);
+    let mut work = [7i32; 46];
+    let mut list = [4294967295u32; 10];
+    key_rolls(strict, name, 3, 3, &grid, &mut work, &mut list, key, mode);
+}
+
+// P11 by Marsaglia's key in both modes, and KEY by a key of zeros.
+fn keyed_11(strict: bool) {
+    let key = Key {
+        x: 123456789,
+        y: 362436069,
+        z: 521288629,
+        w: 88675123,
+        v: 5783321,
+        counter: 6615241,
+    };
+    key_11(strict, b"P11, keyed", key, Mode::Old);
+    key_11(strict, b"P11, keyed, fair", key, Mode::Fair);
+    let zeros = Key {
+        x: 0,
+        y: 0,
+        z: 0,
+        w: 0,
+        v: 0,
+        counter: 0,
+    };
+    key_11(strict, b"P11, a key of zeros", zeros, Mode::Old);
+}
+
 // The calls over P7 and P11, each in the strict form or as it is.
 fn calls(strict: bool) {
     seven(strict);
@@ -784,6 +914,7 @@ fn calls(strict: bool) {
     readers(strict);
     froms(strict);
     fair_11(strict);
+    keyed_11(strict);
 }
 
 // NUMBER: each strict call over a run, on three rows of three.
