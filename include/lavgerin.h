@@ -66,8 +66,8 @@ enum {
     LAVGERIN_FILE = 10,  /* the file isn't well formed: its length, a mine past the edge, or one listed twice */
     LAVGERIN_NUMBER = 11, /* of the strict functions, checked after BOARD and before WORK: a safe cell's value isn't its
                              number */
-    LAVGERIN_KEY = 12     /* of the keyed functions, checked after ROUNDS and before DRAWS: the five words of the key are
-                             all 0, or its run isn't six long */
+    LAVGERIN_KEY = 12     /* of the keyed functions, checked after ROUNDS and before DRAWS: the key's five words are all
+                             0, or its run isn't six long */
 };
 
 /* The kinds of moves. */
