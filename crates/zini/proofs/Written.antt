@@ -1,26 +1,28 @@
 -- What greedy, openings-first and a random round, by lent bytes or a key, answered and wrote, and each round of a search, meets demand 3. Assumes nothing.
-use Prim.Native.Nat.{ℕ, _+_, _≤_, min}
+use Prim.Native.Nat.{ℕ, _+_, _/_, _≤_, min}
 use native.Mathlib.Omega.{arith}
 use mathlib.Core.Path.{_≡_, ap, ap₂, refl, sym, _∙_}
-use mathlib.Core.Bool.{Bool}
+use mathlib.Core.Bool.{Bool, _||_, false}
 use mathlib.Core.List.{List, [], _∷_, _++_, map}
 use mathlib.Core.Option.{Option, none, some}
 use lib.IntN.{ℤ}
 use lib.ListN.{drop, getD, length, length-map, take}
 use lib.Seq.{take-at}
-use borrow.Author.Tests.{ne-eqb}
+use lib.Dec.{eqb, ltb}
+use borrow.Author.Tests.{le-ltb, ne-eqb}
 use Rattle.game.specs.Draws.{Mode, Places, Source, lent}
-use Rattle.game.specs.Keys.{Key, keyed}
+use Rattle.game.specs.Keys.{Key, keyAfter, keyNumbers, keyed}
 use Rattle.game.specs.Grid.{Grid, size}
 use Rattle.game.specs.Area.{listOf}
 use Rattle.game.specs.Moves.{replayFrom, word}
 use Rattle.game.specs.Position.{untouched}
 use Rattle.game.specs.Rounds.{Round, Searched, Step, greedySteps, movesOf, openingsFirstSteps, randomRound, randomSearch}
 use Rattle.game.specs.Demands.{Sound, SoundSearch}
-use Rattle.game.specs.Calls.{Answer, ListOutcome, Outcome, Refusal, drawnRound, drawnSearch, firstGiven, gives, greedyCall, gridChecks, handing, handingListed, keyCheck, keyedRoundCall, keyedRoundsCheck, keyedSearchCall, listCheck, numberOf, openingsFirstCall, playedRound, priceCall, randomRoundCall, randomSearchCall, roundBy, rounds, roundsCheck, searchBy, trace, unless, unlessListed, withKey}
+use Rattle.game.specs.Calls.{Answer, ListOutcome, Outcome, Refusal, drawnRound, drawnSearch, firstGiven, gives, greedyCall, gridChecks, handing, handingListed, keyCheck, keyedRoundCall, keyedRoundsCheck, keyedSearchCall, listCheck, mostRounds, numberOf, openingsFirstCall, playedRound, priceCall, randomRoundCall, randomSearchCall, roundBy, rounds, roundsCheck, searchBy, trace, unless, unlessListed, withKey}
 use Rattle.game.proofs.Parts.{joined, search-parts}
 use Rattle.game.proofs.Replays.{round-answers, round-replays}
 use Rattle.game.proofs.Draws.{lent-places}
+use Rattle.game.proofs.KeyRounds.{key-parts}
 use Rattle.game.proofs.Keys.{keyed-places}
 use Rattle.game.proofs.Randoms.{random-sound}
 use Rattle.game.proofs.Rounds.{greedy-sound, openings-first-sound}
@@ -160,3 +162,40 @@ searches-join mode g w w′ v v′ bytes m n clicks used clicks′ used′ k k�
     whole =
         search-parts g mode bytes m n (a .came-to) (b .came-to) (omega (arith, a .sound .as-many)) (omega (arith, b .sound .as-many)) (a .searched)
         (ap (λ (i : ℕ). randomSearch g (lent mode (drop i bytes)) n) (sym (a .used-are)) ∙ b .searched)
+
+-- two keyed searches, the second with the key that the first handed back, answer together what one search of all their rounds answers, if it may have so many
+pub keyed-searches-join : (mode : Mode) (g : Grid) (w w′ v v′ : List ℤ) (key : Key) (m n clicks used clicks′ used′ : ℕ) (vs vs′ : List ℕ) → m + n ≤ mostRounds
+    → Keeps (keyedSearchCall mode g w key m) (gives (clicks ∷ used ∷ vs)) w′ → Keeps (keyedSearchCall mode g v (keyAfter key (used / 4)) n) (gives (clicks′ ∷ used′ ∷ vs′)) v′
+    → keyedSearchCall mode g w key (m + n) .answer ≡ gives (min clicks clicks′ ∷ (used + used′) ∷ keyNumbers (keyAfter key ((used + used′) / 4)))
+unfolding keyedSearchCall
+keyed-searches-join mode g w w′ v v′ key m n clicks used clicks′ used′ vs vs′ few k k′ =
+    ap (λ (o : Option Refusal). unless o w (handing key (drawnSearch g (randomSearch g (keyed mode key) (m + n)) w)) .answer) (given-as (m + n) m (none-refused (m + n) some-of-all few) (none-refused m some-first (omega arith)) ∙ fine .0)
+    ∙ ap (λ (o : Option Searched). handing key (drawnSearch g o w) .answer) whole
+    ∙ ap₂ (λ (c u : ℕ). gives (c ∷ u ∷ keyNumbers (keyAfter key (u / 4)))) (ap₂ min (sym (a .clicks-are)) (sym (b .clicks-are))) (ap₂ _+_ (sym (a .used-are)) (sym (b .used-are)))
+  where
+    a : Told (keyed mode key) g m clicks used
+    a = keyed-told mode g w w′ key m clicks used vs k
+
+    b : Told (keyed mode (keyAfter key (used / 4))) g n clicks′ used′
+    b = keyed-told mode g v v′ (keyAfter key (used / 4)) n clicks′ used′ vs′ k′
+
+    some-first : 1 ≤ m
+    some-first = omega (arith, a .sound .as-many)
+
+    some-of-all : 1 ≤ m + n
+    some-of-all = omega (arith, a .sound .as-many)
+
+    fine : (firstGiven (gridChecks g w ++ keyedRoundsCheck m ∷ keyCheck key ∷ []) ≡ none) × Keeps (handing key (searchBy (keyed mode key) m g w)) (gives (clicks ∷ used ∷ vs)) w′
+    fine = not-turned-down (firstGiven (gridChecks g w ++ keyedRoundsCheck m ∷ keyCheck key ∷ [])) w w′ (handing key (searchBy (keyed mode key) m g w)) (clicks ∷ used ∷ vs) k
+
+    none-refused : (i : ℕ) → 1 ≤ i → i ≤ mostRounds → (eqb i 0 || ltb mostRounds i) ≡ false
+    none-refused i h l = rw (ne-eqb i 0 (λ e. omega arith)) (le-ltb mostRounds i l)
+
+    given-as : (i j : ℕ) → (eqb i 0 || ltb mostRounds i) ≡ false → (eqb j 0 || ltb mostRounds j) ≡ false
+        → firstGiven (gridChecks g w ++ keyedRoundsCheck i ∷ keyCheck key ∷ []) ≡ firstGiven (gridChecks g w ++ keyedRoundsCheck j ∷ keyCheck key ∷ [])
+    given-as i j e f = ap (λ (x : Bool). firstGiven (gridChecks g w ++ record { given = x; refusal = rounds } ∷ keyCheck key ∷ [])) (e ∙ sym f)
+
+    whole : randomSearch g (keyed mode key) (m + n) ≡ some (joined (a .came-to) (b .came-to))
+    whole =
+        key-parts mode key g m n (a .came-to) (b .came-to) some-first (omega (arith, b .sound .as-many)) (a .searched)
+        (ap (λ (i : ℕ). randomSearch g (keyed mode (keyAfter key (i / 4))) n) (sym (a .used-are)) ∙ b .searched)
