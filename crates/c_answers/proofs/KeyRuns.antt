@@ -36,16 +36,16 @@ module _ (run : List ℕ) where
   pub no-key : (length run ≡ 6 → ⊥) → noNumbers ≡ keyBy run
   no-key n = ap (λ (b : Bool). cond b (sixNumbers run) noNumbers) (sym (ne-eqb (length run) 6 n))
 
-  pub key-put : (k : Key) → length run ≡ 6 → sets run 0 (keyNumbers k) ≡ keyPut k run
+  pub key-put : (k : Key) → length run ≡ 6 → sets run 0 (keyNumbers k) ≡ keyPut (keyNumbers k) run
   key-put k e =
       sets-eq (keyNumbers k) run 0 (omega arith) ∙ ap (λ (b : Bool). cond b (begun (keyNumbers k) run) run) (sym (eq-eqb (length run) 6 e))
 
-  pub not-put : (k : Key) → (length run ≡ 6 → ⊥) → run ≡ keyPut k run
+  pub not-put : (k : Key) → (length run ≡ 6 → ⊥) → run ≡ keyPut (keyNumbers k) run
   not-put k n = ap (λ (b : Bool). cond b (begun (keyNumbers k) run) run) (sym (ne-eqb (length run) 6 n))
 
   -- nothing is put after a refusal
   pub left-alone : {a : Answer} (f : Game.Refusal) → a ≡ refuses f → run ≡ keyLeft a run
-  left-alone f so = sym (ap (λ (x : Answer). keyLeft x run) so ∙ ap (λ (vs : List ℕ). cond (eqb (length run) 6) (begun vs run) run) (few-values (namedBy f) (names-one f)) ∙ either (eqb (length run) 6))
+  left-alone f so = sym (ap (λ (x : Answer). keyLeft x run) so ∙ ap (λ (vs : List ℕ). keyPut vs run) (few-values (namedBy f) (names-one f)) ∙ either (eqb (length run) 6))
     where
       either : (b : Bool) → cond b run run ≡ run
       either true = refl

@@ -9,7 +9,7 @@ use lib.ListN.{drop, getD, length}
 use Rattle.game.specs.Area.{begun}
 use Rattle.game.specs.Calls.{Answer, ListOutcome, Outcome}
 use Rattle.game.specs.Draws.{Mode, fair, old}
-use Rattle.game.specs.Keys.{Key, keyNumbers}
+use Rattle.game.specs.Keys.{Key}
 use Rattle.lines.specs.BoardLine.{GridOutcome}
 use Rattle.lines.specs.Outputs.{RunOutcome}
 
@@ -24,13 +24,13 @@ keyBy run =
     cond (eqb (length run) 6) (record { x = getD run 0 0; y = getD run 1 0; z = getD run 2 0; w = getD run 3 0; v = getD run 4 0; counter = getD run 5 0 })
     (record { x = 0; y = 0; z = 0; w = 0; v = 0; counter = 0 })
 
--- a key put into a run of six numbers; a run of another length stays
-abbrev pub keyPut : Key → List ℕ → List ℕ
-keyPut k run = cond (eqb (length run) 6) (begun (keyNumbers k) run) run
+-- numbers put at the beginning of a run that is six long; a run of another length stays
+abbrev pub keyPut : List ℕ → List ℕ → List ℕ
+keyPut numbers run = cond (eqb (length run) 6) (begun numbers run) run
 
 -- a key's run after a call: the six numbers that the answer has behind its clicks and bytes used; as it was where it has none, or where the run isn't six long
 abbrev pub keyLeft : Answer → List ℕ → List ℕ
-keyLeft a run = cond (eqb (length run) 6) (begun (drop 2 (a .values)) run) run
+keyLeft a run = keyPut (drop 2 (a .values)) run
 
 -- what stands behind an answer pointer after a call: the answer's value of that place, or what stood there if it has none
 abbrev pub told : Answer → ℕ → ℕ → ℕ

@@ -12,6 +12,7 @@ use refusals::Refusal;
 use refusals::number_of;
 ghost use mathlib.Core.Path.{_≡_};
 ghost use Rattle.game.specs.Calls.{refuses};
+ghost use Rattle.game.specs.Keys.{keyNumbers};
 ghost use Rattle.draws.specs.Answers.{modeOf};
 ghost use Rattle.keys.specs.Stands.{keyOf};
 ghost use Rattle.refusals.specs.Names.{named};
@@ -53,7 +54,7 @@ pub fn key_by(run: &[u32]) -> Key
 
 // A key put into a run of six numbers; a run of another length stays.
 fn put_key(run: &mut [u32], key: Key)
-    ensures { λ _. ⌜ now (run .exit) ≡ keyPut (keyOf key) (now (run .entry)) ⌝ }
+    ensures { λ _. ⌜ now (run .exit) ≡ keyPut (keyNumbers (keyOf key)) (now (run .entry)) ⌝ }
 {
     if run.len() == 6 {
         run[0] = key.x;

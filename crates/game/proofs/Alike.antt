@@ -9,9 +9,10 @@ use lib.IntN.{_-ℤ_, negsuc, pos, ℤ}
 use lib.ListN.{getD, length, set, take}
 use lib.Signed.{leZ}
 use Rattle.game.specs.Area.{areaOf, clearedArea, clearedList, fiveNumbers, laid, listOf}
-use Rattle.game.specs.Calls.{board, countCheck, drawnRound, drawnSearch, firstGiven, gives, gridChecks, listCheck, move, numberOf, priceCall, randomRoundCall, randomSearchCall, replayCall, replayed, roundsCheck, shapeCheck, threeBVCall, unless, unlessListed, workCheck}
+use Rattle.game.specs.Calls.{board, countCheck, drawnRound, drawnSearch, firstGiven, gives, gridChecks, handing, handingListed, keyCheck, keyedRoundCall, keyedRoundsCheck, keyedSearchCall, listCheck, move, numberOf, priceCall, randomRoundCall, randomSearchCall, replayCall, replayed, roundsCheck, shapeCheck, threeBVCall, unless, unlessListed, workCheck}
 use Rattle.game.specs.Draws.{Mode, lent}
 use Rattle.game.specs.Grid.{Grid, cellAt, cells, mine, number, rightValue, rightValues, size, square, zeroCell}
+use Rattle.game.specs.Keys.{Key, keyed}
 use Rattle.game.specs.Lists.{again, bit, count, fold, has, keep, range, some-of}
 use Rattle.game.specs.Moves.{Move, Replayed, after, allowed, blow, cellOf, chord, chordable, clickEach, flag, left, legal, legalRead, play, playRead, readMove, replayFrom, reveal, stopped, sweep, unflag, whole}
 use Rattle.game.specs.Openings.{chainedTo, gather, grow, holds, labels, openings, places, threeBV, unlabelled}
@@ -29,6 +30,8 @@ pub record SameCalls (g h : Grid) : Type 0 where
   pub price : (openingsFirst : Bool) (ws : List ℤ) (ms : List ℕ) → priceCall openingsFirst g ws ms ≡ priceCall openingsFirst h ws ms
   pub random-round : (mode : Mode) (ws : List ℤ) (ms bytes : List ℕ) → randomRoundCall mode g ws ms bytes ≡ randomRoundCall mode h ws ms bytes
   pub random-search : (mode : Mode) (ws : List ℤ) (bytes : List ℕ) (n : ℕ) → randomSearchCall mode g ws bytes n ≡ randomSearchCall mode h ws bytes n
+  pub keyed-round : (mode : Mode) (ws : List ℤ) (ms : List ℕ) (k : Key) → keyedRoundCall mode g ws ms k ≡ keyedRoundCall mode h ws ms k
+  pub keyed-search : (mode : Mode) (ws : List ℤ) (k : Key) (n : ℕ) → keyedSearchCall mode g ws k n ≡ keyedSearchCall mode h ws k n
   pub replay : (ws : List ℤ) (ms : List ℕ) (n : ℕ) → replayCall g ws ms n ≡ replayCall h ws ms n
 
 module _ (g : Grid) (vs : List ℤ) where
@@ -342,6 +345,16 @@ module _ (g : Grid) (vs : List ℤ) where
       random-search-call mode ws bytes n = λ j.
           unless (firstGiven (checks j ws ++ roundsCheck n ∷ [])) ws (drawn-search (searches j (lent mode bytes) n) ws j)
 
+      keyed-round-call : (mode : Mode) (ws : List ℤ) (ms : List ℕ) (k : Key) → keyedRoundCall mode g ws ms k ≡ keyedRoundCall mode h ws ms k
+      unfolding keyedRoundCall
+      keyed-round-call mode ws ms k = λ j.
+          unlessListed (firstGiven (checks j ws ++ listCheck g ms ∷ keyCheck k ∷ [])) ws ms (handingListed k (drawn-round (random-rounds j (keyed mode k) 0) ws ms j))
+
+      keyed-search-call : (mode : Mode) (ws : List ℤ) (k : Key) (n : ℕ) → keyedSearchCall mode g ws k n ≡ keyedSearchCall mode h ws k n
+      unfolding keyedSearchCall
+      keyed-search-call mode ws k n = λ j.
+          unless (firstGiven (checks j ws ++ keyedRoundsCheck n ∷ keyCheck k ∷ [])) ws (handing k (drawn-search (searches j (keyed mode k) n) ws j))
+
       replay-call : (ws : List ℤ) (ms : List ℕ) (n : ℕ) → replayCall g ws ms n ≡ replayCall h ws ms n
       unfolding replayCall
       replay-call ws ms n = λ j.
@@ -354,5 +367,7 @@ module _ (g : Grid) (vs : List ℤ) where
           price = price-call long;
           random-round = random-round-call long;
           random-search = random-search-call long;
+          keyed-round = keyed-round-call long;
+          keyed-search = keyed-search-call long;
           replay = replay-call long;
         }

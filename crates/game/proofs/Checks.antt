@@ -1,4 +1,4 @@
--- A side that passes lies within the limits; the verdict of some checks after others: the first that is given decides; an answer that isn't DRAWS is told by its number. Assumes nothing.
+-- A side that passes lies within the limits; the verdict of some checks after others: the first that is given decides; a refusal's number isn't 0, and an answer that isn't DRAWS is told by its number. Assumes nothing.
 use Prim.Native.Nat.{ℕ, _≤_}
 use native.Mathlib.Omega.{arith}
 use mathlib.Core.Path.{_∙_, _≡_, ap, refl}
@@ -7,7 +7,7 @@ use mathlib.Core.List.{List, [], _++_, _∷_}
 use mathlib.Core.Option.{Option, Option·some-ne-none, none, some}
 use borrow.Author.Tests.{eqb-false, ltb-false}
 use lib.Dec.{eqb, ltb}
-use Rattle.game.specs.Calls.{Answer, Check, Refusal, draws, firstGiven, refuses, sideOut}
+use Rattle.game.specs.Calls.{Answer, Check, Refusal, board, draws, file-wrong, firstGiven, frame, key-blank, move, number-wrong, numberOf, refuses, rounds, shape, sideOut, size-over, trace, work}
 use Rattle.game.specs.Lists.{Each}
 use Rattle.game.proofs.Draws.{IfSome}
 use Rattle.game.proofs.Truth.{or-no}
@@ -53,6 +53,25 @@ given-each P (c ∷ cs) h = go (c .given) (given-each P cs (h .1))
     go : (b : Bool) → IfSome P (firstGiven cs) → IfSome P (elim b [ true ↦ some (c .refusal) | false ↦ firstGiven cs ])
     go true r = h .0
     go false r = r
+
+-- no refusal's number is 0
+pub numbered : (f : Refusal) → 1 ≤ numberOf f
+numbered shape = omega arith
+numbered board = omega arith
+numbered work = omega arith
+numbered trace = omega arith
+numbered rounds = omega arith
+numbered draws = omega arith
+numbered move = omega arith
+numbered frame = omega arith
+numbered size-over = omega arith
+numbered file-wrong = omega arith
+numbered (number-wrong cell) = omega arith
+numbered key-blank = omega arith
+
+-- another refusal than DRAWS
+abbrev pub NotDraws : Refusal → Type 0
+NotDraws f = numberOf f ≡ 6 → ⊥
 
 -- an answer whose number isn't 6 is no DRAWS
 pub no-draws : (a : Answer) → (a .number ≡ 6 → ⊥) → a ≡ refuses draws → ⊥

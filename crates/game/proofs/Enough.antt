@@ -11,13 +11,13 @@ use lib.Dec.{T, eqb, leb, le→leb, ltb→lt}
 use lib.IntN.{pos, ℤ}
 use lib.ListN.{getD, getD-replicate, length, length-replicate, replicate}
 use borrow.Author.Tests.{eq-eqb}
-use Rattle.game.specs.Calls.{Check, Refusal, draws, drawnRound, drawnSearch, firstGiven, gridChecks, listCheck, numberOf, randomRoundCall, randomSearchCall, refuses, rounds, roundsCheck, unless, unlessListed}
+use Rattle.game.specs.Calls.{Check, Refusal, draws, drawnRound, drawnSearch, firstGiven, gridChecks, listCheck, randomRoundCall, randomSearchCall, refuses, rounds, roundsCheck, unless, unlessListed}
 use Rattle.game.specs.Draws.{Drawn, draw, fair, fairBound, firstTaken, fourBytes, lent, old, taken, wordsLeft}
 use Rattle.game.specs.Grid.{Grid, mine, number, square}
 use Rattle.game.specs.Openings.{chainedTo, grow, openings, threeBV}
 use Rattle.game.specs.Position.{Position, closedSafe, cost, gain, premium, untouched}
 use Rattle.game.specs.Rounds.{Round, Searched, Step, before, choice, randomFrom, randomRound, randomSearch, searchFrom, stepOf, topCells, unitCells, width}
-use Rattle.game.proofs.Checks.{given-append, given-each, no-draws, orElse}
+use Rattle.game.proofs.Checks.{NotDraws, given-append, given-each, no-draws, orElse}
 use Rattle.game.proofs.Draws.{IfSome, by-taken, draw-words, old-draw, words-within}
 use Rattle.game.proofs.Randoms.{by-draw, by-draws}
 use Rattle.game.proofs.Searches.{first, goes-on, onward}
@@ -194,22 +194,18 @@ search-enough g bytes n h k = whole (go (random-enough g bytes 0 (omega (arith, 
 
 -- ---- the calls
 
--- another refusal than DRAWS
-abbrev NotDraws : Refusal → Type 0
-NotDraws f = numberOf f ≤ 5
-
 -- a random round that is lent four bytes a unit never answers DRAWS
 pub round-not-dry : (g : Grid) (ws : List ℤ) (ms bytes : List ℕ) → 4 * threeBV g ≤ length bytes → randomRoundCall old g ws ms bytes .answer ≡ refuses draws → ⊥
 unfolding randomRoundCall
 round-not-dry g ws ms bytes h =
     let r = random-enough g bytes 0 (omega arith) in
-    go (firstGiven checks) (given-each NotDraws checks (omega arith, (omega arith, (omega arith, (omega arith, tt))))) (randomRound g (lent old bytes) 0) (r .0) (r .1)
+    go (firstGiven checks) (given-each NotDraws checks ((λ e. omega arith), ((λ e. omega arith), ((λ e. omega arith), ((λ e. omega arith), tt))))) (randomRound g (lent old bytes) 0) (r .0) (r .1)
   where
     checks : List Check
     checks = gridChecks g ws ++ listCheck g ms ∷ []
 
     go : (f : Option Refusal) → IfSome NotDraws f → (o : Option Round) (r : Round) → o ≡ some r → unlessListed f ws ms (drawnRound g o ws ms) .answer ≡ refuses draws → ⊥
-    go (some f) l o r q = no-draws (refuses f) (λ e. omega arith)
+    go (some f) l o r q = no-draws (refuses f) l
     go none l none r q = absurd (Option·none-ne-some r q)
     go none l (some x) r q = no-draws (drawnRound g (some x) ws ms .answer) (λ e. omega arith)
 
@@ -217,7 +213,7 @@ round-not-dry g ws ms bytes h =
 pub search-not-dry : (g : Grid) (ws : List ℤ) (bytes : List ℕ) (n : ℕ) → 4 * threeBV g * n ≤ length bytes → randomSearchCall old g ws bytes n .answer ≡ refuses draws → ⊥
 unfolding randomSearchCall orElse
 search-not-dry g ws bytes n h =
-    rw (given-append (gridChecks g ws) (roundsCheck n ∷ [])) (go (firstGiven (gridChecks g ws)) (given-each NotDraws (gridChecks g ws) (omega arith, (omega arith, (omega arith, tt)))) (eqb n 0) refl)
+    rw (given-append (gridChecks g ws) (roundsCheck n ∷ [])) (go (firstGiven (gridChecks g ws)) (given-each NotDraws (gridChecks g ws) ((λ e. omega arith), ((λ e. omega arith), ((λ e. omega arith), tt)))) (eqb n 0) refl)
   where
     some-round : eqb n 0 ≡ false → 1 ≤ n
     some-round q = elim (decLe 1 n) [ yes l ↦ l | no l ↦ absurd (subst T (sym (eq-eqb n 0 (omega arith)) ∙ q) tt) ]
@@ -228,6 +224,6 @@ search-not-dry g ws bytes n h =
 
     go : (f : Option Refusal) → IfSome NotDraws f → (b : Bool) → eqb n 0 ≡ b
         → unless (orElse f (elim b [ true ↦ some rounds | false ↦ none ])) ws (drawnSearch g (randomSearch g (lent old bytes) n) ws) .answer ≡ refuses draws → ⊥
-    go (some f) l b q = no-draws (refuses f) (λ e. omega arith)
+    go (some f) l b q = no-draws (refuses f) l
     go none l true q = no-draws (refuses rounds) (λ e. omega arith)
     go none l false q = let r = search-enough g bytes n (some-round q) h in answered (randomSearch g (lent old bytes) n) (r .0) (r .1)

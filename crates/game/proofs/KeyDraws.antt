@@ -2,7 +2,7 @@
 use Prim.Native.Nat.{ℕ, _%_, _*_, _+_, _-_, _/_, _<_, _≤_, _^_, suc, zero}
 use native.Mathlib.Omega.{arith}
 use native.Mathlib.Decide.{decLe}
-use native.Mathlib.Nat.{add-suc, add-zero, sub-zero}
+use native.Mathlib.Nat.{add-suc, add-zero, mod-lt, sub-zero}
 use mathlib.Core.Path.{_∙_, _≡_, ap, ap₂, refl, subst, sym}
 use mathlib.Core.Bool.{Bool, _&&_, cond, false, true}
 use mathlib.Core.Option.{Option, Option·some-ne-none, none, some}
@@ -11,10 +11,10 @@ use lib.Dec.{T, eqb, eqb→eq, leb}
 use lib.ListN.{getD, length, length-map}
 use Rattle.game.specs.Draws.{Drawn, Mode, allWords, draw, firstTaken, fourBytes, lent, old, taken, wordsLeft}
 use Rattle.game.specs.Keys.{Key, blank, givenBy, keyAfter, keyByte, keyBytes, keyWord, keyed, mixLeft, mixRight, mostSpent, nextKey}
-use Rattle.game.specs.Lists.{range}
+use Rattle.game.specs.Lists.{Each, range}
 use Rattle.game.proofs.Draws.{IfSome, Whole, all-spent, by-drawn, by-taken, drawn-behind, orNext, spent-dry, taken-turn, taking}
 use Rattle.game.proofs.Keys.{keyed-more, keyed-one}
-use Rattle.game.proofs.Members.{getD-range, length-from}
+use Rattle.game.proofs.Members.{getD-range, length-from, map-each}
 use Rattle.game.proofs.Parts.{Behind}
 use Rattle.game.proofs.Truth.{no→false}
 
@@ -71,6 +71,11 @@ word-lt k n = omega arith
 pub key-length : (k : Key) (m : ℕ) → length (keyBytes k m) ≡ m
 unfolding keyBytes
 key-length k m = length-map (range 0 m) (keyByte k) ∙ length-from (m - 0) 0 ∙ sub-zero m
+
+-- each is a byte
+pub key-small : (k : Key) (m : ℕ) → Each (λ b. b < 256) (keyBytes k m)
+unfolding keyBytes
+key-small k m = map-each (λ b. b < 256) (keyByte k) (range 0 m) (λ at. mod-lt (keyWord k (at / 4) / 256 ^ (at % 4)) (omega arith))
 
 -- four bytes are the word that they are of
 pub four-back : (w : ℕ) → w < 4294967296 → w % 256 + 256 * (w / 256 % 256) + 65536 * (w / 65536 % 256) + 16777216 * (w / 16777216 % 256) ≡ w

@@ -9,7 +9,7 @@ use mathlib.Core.Bool.{Bool, _||_, false, not, true}
 use mathlib.Core.List.{List, [], _++_, _∷_, append-assoc, append-nil, map}
 use lib.Dec.{T, T-not, eqb, eqb-refl, eqb→eq}
 use lib.ListN.{getD, length}
-use Rattle.game.specs.Lists.{all-of, concat-map, fold, from, has, keep, range, some-of}
+use Rattle.game.specs.Lists.{Each, all-of, concat-map, fold, from, has, keep, range, some-of}
 use Rattle.game.proofs.Truth.{and-both, and-left, and-right, or-cases, or-left, or-right}
 
 -- ---- the first and the rest
@@ -22,6 +22,11 @@ has-tail x y xs t = or-right (eqb x y) (has x xs) t
 
 pub has-cases {ℓ} : {P : Type ℓ} (x y : ℕ) (xs : List ℕ) → (x ≡ y → P) → (T (has x xs) → P) → T (has x (y ∷ xs)) → P
 has-cases x y xs f h t = ⊎-elim (λ e. f (eqb→eq x y e)) h (or-cases (eqb x y) (has x xs) t)
+
+-- what holds of each value holds of each that is mapped
+pub map-each : {A B : Type 0} (P : B → Type 0) (f : A → B) (xs : List A) → ((x : A) → P (f x)) → Each P (map f xs)
+map-each P f [] h = tt
+map-each P f (x ∷ xs) h = (h x, map-each P f xs h)
 
 -- what stands in the list of one cell
 pub only-one : (x i : ℕ) → T (has x (i ∷ [])) → x ≡ i

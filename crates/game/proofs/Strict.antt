@@ -5,7 +5,7 @@ use native.Mathlib.Omega.{arith}
 use mathlib.Core.Path.{_∙_, _≡_, ap, refl, subst, sym}
 use mathlib.Core.Logic.{_⊎_, inl, inr, ⊎-elim}
 use mathlib.Core.Bool.{Bool, false, not, true}
-use mathlib.Core.List.{List, [], _∷_, map}
+use mathlib.Core.List.{map}
 use mathlib.Core.Option.{Option, Option·some-ne-none, none, some}
 use borrow.Author.Tests.{eqb-true, not-false}
 use lib.Dec.{T, leb, leb→le}
@@ -14,10 +14,11 @@ use lib.ListN.{length}
 use lib.Signed.{leZ, ≤ℤ-refl}
 use Rattle.game.specs.Calls.{Check, Refusal, board, boardChecks, firstGiven, number-wrong, numberCheck, shape, strictChecks}
 use Rattle.game.specs.Grid.{Grid, canonical, cells, rightValue, same, size, valueAt, wrong}
-use Rattle.game.specs.Lists.{Each, from}
+use Rattle.game.specs.Lists.{from}
 use Rattle.game.proofs.Canonical.{canonical-value, right-canonical}
 use Rattle.game.proofs.Checks.{each-fails, first-decides, given-each, none-given, others-decide}
 use Rattle.game.proofs.Draws.{IfSome}
+use Rattle.game.proofs.Members.{map-each}
 use Rattle.game.proofs.Truth.{T→true, and-both, and-left, and-right}
 
 -- ---- wrong values
@@ -156,11 +157,6 @@ pub →accepted : (g : Grid) → firstGiven (boardChecks g) ≡ none → g ≡ c
 
 -- ---- what the strict checks refuse with
 
--- the refusals of the cell checks
-each-number : (P : Refusal → Type 0) (g : Grid) (is : List ℕ) → ((i : ℕ) → P (number-wrong i)) → Each (λ (c : Check). P (c .refusal)) (map (numberCheck g) is)
-each-number P g [] n = tt
-each-number P g (i ∷ is) n = (n i, each-number P g is n)
-
 -- SHAPE, BOARD, or NUMBER of a cell
 pub strict-named : (P : Refusal → Type 0) (g : Grid) → P shape → P board → ((i : ℕ) → P (number-wrong i)) → IfSome P (firstGiven (strictChecks g))
-strict-named P g s b n = given-each P (strictChecks g) (s, (b, each-number P g (cells g) n))
+strict-named P g s b n = given-each P (strictChecks g) (s, (b, map-each (λ (c : Check). P (c .refusal)) (numberCheck g) (cells g) n))

@@ -6,8 +6,9 @@ use mathlib.Core.List.{List, [], _++_, _∷_}
 use mathlib.Core.Option.{Option, none, some}
 use lib.IntN.{ℤ}
 use Rattle.game.specs.Draws.{Mode}
-use Rattle.game.specs.Calls.{Check, Refusal, boardChecks, countCheck, decided, firstGiven, kept, keptListed, listCheck, number-wrong, priceCall, randomRoundCall, randomSearchCall, replayCall, roundsCheck, strictChecks, strictPriceCall, strictRandomRoundCall, strictRandomSearchCall, strictReplayCall, strictThreeBVCall, strictly, threeBVCall, workCheck}
+use Rattle.game.specs.Calls.{Check, Refusal, boardChecks, countCheck, decided, firstGiven, kept, keptListed, keyCheck, keyedRoundCall, keyedRoundsCheck, keyedSearchCall, listCheck, number-wrong, priceCall, randomRoundCall, randomSearchCall, replayCall, roundsCheck, strictChecks, strictKeyedRoundCall, strictKeyedSearchCall, strictPriceCall, strictRandomRoundCall, strictRandomSearchCall, strictReplayCall, strictThreeBVCall, strictly, threeBVCall, workCheck}
 use Rattle.game.specs.Grid.{Grid}
+use Rattle.game.specs.Keys.{Key}
 use Rattle.game.proofs.Checks.{first-decides}
 use Rattle.game.proofs.Strict.{AllRight, Fault, verdict-board, verdict-fault, verdict-right}
 
@@ -38,6 +39,8 @@ pub record SameStrictly (g : Grid) : Type 0 where
   pub price : (openingsFirst : Bool) (ws : List ℤ) (ms : List ℕ) → strictPriceCall openingsFirst g ws ms ≡ priceCall openingsFirst g ws ms
   pub random-round : (mode : Mode) (ws : List ℤ) (ms bytes : List ℕ) → strictRandomRoundCall mode g ws ms bytes ≡ randomRoundCall mode g ws ms bytes
   pub random-search : (mode : Mode) (ws : List ℤ) (bytes : List ℕ) (n : ℕ) → strictRandomSearchCall mode g ws bytes n ≡ randomSearchCall mode g ws bytes n
+  pub keyed-round : (mode : Mode) (ws : List ℤ) (ms : List ℕ) (k : Key) → strictKeyedRoundCall mode g ws ms k ≡ keyedRoundCall mode g ws ms k
+  pub keyed-search : (mode : Mode) (ws : List ℤ) (k : Key) (n : ℕ) → strictKeyedSearchCall mode g ws k n ≡ keyedSearchCall mode g ws k n
   pub replay : (ws : List ℤ) (ms : List ℕ) (n : ℕ) → strictReplayCall g ws ms n ≡ replayCall g ws ms n
 
 -- so a call does whose checks begin with the board's: SHAPE and BOARD leave the same in both forms
@@ -52,24 +55,28 @@ same-strictly leaves g cs o r = go (firstGiven (boardChecks g)) refl
 
 -- where every value is right, also on grids that SHAPE or BOARD refuses
 pub right-calls : (g : Grid) → AllRight g → SameStrictly g
-unfolding threeBVCall priceCall randomRoundCall randomSearchCall replayCall
+unfolding threeBVCall priceCall randomRoundCall randomSearchCall keyedRoundCall keyedSearchCall replayCall
 right-calls g r =
     record {
       three-bv = λ ws. same-strictly (kept ws) g (workCheck g ws ∷ []) _ r;
       price = λ openingsFirst ws ms. same-strictly (keptListed ws ms) g (workCheck g ws ∷ listCheck g ms ∷ []) _ r;
       random-round = λ mode ws ms bytes. same-strictly (keptListed ws ms) g (workCheck g ws ∷ listCheck g ms ∷ []) _ r;
       random-search = λ mode ws bytes n. same-strictly (kept ws) g (workCheck g ws ∷ roundsCheck n ∷ []) _ r;
+      keyed-round = λ mode ws ms k. same-strictly (keptListed ws ms) g (workCheck g ws ∷ listCheck g ms ∷ keyCheck k ∷ []) _ r;
+      keyed-search = λ mode ws k n. same-strictly (kept ws) g (workCheck g ws ∷ keyedRoundsCheck n ∷ keyCheck k ∷ []) _ r;
       replay = λ ws ms n. same-strictly (kept ws) g (workCheck g ws ∷ countCheck n ms ∷ []) _ r;
     }
 
 -- ---- a value is wrong
 
--- every strict call is NUMBER of a cell and changes nothing lent, also where the work area or the list is too short, or there are no rounds
+-- every strict call is NUMBER of a cell and changes nothing lent, also where the work area or the list is too short, there are no rounds, or the key is blank
 pub record NumberCalls (g : Grid) (cell : ℕ) : Type 0 where
   pub three-bv : (ws : List ℤ) → strictThreeBVCall g ws ≡ kept ws (number-wrong cell)
   pub price : (openingsFirst : Bool) (ws : List ℤ) (ms : List ℕ) → strictPriceCall openingsFirst g ws ms ≡ keptListed ws ms (number-wrong cell)
   pub random-round : (mode : Mode) (ws : List ℤ) (ms bytes : List ℕ) → strictRandomRoundCall mode g ws ms bytes ≡ keptListed ws ms (number-wrong cell)
   pub random-search : (mode : Mode) (ws : List ℤ) (bytes : List ℕ) (n : ℕ) → strictRandomSearchCall mode g ws bytes n ≡ kept ws (number-wrong cell)
+  pub keyed-round : (mode : Mode) (ws : List ℤ) (ms : List ℕ) (k : Key) → strictKeyedRoundCall mode g ws ms k ≡ keptListed ws ms (number-wrong cell)
+  pub keyed-search : (mode : Mode) (ws : List ℤ) (k : Key) (n : ℕ) → strictKeyedSearchCall mode g ws k n ≡ kept ws (number-wrong cell)
   pub replay : (ws : List ℤ) (ms : List ℕ) (n : ℕ) → strictReplayCall g ws ms n ≡ kept ws (number-wrong cell)
 
 -- the lowest cell at fault is named
@@ -80,5 +87,7 @@ fault-calls g e f =
       price = λ openingsFirst ws ms. strict-fault (keptListed ws ms) g (priceCall openingsFirst g ws ms) e f;
       random-round = λ mode ws ms bytes. strict-fault (keptListed ws ms) g (randomRoundCall mode g ws ms bytes) e f;
       random-search = λ mode ws bytes n. strict-fault (kept ws) g (randomSearchCall mode g ws bytes n) e f;
+      keyed-round = λ mode ws ms k. strict-fault (keptListed ws ms) g (keyedRoundCall mode g ws ms k) e f;
+      keyed-search = λ mode ws k n. strict-fault (kept ws) g (keyedSearchCall mode g ws k n) e f;
       replay = λ ws ms n. strict-fault (kept ws) g (replayCall g ws ms n) e f;
     }

@@ -10,7 +10,7 @@ use lib.Seq.{take-at}
 use Rattle.game.specs.Grid.{Grid, size}
 use Rattle.game.specs.Area.{begun}
 use Rattle.game.specs.Calls.{Answer, Refusal, gives, numberOf, refuses}
-use Rattle.refusals.proofs.ReadBack.{numbered}
+use Rattle.game.proofs.Checks.{numbered}
 use Rattle.lines.specs.BoardLine.{boardLineCall, lineGrid, lineRefusal}
 use Rattle.lines.specs.Answers.{KeepsGrid}
 use Rattle.lines.proofs.Calls.{board-read, board-refused}

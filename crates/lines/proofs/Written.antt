@@ -4,7 +4,7 @@ use native.Mathlib.Omega.{arith}
 use native.Mathlib.Decide.{decLt}
 use mathlib.Core.Path.{_≡_, ap, refl, sym, _∙_}
 use mathlib.Core.Bool.{Bool, true, false, true≢false, _||_}
-use mathlib.Core.List.{List, [], _∷_, map}
+use mathlib.Core.List.{List, _∷_, map}
 use mathlib.Core.Option.{Option·some-ne-none, none}
 use lib.Dec.{T, eqb}
 use lib.IntN.{pos}
@@ -15,7 +15,7 @@ use Rattle.game.specs.Lists.{Each, concat-map, has, range, some-of}
 use Rattle.game.specs.Grid.{Grid, isMine, size}
 use Rattle.game.specs.Calls.{frame, sideOut}
 use Rattle.game.proofs.Checks.{side-in}
-use Rattle.game.proofs.Members.{getD-range, has-range, range-has, range-same, some-yes, yes-some}
+use Rattle.game.proofs.Members.{getD-range, has-range, map-each, range-has, range-same, some-yes, yes-some}
 use Rattle.game.proofs.Truth.{T→true, no→false, or-no}
 use Rattle.hex.specs.Hex.{byteDigits, bytesOf}
 use Rattle.hex.proofs.Back.{bytes-back, bytes-clean, bytes-small, digits-back, length-digits, small-drop, two-first}
@@ -57,10 +57,6 @@ value-mine false = refl
 
 -- ---- the line of a grid
 
-mines-small : (bits : ℕ → Bool) (ks : List ℕ) → Each (λ b. b < 256) (map (byteOfBits bits) ks)
-mines-small bits [] = tt
-mines-small bits (k ∷ ks) = (byte-small bits k, mines-small bits ks)
-
 module _ (g : Grid) (shape : (sideOut (g .rows) || sideOut (g .columns)) ≡ false) (few : size g ≤ 2048) (long : length (g .values) ≡ size g) where
   rows-in : (1 ≤ g .rows) × (g .rows ≤ 255)
   rows-in = side-in (g .rows) (or-no (sideOut (g .rows)) (sideOut (g .columns)) shape .0)
@@ -69,7 +65,7 @@ module _ (g : Grid) (shape : (sideOut (g .rows) || sideOut (g .columns)) ≡ fal
   columns-in = side-in (g .columns) (or-no (sideOut (g .rows)) (sideOut (g .columns)) shape .1)
 
   all-small : Each (λ b. b < 256) (g .rows ∷ g .columns ∷ mineBytes g)
-  all-small = (omega (arith, rows-in .1), (omega (arith, columns-in .1), mines-small (placeMine g) (range 0 (bitBytes (size g)))))
+  all-small = (omega (arith, rows-in .1), (omega (arith, columns-in .1), map-each (λ b. b < 256) (byteOfBits (placeMine g)) (range 0 (bitBytes (size g))) (byte-small (placeMine g))))
 
   bytes-are : bytesOf (boardLine g) ≡ g .rows ∷ g .columns ∷ mineBytes g
   unfolding boardLine

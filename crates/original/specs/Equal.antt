@@ -8,7 +8,8 @@ use lib.ListN.{length}
 use Rattle.game.specs.Lists.{Each}
 use Rattle.game.specs.Draws.{lent, old}
 use Rattle.game.specs.Grid.{Grid}
-use Rattle.game.specs.Calls.{Answer, Refusal, draws, firstGiven, gives, greedyCall, gridChecks, listCheck, openingsFirstCall, randomSearchCall, refuses, roundsCheck}
+use Rattle.game.specs.Keys.{Key, keyBytes}
+use Rattle.game.specs.Calls.{Answer, Refusal, draws, firstGiven, gives, greedyCall, gridChecks, keyedSearchCall, listCheck, openingsFirstCall, randomSearchCall, refuses, roundsCheck}
 use Rattle.game.specs.Rounds.{movesOf, greedySteps, openingsFirstSteps, Searched, randomSearch}
 use Rattle.original.specs.Rounds.{RngRound}
 use Rattle.original.specs.Entries.{cal-zini, cal-hzini, cal-rzini}
@@ -42,9 +43,11 @@ abbrev pub searchAnswer : Option RngRound → Answer
 searchAnswer none = refuses draws
 searchAnswer (some r) = gives (r .clicks ∷ r .next ∷ [])
 
--- the calls of any grid, work area and list: each answers what the Rust gives, unless its checks refuse it
+-- the calls of any grid, work area and list: each answers what the Rust gives, unless its checks refuse it; a keyed search that isn't refused what the Rust gives on as many of the key's bytes as it used
 pub record CallsEqual (g : Grid) (ws : List ℤ) (ms : List ℕ) : Type 0 where
   pub greedy : greedyCall g ws ms .answer ≡ answerUnless (firstGiven (gridChecks g ws ++ listCheck g ms ∷ [])) (gives (cal-zini g ∷ []))
   pub openings-first : openingsFirstCall g ws ms .answer ≡ answerUnless (firstGiven (gridChecks g ws ++ listCheck g ms ∷ [])) (gives (cal-hzini g ∷ []))
   pub random-search : (bytes : List ℕ) (rounds : ℕ) → Each (λ b. b < 256) bytes
       → randomSearchCall old g ws bytes rounds .answer ≡ answerUnless (firstGiven (gridChecks g ws ++ roundsCheck rounds ∷ [])) (searchAnswer (cal-rzini g bytes rounds))
+  pub keyed-search : (k : Key) (rounds clicks used : ℕ) (vs : List ℕ) → keyedSearchCall old g ws k rounds .answer ≡ gives (clicks ∷ used ∷ vs)
+      → cal-rzini g (keyBytes k used) rounds ≡ some (record { clicks = clicks; next = used })

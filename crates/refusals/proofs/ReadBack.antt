@@ -2,8 +2,8 @@
 use Prim.Native.Nat.{ℕ, _≤_}
 use native.Mathlib.Omega.{arith}
 use mathlib.Core.Path.{_≡_, ap, refl, sym, _∙_}
-use mathlib.Core.Bool.{Bool, cond, false}
-use mathlib.Core.List.{List, [], _∷_}
+use mathlib.Core.Bool.{Bool, cond}
+use mathlib.Core.List.{List}
 use mathlib.Core.Option.{Option, none, some}
 use mathlib.Mathlib.Logic.Function.Defs.{LeftInverse·injective}
 use borrow.Author.Tests.{ne-eqb}
@@ -11,6 +11,7 @@ use lib.Dec.{eqb}
 use lib.ListN.{getD, length}
 use Rattle.game.specs.Calls.{Answer, board, draws, file-wrong, frame, key-blank, move, namedBy, number-wrong, numberOf, refuses, rounds, shape, size-over, trace, work}
 use Rattle.game.specs.Calls as Game
+use Rattle.game.proofs.Checks.{numbered}
 use Rattle.refusals.specs.Names.{named, refusalOf}
 use Rattle.refusals.specs.declared.Refusal.{Refusal}
 use Rattle.refusals.specs.declared.Refusal.the-variants.{Shape, Board, Work, Trace, Rounds, Draws, Move, Frame, Size, File, Number, Key}
@@ -37,21 +38,6 @@ number-back Size = refl
 number-back File = refl
 number-back (Number cell) = refl
 number-back Key = refl
-
--- no refusal's number is 0
-pub numbered : (f : Game.Refusal) → 1 ≤ numberOf f
-numbered shape = omega arith
-numbered board = omega arith
-numbered work = omega arith
-numbered trace = omega arith
-numbered rounds = omega arith
-numbered draws = omega arith
-numbered move = omega arith
-numbered frame = omega arith
-numbered size-over = omega arith
-numbered file-wrong = omega arith
-numbered (number-wrong cell) = omega arith
-numbered key-blank = omega arith
 
 -- a refusal names one thing at most
 pub names-one : (f : Game.Refusal) → length (namedBy f) ≤ 1

@@ -28,7 +28,7 @@ use Rattle.game.proofs.Randoms.{random-sound}
 use Rattle.game.proofs.Rounds.{greedy-sound, openings-first-sound}
 use Rattle.game.proofs.Searches.{search-sound}
 use Rattle.area.proofs.Cells.{cells-few}
-use Rattle.refusals.proofs.ReadBack.{numbered}
+use Rattle.game.proofs.Checks.{numbered}
 use Rattle.answers.specs.Answers.{Keeps, KeepsList}
 use Rattle.zini.specs.Written.{Told, Written}
 use Rattle.checks.proofs.More.{first-none, none-below}

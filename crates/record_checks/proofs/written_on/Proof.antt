@@ -9,7 +9,7 @@ use borrow.Author.Tests.{ne-eqb}
 use borrow.Author.Needs.{needs}
 use Rattle.game.specs.Calls.{draws, namedBy, numberOf}
 use Rattle.refusals.specs.Names.{named}
-use Rattle.refusals.proofs.ReadBack.{numbered}
+use Rattle.game.proofs.Checks.{numbered}
 use Rattle.record_checks.specs.Promises.{writtenBy}
 use Rattle.record_checks.proofs.written_on.Statement.{statement}
 use Rattle.record_checks.proofs.written_on.Tie as tie
