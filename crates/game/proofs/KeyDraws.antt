@@ -75,7 +75,7 @@ key-length k m = length-map (range 0 m) (keyByte k) ∙ length-from (m - 0) 0 �
 -- each is a byte
 pub key-small : (k : Key) (m : ℕ) → Each (λ b. b < 256) (keyBytes k m)
 unfolding keyBytes
-key-small k m = map-each (λ b. b < 256) (keyByte k) (range 0 m) (λ at. mod-lt (keyWord k (at / 4) / 256 ^ (at % 4)) (omega arith))
+key-small k m = map-each (λ b. b < 256) (keyByte k) (range 0 m) (λ at. mod-lt _ (omega arith))
 
 -- four bytes are the word that they are of
 pub four-back : (w : ℕ) → w < 4294967296 → w % 256 + 256 * (w / 256 % 256) + 65536 * (w / 65536 % 256) + 16777216 * (w / 16777216 % 256) ≡ w
