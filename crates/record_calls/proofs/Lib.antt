@@ -1,8 +1,8 @@
--- What stands in a run after a call, replay over records and over words, and the walks of the calls, each by its flags.
+-- What stands in a run after a call, replay over records and over words, and the walks of the calls, each by its flags or by what it draws from.
 pub mod Runs
 pub mod OneAnswer
 pub mod Replays
 mod Walk
-mod RandomWalk
-mod KeyedWalk
+mod DrawnWalk
+mod Sources
 mod ReplayWalk
