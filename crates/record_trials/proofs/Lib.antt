@@ -2,6 +2,7 @@
 mod Arrays
 mod Pieces
 mod Pricing
+mod DrawnRun
 mod Rolling
 mod KeyRolling
 mod Replaying
