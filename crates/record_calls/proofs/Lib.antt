@@ -3,6 +3,6 @@ pub mod Runs
 pub mod OneAnswer
 pub mod Replays
 mod Walk
-mod DrawnWalk
-mod Sources
+pub mod DrawnWalk
+pub mod Drawings
 mod ReplayWalk

@@ -9,8 +9,6 @@ use Rattle.answers.specs.Answers.{keyRolledAnswer}
 use Rattle.answers.proofs.KeyRolled as S
 use Rattle.answers.proofs.KeyRolled.Laws as S′
 use Rattle.keys.specs.Stands.{keyOf}
-use Rattle.keys.proofs.Key as Keys
-use Rattle.keys.proofs.Key.Laws as Keys′
 use Rattle.record_checks.specs.Promises.{keyedRecordsCall}
 use Rattle.record_calls.proofs.keyed_round_records.Symbol as present
 use Rattle.record_calls.proofs.strict_keyed_round_records.Symbol as strict
@@ -18,22 +16,16 @@ use Rattle.record_trials.proofs.KeyRolledRun as P
 use Rattle.record_trials.proofs.KeyRolledRun.Laws as P′
 use Rattle.record_trials.proofs.Arrays as Run
 use Rattle.record_trials.proofs.DrawnRun.{Drawing}
+use Rattle.record_calls.proofs.Drawings.{key-passed}
 
 abbrev callee : Bool → Name
 callee true = strict.name
 callee false = present.name
 
 -- a round by a key
-abbrev pub keyed : Drawing
-keyed = record {
-  more = 0;
-  row = λ _. Keys.the-row;
-  mir = Keys′.mir;
-  val = λ _. LL.val Keys.the-type Keys′.the-laws;
-  tells = λ _. LL.tells Keys.the-type Keys′.the-laws;
-  typed = λ _ M 𝓤 H A W. LL.lawful Keys.the-type Keys′.the-laws 𝓤 H A W .typed;
-  copies = λ 𝓤 H A W _. LL.copy Keys.the-type Keys′.the-copy 𝓤 H A W;
-  still = λ _. refl;
+abbrev pub by-key : Drawing
+by-key = record {
+  origin = key-passed;
   answer = S.the-row;
   answer-mir = S′.mir;
   answer-typed = λ M 𝓤 H A W. EL.lawful S.the-type S′.the-laws 𝓤 H A W tt .typed;

@@ -2,11 +2,8 @@
 use mathlib.Core.Path.{refl}
 use mathlib.Core.Bool.{Bool, false, true}
 use mathlib.Core.List.{[], _∷_}
-use lib.ListN.{length}
-use mir.Syntax.{Name, imm, named, tyInt, tyRef, w8}
-use denote.Builtin.{u8}
+use mir.Syntax.{Name}
 use denote.Ref.{now}
-use denote.Slice.{ShrSlice, sliceTy, sliceVal, shr-slice-copy, shr-slice-lawful, shr-slice-tells}
 use denote.Enum.Laws as EL
 use denote.Struct.Laws as LL
 use Rattle.answers.specs.Answers.{rolledAnswer}
@@ -19,22 +16,16 @@ use Rattle.record_trials.proofs.RolledRun as P
 use Rattle.record_trials.proofs.RolledRun.Laws as P′
 use Rattle.record_trials.proofs.Arrays as Run
 use Rattle.record_trials.proofs.DrawnRun.{Drawing}
+use Rattle.walks.proofs.Passed.{bytes-at}
 
 abbrev callee : Bool → Name
 callee true = strict.name
 callee false = present.name
 
 -- a round by lent bytes
-abbrev pub lent : Drawing
-lent = record {
-  more = 1;
-  row = λ κs. ShrSlice (named 3) (κs .0) u8;
-  mir = sliceTy (tyRef (named 3) imm (tyInt w8));
-  val = λ κs x. sliceVal (x .ptr) (length (now x));
-  tells = λ κs. shr-slice-tells (named 3) (κs .0) u8;
-  typed = λ κs M 𝓤 H A W. shr-slice-lawful 𝓤 H A W (named 3) (κs .0) u8 .typed;
-  copies = λ 𝓤 H A W κs. shr-slice-copy 𝓤 H A W (named 3) (κs .0) u8;
-  still = λ κs. refl;
+abbrev pub by-bytes : Drawing
+by-bytes = record {
+  origin = bytes-at 3;
   answer = S.the-row;
   answer-mir = S′.mir;
   answer-typed = λ M 𝓤 H A W. EL.lawful S.the-type S′.the-laws 𝓤 H A W tt .typed;

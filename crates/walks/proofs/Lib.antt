@@ -1,2 +1,3 @@
 -- What walks by hand share.
 pub mod Pieces
+pub mod Passed

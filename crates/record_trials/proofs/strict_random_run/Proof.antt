@@ -2,11 +2,11 @@
 use mathlib.Core.Bool.{true}
 use Rattle.record_calls.proofs.strict_random_round_records.Met as called
 use Rattle.record_trials.proofs.DrawnRun.{drawn-run}
-use Rattle.record_trials.proofs.Rolling.{lent}
+use Rattle.record_trials.proofs.Rolling.{by-bytes}
 use Rattle.record_trials.proofs.strict_random_run.Key.{name}
 use Rattle.record_trials.proofs.strict_random_run.Statement.{statement}
 use Rattle.record_trials.proofs.strict_random_run.Code as code
 
 pub strict-random-run-spec : {M : Type 1} → statement M
 unfolding code.routine
-strict-random-run-spec 𝓤 H 𝓜 𝓖 𝓡 = drawn-run lent true 𝓤 H 𝓜 𝓖 𝓡 code.env name (code.unfolded 𝓤 H 𝓜 𝓡) code.calls-record-calls·strict-random-round-records (called.met 𝓤 H 𝓜 𝓖 𝓡)
+strict-random-run-spec 𝓤 H 𝓜 𝓖 𝓡 = drawn-run by-bytes true 𝓤 H 𝓜 𝓖 𝓡 code.env name (code.unfolded 𝓤 H 𝓜 𝓡) code.calls-record-calls·strict-random-round-records (called.met 𝓤 H 𝓜 𝓖 𝓡)
