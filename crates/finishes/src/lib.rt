@@ -4,10 +4,7 @@ use answers::Rolled;
 use random::Finish;
 use refusals::Refusal;
 ghost use mathlib.Core.Path.{_≡_};
-ghost use Rattle.game.specs.Calls.{handsKey};
-ghost use Rattle.game.specs.Keys as Game;
-ghost use Rattle.random.specs.Promises.{HandsOn, finishAnswer};
-ghost use Rattle.supplies.specs.Origins.{key-given};
+ghost use Rattle.random.specs.Promises.{finishAnswer, keyFinishAnswer};
 ghost use Rattle.answers.specs.Answers.{keyRolledAnswer, rolledAnswer};
 
 // Clicks and draw bytes used, or DRAWS.
@@ -22,7 +19,7 @@ pub fn rolled(finish: Finish) -> Rolled
 
 // The same with the key after it.
 pub fn key_rolled(finish: Finish) -> KeyRolled
-    ensures { λ r. ⌜ ((k : Game.Key) → HandsOn (key-given k) finish → keyRolledAnswer r ≡ handsKey k (finishAnswer finish)) ⌝ }
+    ensures { λ r. ⌜ keyRolledAnswer r ≡ keyFinishAnswer finish ⌝ }
 {
     match finish {
         Finish::Ended(clicks, supply) => {

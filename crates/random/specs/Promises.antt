@@ -14,9 +14,11 @@ use Rattle.game.specs.Position.{Position, untouched, closedSafe}
 use Rattle.game.specs.Moves.{Move, after, left, word}
 use Rattle.game.specs.Calls.{Answer, draws, gives, refuses}
 use Rattle.game.specs.Draws.{Drawn}
+use Rattle.game.specs.Keys.{keyNumbers}
 use Rattle.game.specs.Rounds.{Round, Searched, choice, movesAt, movesOf, stepOf}
 use Rattle.area.specs.Stages.{Stands}
 use Rattle.ties.specs.Candidates.{candidateAt, candidatesOf, forClick}
+use Rattle.keys.specs.Stands.{keyOf}
 use Rattle.supplies.specs.Origins.{GrownBy, Origin, Reads}
 use Rattle.supplies.specs.declared.Supply.{Supply}
 use Rattle.moves.specs.Promises.{Made}
@@ -124,6 +126,11 @@ pub record RoundGrows (s : Supply) (r : Finish) : Type 0 where
 abbrev pub finishAnswer : Finish → Answer
 finishAnswer (Finishes.Ended clicks s) = gives (clicks ∷ s .used ∷ [])
 finishAnswer Finishes.Dry = refuses draws
+
+-- by a key: the six numbers of the supply's key too
+abbrev pub keyFinishAnswer : Finish → Answer
+keyFinishAnswer (Finishes.Ended clicks s) = gives (clicks ∷ s .used ∷ keyNumbers (keyOf (s .key)))
+keyFinishAnswer Finishes.Dry = refuses draws
 
 -- the supply after one that ended stands where its bytes used say
 pub record HandsOn (origin : Origin) (r : Finish) : Type 0 where

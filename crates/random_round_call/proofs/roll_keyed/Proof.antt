@@ -1,7 +1,9 @@
 -- `random_round_call::roll_keyed`: from the key. Assumes nothing.
 use native.Mathlib.Omega.{arith}
+use mathlib.Core.Path.{_∙_}
 use Rattle.keys.specs.Stands.{keyOf}
 use Rattle.answers.proofs.Promises.{list-handed}
+use Rattle.random.proofs.Finishes.{key-handed}
 use Rattle.supplies.specs.Origins.{key-given}
 use Rattle.supplies.proofs.Standing.{key-room, somewhere}
 use borrow.Author.Needs.{needs}
@@ -37,7 +39,7 @@ returns c =
     let u = y .before .before .before .before in
     let k = keyOf (u .before .before .args .key) in
     let t = y .roll .ensures (key-given k) (u .of-key .ensures) in
-    list-handed k _ _ _ _ _ (c .key-rolled .ensures k (t .0)) (t .1)
+    list-handed k _ _ _ _ _ (c .key-rolled .ensures ∙ key-handed k _ (t .0)) (t .1)
 
 pub roll-keyed-spec : {M : Type 1} → statement M
 roll-keyed-spec =

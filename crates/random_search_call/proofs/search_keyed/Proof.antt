@@ -1,7 +1,9 @@
 -- `random_search_call::search_keyed`: from the key, of which 1,000,000 rounds leave enough. Assumes nothing.
 use native.Mathlib.Omega.{arith}
+use mathlib.Core.Path.{_∙_}
 use Rattle.keys.specs.Stands.{keyOf}
 use Rattle.answers.proofs.Promises.{keeps-handed}
+use Rattle.random.proofs.Finishes.{key-handed}
 use Rattle.supplies.specs.Origins.{key-given}
 use Rattle.supplies.proofs.Standing.{key-room, somewhere}
 use borrow.Author.Needs.{needs}
@@ -34,7 +36,7 @@ returns c =
     let u = y .before .before .before in
     let k = keyOf (u .before .args .key) in
     let t = y .search .ensures (key-given k) (u .of-key .ensures) in
-    keeps-handed k _ _ _ _ (c .key-rolled .ensures k (t .0)) (t .1)
+    keeps-handed k _ _ _ _ (c .key-rolled .ensures ∙ key-handed k _ (t .0)) (t .1)
 
 pub search-keyed-spec : {M : Type 1} → statement M
 search-keyed-spec =
