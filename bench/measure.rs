@@ -1,10 +1,11 @@
-//! Measures ours and the Rust on the same boards in one run, then our replays, our files, our strict calls, the modes of our draws, our keys and the memory, and prints the tables. docs/SPEED.md says what is counted.
+//! Measures ours and the Rust on the same boards in one run, then our replays, our files, our strict calls, our early count, the modes of our draws, our keys and the memory, and prints the tables. docs/SPEED.md says what is counted.
 //!
-//! With no word it runs all rows, with `replays`, `files`, `strict`, `modes`, `keys` or `memory` these alone. `count ROW SIDE`, `replay ROW`, `file ROW`, `form ROW`, `mode ROW` and `key ROW` are what it runs of itself under callgrind: one call a board.
+//! With no word it runs all rows, with `replays`, `files`, `strict`, `early`, `modes`, `keys` or `memory` these alone. `count ROW SIDE`, `replay ROW`, `file ROW`, `form ROW`, `least ROW`, `mode ROW` and `key ROW` are what it runs of itself under callgrind: one call a board.
 #[allow(dead_code)]
 #[path = "../oracle/boards.rs"]
 mod boards;
 mod clock;
+mod early;
 mod files;
 mod keys;
 mod lists;
@@ -27,7 +28,7 @@ use original::safe_board; // where the Rust looks for it
 use rows::Row;
 use sides::{MEASURED, SIDES, Side};
 use std::process::Command;
-use table::{Filed, Formed, Keyed, Measures, Replayed, Searched, Touched};
+use table::{Filed, Formed, Judged, Keyed, Measures, Replayed, Searched, Touched};
 
 /// Prints each answer: both sides must print the same.
 fn count(row: &Row, side: Side) {
@@ -58,6 +59,14 @@ fn form(row: &strict::Row) {
     let boards = row.lot.make();
     for case in &mut strict::cases(row, &boards) {
         strict::play(case);
+    }
+}
+
+/// Counts each board until it is certain; ends if an answer is wrong.
+fn least(row: &early::Row) {
+    let boards = row.lot.make();
+    for case in &mut early::cases(row, &boards) {
+        early::play(case);
     }
 }
 
@@ -224,6 +233,25 @@ fn measure_form(place: usize, row: &strict::Row) -> Formed {
     }
 }
 
+/// An early count measured.
+fn measure_early(place: usize, row: &early::Row) -> Judged {
+    let boards = row.lot.make();
+    let mut cases = early::cases(row, &boards);
+    let words = ["least", &place.to_string()];
+    let (instructions, time) = alone(
+        &row.file_name(),
+        &words,
+        &mut cases,
+        early::play,
+        row.samples,
+    );
+    Judged {
+        row: *row,
+        instructions,
+        time,
+    }
+}
+
 /// A random search in a mode measured.
 fn measure_mode(place: usize, row: &modes::Row) -> Searched {
     let boards = row.lot.make();
@@ -309,6 +337,14 @@ fn print_forms() {
     table::print_forms(&formed.collect::<Vec<Formed>>());
 }
 
+/// All early counts.
+fn print_early() {
+    let rows = early::all();
+    let rows = rows.iter().enumerate();
+    let judged = rows.map(|(place, row)| measure_early(place, row));
+    table::print_early(&judged.collect::<Vec<Judged>>());
+}
+
 /// All modes.
 fn print_modes() {
     let rows = modes::all();
@@ -341,6 +377,7 @@ fn run() {
             print_replays();
             print_files();
             print_forms();
+            print_early();
             print_modes();
             print_keys();
             print_memory();
@@ -349,6 +386,7 @@ fn run() {
         ["replays"] => print_replays(),
         ["files"] => print_files(),
         ["strict"] => print_forms(),
+        ["early"] => print_early(),
         ["modes"] => print_modes(),
         ["keys"] => print_keys(),
         ["memory"] => print_memory(),
@@ -360,10 +398,11 @@ fn run() {
         ["replay", place] => replay(&replays::all()[place_of(place)]),
         ["file", place] => file(&files::all()[place_of(place)]),
         ["form", place] => form(&strict::all()[place_of(place)]),
+        ["least", place] => least(&early::all()[place_of(place)]),
         ["mode", place] => mode(&modes::all()[place_of(place)]),
         ["key", place] => key(&keys::all()[place_of(place)]),
         _ => panic!(
-            "no words, or: replays, or: files, or: strict, or: modes, or: keys, or: memory, or: count ROW SIDE, or: replay ROW, or: file ROW, or: form ROW, or: mode ROW, or: key ROW"
+            "no words, or: replays, or: files, or: strict, or: early, or: modes, or: keys, or: memory, or: count ROW SIDE, or: replay ROW, or: file ROW, or: form ROW, or: least ROW, or: mode ROW, or: key ROW"
         ),
     }
 }

@@ -1,4 +1,5 @@
-//! What is printed: the ratios, how the cost of a cell grows with the board, the replays, the files, the strict calls, the modes, the keys, the memory, and what was counted.
+//! What is printed: the ratios, how the cost of a cell grows with the board, the replays, the files, the strict calls, the early count, the modes, the keys, the memory, and what was counted.
+use crate::early::{self, Asked};
 use crate::files::{self, Work};
 use crate::keys::{self, Origin};
 use crate::lots::Lot;
@@ -32,6 +33,13 @@ pub struct Filed {
 /// A form of 3BV measured.
 pub struct Formed {
     pub row: strict::Row,
+    pub instructions: f64,
+    pub time: f64,
+}
+
+/// An early count of ours: instructions and microseconds.
+pub struct Judged {
+    pub row: early::Row,
     pub instructions: f64,
     pub time: f64,
 }
@@ -217,6 +225,40 @@ pub fn print_forms(all: &[Formed]) {
     }
 }
 
+const EARLY: &str = "\
+| call | board | boards | instructions | beside the full count | goal | µs | samples |
+|---|---|--:|--:|--:|--:|--:|--:|";
+
+/// An early count, beside the full one of the same boards.
+fn print_judged(judged: &Judged, full: &Judged) {
+    let row = judged.row;
+    let ratio = judged.instructions / full.instructions;
+    println!(
+        "| {} | {} | {} | {} | {} | {} | {} | {} |",
+        row.asked.name(),
+        row.lot.name(),
+        row.lot.boards,
+        shown(judged.instructions),
+        match row.asked {
+            Asked::All => String::new(),
+            _ => format!("{ratio:.3}"),
+        },
+        row.goal.map_or(String::new(), |goal| goal.to_string()),
+        shown(judged.time),
+        row.samples
+    );
+}
+
+/// The table of the early count.
+pub fn print_early(all: &[Judged]) {
+    println!("\n{EARLY}");
+    for judged in all {
+        let full =
+            |other: &&Judged| other.row.asked == Asked::All && other.row.lot == judged.row.lot;
+        print_judged(judged, all.iter().find(full).expect("the full count"));
+    }
+}
+
 const MODES: &str = "\
 | mode | board | boards | rounds | instructions | beside the old mode | µs | samples |
 |---|---|--:|--:|--:|--:|--:|--:|";
@@ -354,6 +396,7 @@ The Rust: cal_zini, cal_hzini and cal_rzini with their copy of the board and the
 Replays: lavgerin_replay, the moves of a list the mean over the boards; moves made, safe cells still closed and the ending are checked.
 Files: lavgerin_read_mbf and lavgerin_write_mbf, mines in index order; the mines read and the bytes written are checked, and that a refused read leaves the grid.
 Strict calls: lavgerin_three_bv and lavgerin_strict_three_bv on boards with right numbers; the cell that NUMBER names is checked, and that it leaves the work area.
+Early count: lavgerin_at_least beside lavgerin_three_bv on the same boards; the answer is checked, and that the work area is 0.
 Modes: lavgerin_random_search, the same boards and draws in both, {SPARE} words a board more than are always enough in the old mode; success is checked, and that clicks and draw bytes used are the same where no word was spent.
 Keys: lavgerin_random_search with a key's words as bytes, and lavgerin_keyed_search with that key; answers have to be the same, and the key handed back the one after the bytes used.
 Memory: callgrind's cache simulator, which is cachegrind's, with a first-level data cache of 8 KiB, two ways and 32-byte lines; one call a board, the mean over the boards."

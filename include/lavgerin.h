@@ -6,7 +6,7 @@
  * A grid is rows x columns numbers, row after row; -1 is a mine, any other value a safe cell.
  * A cell's index is column x rows + row.
  * The work area has at least 5 numbers a cell: after success a cell has at 5 x index its first label, second label,
- * premium, state (0 closed, 1 opened, 2 flagged, 3 an opened mine) and 0.
+ * premium, state (0 closed, 1 opened, 2 flagged, 3 an opened mine) and 0. lavgerin_at_least leaves 0 in all of them.
  * A move is kind x 65536 + index. A list of a round has room for as many moves as cells; a list to replay may have any
  * length.
  *
@@ -89,6 +89,12 @@ enum {
 uint8_t lavgerin_three_bv(size_t rows, size_t columns, const int32_t *grid, size_t grid_length,
                           int32_t *work, size_t work_length, uint64_t *units);
 
+/* Whether 3BV is at least so many units: 1 or 0, for any number of units. It counts no further than it must: until so
+ * many are found, or these and the cells not yet looked at are fewer. After success the first 5 x cells numbers of the
+ * work area are 0. */
+uint8_t lavgerin_at_least(size_t rows, size_t columns, const int32_t *grid, size_t grid_length,
+                          int32_t *work, size_t work_length, size_t units, uint64_t *enough);
+
 /* Greedy ZiNi: clicks, and the moves in the list. */
 uint8_t lavgerin_greedy(size_t rows, size_t columns, const int32_t *grid, size_t grid_length,
                         int32_t *work, size_t work_length, uint32_t *list, size_t list_length,
@@ -170,13 +176,16 @@ uint8_t lavgerin_write_mbf(size_t rows, size_t columns, const int32_t *grid, siz
 
 /* The strict forms, for grids that were typed: each takes only -1 for a mine and, for a safe cell, exactly its number,
  * the mines in its square. Any other grid of the right length is LAVGERIN_NUMBER, and the lowest index of a cell whose
- * value is wrong stands behind the first answer pointer (*units, *clicks, *made or *written); nothing else is changed.
- * On a grid without a wrong value each does what the function without strict_ does, refusals too. A -1 typed for a
- * number is a mine like any other, so then a neighbour is named.
+ * value is wrong stands behind the first answer pointer (*units, *enough, *clicks, *made or *written); nothing else is
+ * changed. On a grid without a wrong value each does what the function without strict_ does, refusals too. A -1 typed
+ * for a number is a mine like any other, so then a neighbour is named.
  *
  * Checked in this order: LAVGERIN_SHAPE, LAVGERIN_BOARD for the grid's length, LAVGERIN_NUMBER, and then the others. */
 uint8_t lavgerin_strict_three_bv(size_t rows, size_t columns, const int32_t *grid, size_t grid_length,
                                  int32_t *work, size_t work_length, uint64_t *units);
+
+uint8_t lavgerin_strict_at_least(size_t rows, size_t columns, const int32_t *grid, size_t grid_length,
+                                 int32_t *work, size_t work_length, size_t units, uint64_t *enough);
 
 uint8_t lavgerin_strict_greedy(size_t rows, size_t columns, const int32_t *grid, size_t grid_length,
                                int32_t *work, size_t work_length, uint32_t *list, size_t list_length,

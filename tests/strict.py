@@ -8,7 +8,7 @@ import random, sys
 
 from case_lines import board_of, case_lines, printed, run, values
 
-PRESENT = {"3bv", "greedy", "openings-first", "random-round", "random-search", "keyed-round", "keyed-search", "replay", "write-mbf"}
+PRESENT = {"3bv", "at-least", "greedy", "openings-first", "random-round", "random-search", "keyed-round", "keyed-search", "replay", "write-mbf"}
 
 
 def fields(case):
@@ -79,6 +79,8 @@ def random_case(rng, k):
     if call == "write-mbf":
         return line + f" file=77x{rng.choice((2, 4 + 2 * cells, 4 + 2 * cells + 3))}"
     line += f" work=7x{5 * cells + rng.choice((-1, 0, 0, 3))}"
+    if call == "at-least":
+        line += f" units={rng.choice((0, 1, 2, 3, 5, cells, cells + 1))}"
     if call in ("greedy", "openings-first", "random-round", "keyed-round"):
         line += f" list=4294967295x{cells + rng.choice((-1, 0, 0, 2))}"
     if call == "replay":

@@ -1,6 +1,6 @@
 /* Calls the library under its C names: the twelve boards, random rounds and searches, keyed ones, refusals on both
- * sides, replays with wrong flags to each ending, MBF files, the strict forms, and what is left alone. Exits at the
- * first wrong answer. */
+ * sides, replays with wrong flags to each ending, MBF files, the early count beside the full one, the strict forms, and what
+ * is left alone. Exits at the first wrong answer. */
 #include "lavgerin.h"
 
 #include <stdio.h>
@@ -8,7 +8,7 @@
 #include <string.h>
 
 enum { MOST = 255 * 255, MILLION = 1000000, UNTOLD = 77, LENT = 7, LENT_MOVE = 9, LENT_BYTE = 11 };
-enum { MOST_BYTES = 4 + 2 * MOST, MOST_LISTED = 65535, RANDOM_GRIDS = 400, SIDE = 12 };
+enum { MOST_BYTES = 4 + 2 * MOST, MOST_LISTED = 65535, RANDOM_GRIDS = 400, SIDE = 12, MOST_IN_ALL = 12 };
 
 #define L(i) ((uint32_t)LAVGERIN_LEFT * 65536 + (i))
 #define F(i) ((uint32_t)LAVGERIN_FLAG * 65536 + (i))
@@ -387,6 +387,8 @@ static void all_refuse(size_t rows, size_t columns, size_t grid_length, size_t w
     refused(lavgerin_keyed_search(rows, columns, grid, grid_length, work, work_length, key, 6, 1, 0, &first, &second), number);
     stepped(0);
     refused(lavgerin_three_bv(rows, columns, grid, grid_length, work, work_length, &first), number);
+    refused(lavgerin_at_least(rows, columns, grid, grid_length, work, work_length, 1, &first), number);
+    refused(lavgerin_at_least(rows, columns, grid, grid_length, work, work_length, 0, &first), number);
     refused(lavgerin_greedy(rows, columns, grid, grid_length, work, work_length, list, 0, &first), number);
     refused(lavgerin_openings_first(rows, columns, grid, grid_length, work, work_length, list, 0, &first), number);
     refused(lavgerin_random_round(rows, columns, grid, grid_length, work, work_length, list, 0, none, 0, 1, &first, &second), number);
@@ -800,6 +802,65 @@ static void files(void) {
     ran("files");
 }
 
+/* The early count of a grid: whether it has so many units. The work area is left 0, and unchanged past the grid's cells. */
+static void judged(size_t rows, size_t columns, const int32_t *of, size_t units, uint64_t want) {
+    size_t cells = rows * columns, left = 0;
+    for (size_t k = 0; k <= 5 * cells; k++) work[k] = LENT;
+    first = UNTOLD;
+    EQUAL(lavgerin_at_least(rows, columns, of, cells, work, 5 * cells, units, &first), 0);
+    EQUAL(first, want);
+    for (size_t k = 0; k < 5 * cells; k++) left += work[k] != 0;
+    EQUAL(left, 0);
+    EQUAL(work[5 * cells], LENT);
+}
+
+/* The early count of a grid beside the full one: around 3BV, few units, as many as cells, and no such number. */
+static void judged_around(size_t rows, size_t columns, const int32_t *of) {
+    size_t cells = rows * columns;
+    uint64_t units = UNTOLD;
+    EQUAL(lavgerin_three_bv(rows, columns, of, cells, work, 5 * cells, &units), 0);
+    const size_t asked[] = {0, 1, 2, units / 8, units / 2, units - (units > 0), units, units + 1, units + 2, cells, cells + 1, SIZE_MAX};
+    for (size_t k = 0; k < sizeof asked / sizeof asked[0]; k++) judged(rows, columns, of, asked[k], asked[k] <= units);
+}
+
+/* Every grid of these sides, with every number of units up to one more than the cells. */
+static void judged_all(size_t rows, size_t columns) {
+    int32_t of[MOST_IN_ALL];
+    size_t cells = rows * columns;
+    for (size_t mines = 0; mines < (size_t)1 << cells; mines++) {
+        uint64_t units = UNTOLD;
+        for (size_t k = 0; k < cells; k++) of[k] = mines >> k & 1 ? -1 : 0;
+        EQUAL(lavgerin_three_bv(rows, columns, of, cells, work, 5 * cells, &units), 0);
+        for (size_t asked = 0; asked <= cells + 1; asked++) judged(rows, columns, of, asked, asked <= units);
+    }
+}
+
+/* A random grid of these sides, about so many of a hundred cells mines. */
+static void judged_random(size_t rows, size_t columns, size_t percent) {
+    random_grid(rows * columns, percent, values);
+    judged_around(rows, columns, values);
+}
+
+/* The early count: all small grids, one opening, both labelling forms, league boards, wide boards, the largest. */
+static void early(void) {
+    for (size_t rows = 1; rows <= 4; rows++)
+        for (size_t columns = 1; columns <= 4; columns++)
+            if (rows * columns <= MOST_IN_ALL) judged_all(rows, columns);
+    memset(grid, 0, sizeof grid);
+    judged_around(16, 32, grid);
+    judged_around(19, 27, grid);
+    judged_around(3, 64, grid);
+    judged_around(255, 255, grid);
+    for (size_t k = 0; k < RANDOM_GRIDS; k++) {
+        judged_random(16, 32, below(41));
+        judged_random(19, 27, below(41));
+        judged_random(16, 30, 20 + below(2));
+        judged_random(1 + below(SIDE), 60 + below(80), below(41));
+    }
+    for (size_t percent = 10; percent <= 40; percent += 5) judged_random(255, 255, percent);
+    ran("early counts");
+}
+
 /* What a strict call on a board with right numbers and the present call come to: their numbers, answers and everything lent. */
 static void alike(uint8_t number, uint8_t present, size_t cells, const int32_t *before, const uint32_t *moves, const uint64_t *told) {
     EQUAL(number, present);
@@ -824,6 +885,8 @@ static uint8_t by_form(int strict, int call, const board *b, size_t work_length,
     case 6: return (strict ? lavgerin_strict_random_search : lavgerin_random_search)(r, c, b->grid, n, work, work_length, spent, 20, 1, rounds, &first, &second);
     case 7: return (strict ? lavgerin_strict_keyed_round : lavgerin_keyed_round)(r, c, b->grid, n, work, work_length, list, list_length, key, 6, 1, &first, &second);
     case 8: return (strict ? lavgerin_strict_keyed_search : lavgerin_keyed_search)(r, c, b->grid, n, work, work_length, key, 6, 0, rounds, &first, &second);
+    case 9: return (strict ? lavgerin_strict_at_least : lavgerin_at_least)(r, c, b->grid, n, work, work_length, b->units, &first);
+    case 10: return (strict ? lavgerin_strict_at_least : lavgerin_at_least)(r, c, b->grid, n, work, work_length, b->units + 1, &first);
     default: return (strict ? lavgerin_strict_replay : lavgerin_replay)(r, c, b->grid, n, work, work_length, b->moves, 5, b->greedy, &first, &second, &third);
     }
 }
@@ -847,7 +910,7 @@ static void same_forms(const board *b, size_t work_length, size_t list_length, s
     static int32_t before[46];
     static uint32_t moves[10];
     static uint32_t after[8];
-    for (int call = 0; call < 10; call++) {
+    for (int call = 0; call < 12; call++) {
         lend();
         lend_key(KEY[0]);
         uint8_t present = by_form(0, call, b, work_length, list_length, rounds);
@@ -866,7 +929,7 @@ static void same_forms(const board *b, size_t work_length, size_t list_length, s
 static void faulty(const board *b, uint64_t cell) {
     size_t cells = b->rows * b->columns;
     static const uint32_t blank[6] = {0};
-    for (int call = 0; call < 10; call++)
+    for (int call = 0; call < 12; call++)
         for (size_t less = 0; less < 2; less++) {
             lend();
             lend_key(less ? blank : KEY[0]);
@@ -938,6 +1001,7 @@ int main(void) {
     endings();
     large();
     files();
+    early();
     strict();
     printf("all as expected\n");
     return 0;

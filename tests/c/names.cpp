@@ -1,4 +1,4 @@
-// The header from C++: seven calls on the board of three rows and columns with a mine in the middle.
+// The header from C++: eight calls on the board of three rows and columns with a mine in the middle.
 #include "lavgerin.h"
 
 #include <cstdio>
@@ -34,12 +34,16 @@ int main() {
     uint64_t by_key = 0, words = 0;
     const int keyed = lavgerin_keyed_round(3, 3, grid, 9, area, 45, list, 9, key, 6, 0, &by_key, &words);
     const int no_key = lavgerin_strict_keyed_search(3, 3, values, 9, area, 45, key, 5, 1, 1, &again, &spent);
-    std::printf("from C++: %d %d, %d %d %d %d, %d %d, %d %d %d, %d, %d %d, %d %d, %d %d %d, %d %d %d, %d %d %d %d\n", number, static_cast<int>(clicks), played,
+    uint64_t enough = 77, too_many = 77;
+    const int judged = lavgerin_at_least(3, 3, grid, 9, area, 45, 8, &enough);
+    const int over = lavgerin_strict_at_least(3, 3, values, 9, area, 45, 9, &too_many);
+    std::printf("from C++: %d %d, %d %d %d %d, %d %d, %d %d %d, %d, %d %d, %d %d, %d %d %d, %d %d %d, %d %d %d %d, %d %d %d %d\n", number, static_cast<int>(clicks), played,
                 static_cast<int>(made), static_cast<int>(closed), static_cast<int>(ending), wrote,
                 static_cast<int>(written), read, static_cast<int>(rows), static_cast<int>(columns), longer, typed,
                 static_cast<int>(cell), right, static_cast<int>(again), old_mode, static_cast<int>(rolled),
                 static_cast<int>(used), fair_mode, static_cast<int>(fairly), static_cast<int>(spent), keyed,
-                static_cast<int>(by_key), static_cast<int>(words), no_key);
+                static_cast<int>(by_key), static_cast<int>(words), no_key, judged, static_cast<int>(enough), over,
+                static_cast<int>(too_many));
     const int32_t numbers[9] = {1, 1, 1, 1, -1, 1, 1, 1, 1};
     const bool as_expected = number == LAVGERIN_SUCCESS && clicks == 5 && played == LAVGERIN_SUCCESS && made == 5 &&
                              closed == 4 && ending == LAVGERIN_LOST && work[5 * 4 + 3] == 3;
@@ -51,5 +55,6 @@ int main() {
                             fairly == 5 && spent == 16;
     const bool keys_too = keyed == LAVGERIN_SUCCESS && by_key == 5 && words == 8 && key[5] == 6615241 + 2 * 362437 &&
                           no_key == LAVGERIN_KEY;
-    return as_expected && files_too && strictly && both_modes && keys_too ? 0 : 1;
+    const bool early_too = judged == LAVGERIN_SUCCESS && enough == 1 && over == LAVGERIN_SUCCESS && too_many == 0 && area[0] == 0;
+    return as_expected && files_too && strictly && both_modes && keys_too && early_too ? 0 : 1;
 }

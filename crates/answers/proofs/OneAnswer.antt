@@ -1,8 +1,8 @@
 -- There is only one answer and one end content of each lent run for every call: the promises are functions, and each enum is read back from its number and values. Assumes nothing.
 use Prim.Native.Nat.{ℕ}
 use mathlib.Core.Path.{_≡_, ap, refl, _∙_}
-use mathlib.Core.Bool.{Bool, _&&_, cond, false}
-use mathlib.Core.List.{List, [], _∷_}
+use mathlib.Core.Bool.{Bool, _&&_, cond, false, true}
+use mathlib.Core.List.{List}
 use mathlib.Mathlib.Logic.Function.Defs.{LeftInverse·injective}
 use lib.IntN.{ℤ}
 use lib.Dec.{eqb}
@@ -12,9 +12,11 @@ use Rattle.refusals.specs.Names.{named}
 use Rattle.refusals.specs.declared.Refusal.{Refusal}
 use Rattle.refusals.specs.declared.Refusal.the-variants.{Shape, Board, Work, Trace, Rounds, Draws, Move, Frame, Size, File, Number, Key}
 use Rattle.refusals.proofs.ReadBack.{readBack, refused-back}
-use Rattle.answers.specs.Answers.{Keeps, KeepsList, countedAnswer, keyRolledAnswer, pricedAnswer, replayedAnswer, rolledAnswer}
+use Rattle.answers.specs.Answers.{Keeps, KeepsList, countedAnswer, judgedAnswer, keyRolledAnswer, pricedAnswer, replayedAnswer, rolledAnswer}
 use Rattle.answers.specs.declared.Counted.{Counted}
 use Rattle.answers.specs.declared.Counted.the-variants as Counts
+use Rattle.answers.specs.declared.Judged.{Judged}
+use Rattle.answers.specs.declared.Judged.the-variants as Judges
 use Rattle.answers.specs.declared.Replayed.{Replayed}
 use Rattle.answers.specs.declared.Replayed.the-variants as Replays
 use Rattle.answers.specs.declared.Priced.{Priced}
@@ -51,6 +53,17 @@ counted-same = LeftInverse·injective (readBack units Counts.Refused) countedAns
     back : (r : Counted) → readBack units Counts.Refused (countedAnswer r) ≡ r
     back (Counts.Units n) = refl
     back (Counts.Refused f) = refused-back units Counts.Refused f
+
+judged-same : (r r′ : Judged) → judgedAnswer r ≡ judgedAnswer r′ → r ≡ r′
+judged-same = LeftInverse·injective (readBack enough Judges.Refused) judgedAnswer back
+  where
+    enough : List ℕ → Judged
+    enough vs = Judges.Enough (eqb (getD vs 0 0) 1)
+
+    back : (r : Judged) → readBack enough Judges.Refused (judgedAnswer r) ≡ r
+    back (Judges.Enough true) = refl
+    back (Judges.Enough false) = refl
+    back (Judges.Refused f) = refused-back enough Judges.Refused f
 
 priced-same : (r r′ : Priced) → pricedAnswer r ≡ pricedAnswer r′ → r ≡ r′
 priced-same = LeftInverse·injective (readBack clicks Prices.Refused) pricedAnswer back
@@ -104,6 +117,10 @@ replayed-same = LeftInverse·injective read replayedAnswer back
 -- the 3BV count
 pub counted-once : (p : Outcome) (r r′ : Counted) (w w′ : List ℤ) → Keeps p (countedAnswer r) w → Keeps p (countedAnswer r′) w′ → (r ≡ r′) × (w ≡ w′)
 counted-once p r r′ w w′ k k′ = let e = keeps-once p (countedAnswer r) (countedAnswer r′) w w′ k k′ in (counted-same r r′ (e .0), e .1)
+
+-- the early count
+pub judged-once : (p : Outcome) (r r′ : Judged) (w w′ : List ℤ) → Keeps p (judgedAnswer r) w → Keeps p (judgedAnswer r′) w′ → (r ≡ r′) × (w ≡ w′)
+judged-once p r r′ w w′ k k′ = let e = keeps-once p (judgedAnswer r) (judgedAnswer r′) w w′ k k′ in (judged-same r r′ (e .0), e .1)
 
 -- greedy and openings-first
 pub priced-once : (p : ListOutcome) (r r′ : Priced) (w w′ : List ℤ) (l l′ : List ℕ) → KeepsList p (pricedAnswer r) w l → KeepsList p (pricedAnswer r′) w′ l′ → (r ≡ r′) × (w ≡ w′) × (l ≡ l′)

@@ -3,12 +3,15 @@ use Prim.Native.Nat.{ℕ}
 use mathlib.Core.Path.{_≡_}
 use mathlib.Core.List.{List, [], _∷_}
 use lib.IntN.{ℤ}
+use Rattle.game.specs.Lists.{bit}
 use Rattle.game.specs.Keys.{keyNumbers}
 use Rattle.game.specs.Calls.{Answer, ListOutcome, Outcome, gives, move, numberOf, refuses}
 use Rattle.keys.specs.Stands.{keyOf}
 use Rattle.refusals.specs.Names.{named}
 use Rattle.answers.specs.declared.Counted.{Counted}
 use Rattle.answers.specs.declared.Counted.the-variants as Counts
+use Rattle.answers.specs.declared.Judged.{Judged}
+use Rattle.answers.specs.declared.Judged.the-variants as Judges
 use Rattle.answers.specs.declared.Replayed.{Replayed}
 use Rattle.answers.specs.declared.Replayed.the-variants as Replays
 use Rattle.answers.specs.declared.Priced.{Priced}
@@ -22,6 +25,11 @@ use Rattle.answers.specs.declared.KeyRolled.the-variants as KeyRolls
 abbrev pub countedAnswer : Counted → Answer
 countedAnswer (Counts.Units n) = gives (n ∷ [])
 countedAnswer (Counts.Refused f) = refuses (named f)
+
+-- the early count: 0 and 1 or 0, or the refusal's number alone
+abbrev pub judgedAnswer : Judged → Answer
+judgedAnswer (Judges.Enough b) = gives (bit b ∷ [])
+judgedAnswer (Judges.Refused f) = refuses (named f)
 
 -- replay: 0, moves made, safe cells still closed and the ending; MOVE with the bad move's place; or the refusal's number alone
 abbrev pub replayedAnswer : Replayed → Answer

@@ -8,6 +8,12 @@ pub enum Counted {
     Refused(Refusal),
 }
 
+// What the early count answers: whether there are so many units.
+pub enum Judged {
+    Enough(bool),
+    Refused(Refusal),
+}
+
 // What a replay answers: moves made, safe cells still closed and the ending (0 unfinished, 1 won, 2 lost), or the place of the bad move.
 pub enum Replayed {
     Played(usize, usize, usize),

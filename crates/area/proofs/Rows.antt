@@ -2,12 +2,13 @@
 use Prim.Native.Nat.{ℕ, _%_, _*_, _+_, _-_, _/_, _<_, _≤_, min}
 use native.Mathlib.Omega.{arith}
 use mathlib.Core.Path.{_≡_, _∙_, ap, refl, sym}
+use mathlib.Core.Logic.{_⊎_, ⊎-elim}
 use mathlib.Core.Bool.{Bool}
 use mathlib.Core.List.{List, [], _∷_, _++_, append-assoc, append-nil, map, map-append}
-use Rattle.game.specs.Grid.{Grid, square}
-use Rattle.game.specs.Lists.{bit, concat-map, count, fold, range}
+use Rattle.game.specs.Grid.{Grid, columnOf, index, near, rowOf, square}
+use Rattle.game.specs.Lists.{bit, concat-map, count, fold, range, some-of}
 use Rattle.game.proofs.Counts.{count-append}
-use Rattle.game.proofs.Members.{fold-append, range-more, range-none}
+use Rattle.game.proofs.Members.{fold-append, range-more, range-none, some-concat, some-map}
 use Rattle.game.proofs.Squares.{column-lt, row-lt}
 use Rattle.area.specs.Numbers.{gridOf}
 use Rattle.area.specs.Squares.{Around, blockCells, rowCells, squareOf}
@@ -23,6 +24,13 @@ column-inside rows columns i h = column-lt (gridOf rows columns []) i h
 pub same-square : (g : Grid) (i : ℕ) → squareOf (g .rows) (g .columns) i ≡ square g i
 unfolding square
 same-square g i = refl
+
+-- in the first columns of a grid it is the grid's, unless the cell stands in the last of them
+pub narrow-square : (g : Grid) (columns i : ℕ) → (columns ≡ g .columns) ⊎ ((columns < g .columns) × (columnOf g i + 1 < columns)) → squareOf (g .rows) columns i ≡ square g i
+unfolding square
+narrow-square g columns i h =
+    ap (λ (n : ℕ). concat-map (λ row. map (λ column. index g row column) (range (columnOf g i - 1) n)) (near (g .rows) (rowOf g i)))
+    (⊎-elim (λ e. ap (min (columnOf g i + 2)) e) (λ k. omega (arith, k .0, k .1)) h)
 
 -- ---- a row
 
@@ -91,3 +99,17 @@ pub count-block : (f : ℕ → Bool) (rows y k a b n m : ℕ) → y ≤ k → n 
     → n + m ≡ count f (blockCells rows y (k + 1) a b)
 count-block f rows y k a b n m h e q =
     omega (arith, ap (count f) (block-more rows y k a b h), count-append f (blockCells rows y k a b) (rowCells rows k a b))
+
+-- ---- what is looked for
+
+-- a row, column after column
+pub some-row : (f : ℕ → Bool) (rows row a b : ℕ) → some-of (λ column. f (column * rows + row)) (range a b) ≡ some-of f (rowCells rows row a b)
+unfolding rowCells
+some-row f rows row a b = sym (some-map f (λ column. column * rows + row) (range a b))
+
+-- a square, row after row
+pub some-square : (f : ℕ → Bool) (rows columns i first last a b : ℕ) → Around rows columns i first last a b
+    → some-of (λ row. some-of f (rowCells rows row a b)) (range first last) ≡ some-of f (squareOf rows columns i)
+unfolding blockCells
+some-square f rows columns i first last a b s =
+    sym (ap (some-of f) (s .cells) ∙ some-concat f (λ row. rowCells rows row a b) (range first last))

@@ -1,5 +1,6 @@
 // Answers as C sees them, and the mode that it names: the number that a name returns, 0 for success, and the values behind its answer pointers. What stands behind a pointer is left alone where an answer has no such value.
 use answers::Counted;
+use answers::Judged;
 use answers::KeyRolled;
 use answers::Priced;
 use answers::Replayed;
@@ -16,7 +17,7 @@ ghost use Rattle.game.specs.Keys.{keyNumbers};
 ghost use Rattle.draws.specs.Answers.{modeOf};
 ghost use Rattle.keys.specs.Stands.{keyOf};
 ghost use Rattle.refusals.specs.Names.{named};
-ghost use Rattle.answers.specs.Answers.{countedAnswer, keyRolledAnswer, pricedAnswer, replayedAnswer, rolledAnswer};
+ghost use Rattle.answers.specs.Answers.{countedAnswer, judgedAnswer, keyRolledAnswer, pricedAnswer, replayedAnswer, rolledAnswer};
 ghost use Rattle.lines.specs.Answers.{boardAnswer};
 ghost use Rattle.mbf_write.specs.Answers.{fileWrittenAnswer};
 ghost use Rattle.c_answers.specs.Names.{Tells, TellsThree, TellsTwo, keyBy, keyLeft, keyPut, modeBy};
@@ -89,6 +90,19 @@ pub fn tell_units(answer: Counted, units: &mut u64) -> u8
             0
         }
         Counted::Refused(refusal) => tell_refusal(refusal, units),
+    }
+}
+
+// Whether there are so many units, 1 or 0.
+pub fn tell_enough(answer: Judged, enough: &mut u64) -> u8
+    ensures { λ r. ⌜ Tells (judgedAnswer answer) r (now (enough .entry)) (now (enough .exit)) ⌝ }
+{
+    match answer {
+        Judged::Enough(judged) => {
+            *enough = judged as u64;
+            0
+        }
+        Judged::Refused(refusal) => tell_refusal(refusal, enough),
     }
 }
 

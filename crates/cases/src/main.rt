@@ -2,6 +2,7 @@
 //
 // A case is a line, NAME: CALL and the fields that the call takes, parted by single spaces, in any order:
 //   3bv             rows=N columns=N board=RUN work=RUN
+//   at-least        rows=N columns=N board=RUN work=RUN units=N
 //   greedy          rows=N columns=N board=RUN work=RUN list=RUN
 //   openings-first  rows=N columns=N board=RUN work=RUN list=RUN
 //   random-round    rows=N columns=N board=RUN work=RUN list=RUN draws=RUN fair=N
@@ -46,6 +47,10 @@ fn strict_call(
     if fields::is(text, 9, b"3bv ") {
         return plain::of_counted(strict::three_bv(rows, columns, grid, work));
     }
+    if fields::is(text, 9, b"at-least ") {
+        let units = fields::number(text, b"units=");
+        return plain::of_judged(strict::at_least(rows, columns, grid, work, units));
+    }
     if fields::is(text, 9, b"greedy ") {
         return plain::of_priced(strict::greedy(rows, columns, grid, work, list));
     }
@@ -81,6 +86,10 @@ fn call(text: &[u8], grid: &[i32], work: &mut [i32], list: &mut [u32], draws: &[
     let columns = fields::number(text, b"columns=");
     if fields::is(text, 2, b"3bv ") {
         return plain::of_counted(count::three_bv(rows, columns, grid, work));
+    }
+    if fields::is(text, 2, b"at-least ") {
+        let units = fields::number(text, b"units=");
+        return plain::of_judged(count::at_least(rows, columns, grid, work, units));
     }
     if fields::is(text, 2, b"greedy ") {
         return plain::of_priced(prices::greedy(rows, columns, grid, work, list));

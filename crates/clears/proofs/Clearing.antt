@@ -1,4 +1,4 @@
--- A run filled one entry after the other, and lent memory after DRAWS. Assumes nothing.
+-- A run filled one entry after the other, and lent memory after DRAWS or an early count. Assumes nothing.
 use Prim.Native.Nat.{ℕ, _+_, _*_, _<_, _≤_}
 use native.Mathlib.Omega.{arith}
 use native.Mathlib.Decide.{decLe, ℕ-discrete}
@@ -45,13 +45,18 @@ module _ {A : Type 0} (nought : A) (old : List A) where
   pub cleared-since : (n : ℕ) (mid new : List A) → length mid ≡ length old → ((k : ℕ) → n ≤ k → getD mid k nought ≡ getD old k nought) → Cleared nought n mid new → Cleared nought n old new
   cleared-since n mid new e p c = record { long = c .long ∙ e; front = c .front; past = λ k h. c .past k h ∙ p k h }
 
+-- the work area, whatever its cells' numbers were
+pub cells-cleared : (g : Grid) (old w w′ : List ℤ) → 5 * size g ≤ length old → length w ≡ length old → ((k : ℕ) → 5 * size g ≤ k → getD w k (pos 0) ≡ getD old k (pos 0))
+    → Cleared (pos 0) (5 * size g) w w′ → w′ ≡ clearedArea g old
+unfolding clearedArea
+cells-cleared g old w w′ h e p c = cleared-only (pos 0) old (5 * size g) w′ h (cleared-since (pos 0) old (5 * size g) w w′ e p c)
+
 -- the work area after DRAWS, whatever position it stood for
 pub area-cleared : (g : Grid) (s : Position) (old w w′ : List ℤ) → 5 * size g ≤ length old → w ≡ held g s old → Cleared (pos 0) (5 * size g) w w′ → w′ ≡ clearedArea g old
-unfolding heldFive clearedArea
+unfolding heldFive
 area-cleared g s old w w′ h e c =
-    cleared-only (pos 0) old (5 * size g) w′ h
-    (cleared-since (pos 0) old (5 * size g) w w′ (ap length e ∙ length-held g s old h)
-    (λ k b. ap (λ (v : List ℤ). getD v k (pos 0)) e ∙ laid-past (heldFive g s) (λ i. refl) (size g) old k b) c)
+    cells-cleared g old w w′ h (ap length e ∙ length-held g s old h)
+    (λ k b. ap (λ (v : List ℤ). getD v k (pos 0)) e ∙ laid-past (heldFive g s) (λ i. refl) (size g) old k b) c
 
 -- the list after DRAWS, whatever was noted in it
 pub list-cleared : (g : Grid) (old l l′ : List ℕ) → size g ≤ length old → length l ≡ length old → ((k : ℕ) → size g ≤ k → getD l k 0 ≡ getD old k 0) → Cleared 0 (size g) l l′ → l′ ≡ clearedList g old

@@ -1,4 +1,4 @@
-// DRAWS: lent memory filled with 0. No user calls these.
+// DRAWS and the early count: lent memory filled with 0. No user calls these.
 ghost use Prim.Native.Nat.{_≤_};
 ghost use lib.IntN.{pos};
 ghost use lib.ListN.{length};

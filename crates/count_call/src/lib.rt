@@ -1,2 +1,2 @@
-// The public call that counts 3BV.
-pub mod count; // 3BV
+// The public calls that count 3BV.
+pub mod count; // 3BV, and whether it is at least so many units

@@ -4,12 +4,12 @@ use mathlib.Core.Path.{_≡_, refl}
 use mathlib.Core.Bool.{Bool, _&&_, _||_, cond, false, not, true}
 use mathlib.Core.List.{List, [], _++_, _∷_, map}
 use mathlib.Core.Option.{Option, none, some}
-use lib.Dec.{eqb, ltb}
+use lib.Dec.{eqb, leb, ltb}
 use lib.IntN.{_-ℤ_, negsuc, pos, ℤ}
 use lib.ListN.{getD, length, set, take}
 use lib.Signed.{leZ}
 use Rattle.game.specs.Area.{areaOf, clearedArea, clearedList, fiveNumbers, laid, listOf}
-use Rattle.game.specs.Calls.{board, countCheck, drawnRound, drawnSearch, firstGiven, gives, gridChecks, handing, handingListed, keyCheck, keyedRoundCall, keyedRoundsCheck, keyedSearchCall, listCheck, move, numberOf, priceCall, randomRoundCall, randomSearchCall, replayCall, replayed, roundsCheck, shapeCheck, threeBVCall, unless, unlessListed, workCheck}
+use Rattle.game.specs.Calls.{atLeastCall, board, countCheck, drawnRound, drawnSearch, firstGiven, gives, gridChecks, handing, handingListed, keyCheck, keyedRoundCall, keyedRoundsCheck, keyedSearchCall, listCheck, move, numberOf, priceCall, randomRoundCall, randomSearchCall, replayCall, replayed, roundsCheck, shapeCheck, threeBVCall, unless, unlessListed, workCheck}
 use Rattle.game.specs.Draws.{Mode, lent}
 use Rattle.game.specs.Grid.{Grid, cellAt, cells, mine, number, rightValue, rightValues, size, square, zeroCell}
 use Rattle.game.specs.Keys.{Key, keyed}
@@ -27,6 +27,7 @@ revalued g vs = record { rows = g .rows; columns = g .columns; values = vs }
 -- every call comes to the same on both grids
 pub record SameCalls (g h : Grid) : Type 0 where
   pub three-bv : (ws : List ℤ) → threeBVCall g ws ≡ threeBVCall h ws
+  pub at-least : (ws : List ℤ) (units : ℕ) → atLeastCall g ws units ≡ atLeastCall h ws units
   pub price : (openingsFirst : Bool) (ws : List ℤ) (ms : List ℕ) → priceCall openingsFirst g ws ms ≡ priceCall openingsFirst h ws ms
   pub random-round : (mode : Mode) (ws : List ℤ) (ms bytes : List ℕ) → randomRoundCall mode g ws ms bytes ≡ randomRoundCall mode h ws ms bytes
   pub random-search : (mode : Mode) (ws : List ℤ) (bytes : List ℕ) (n : ℕ) → randomSearchCall mode g ws bytes n ≡ randomSearchCall mode h ws bytes n
@@ -328,6 +329,11 @@ module _ (g : Grid) (vs : List ℤ) where
       three-bv-call ws = λ j. unless (firstGiven (checks j ws)) ws
           (record { answer = gives (three-bv-same j ∷ []); work = areas j (untouched g) ws })
 
+      at-least-call : (ws : List ℤ) (units : ℕ) → atLeastCall g ws units ≡ atLeastCall h ws units
+      unfolding atLeastCall clearedArea
+      at-least-call ws units = λ j. unless (firstGiven (checks j ws)) ws
+          (record { answer = gives (bit (leb units (three-bv-same j)) ∷ []); work = clearedArea g ws })
+
       price-call : (b : Bool) (ws : List ℤ) (ms : List ℕ) → priceCall b g ws ms ≡ priceCall b h ws ms
       unfolding priceCall
       price-call b ws ms = λ j.
@@ -364,6 +370,7 @@ module _ (g : Grid) (vs : List ℤ) where
     calls-same long =
         record {
           three-bv = three-bv-call long;
+          at-least = at-least-call long;
           price = price-call long;
           random-round = random-round-call long;
           random-search = random-search-call long;

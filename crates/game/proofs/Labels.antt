@@ -99,13 +99,13 @@ none-held g i k (o ∷ os) n = go (holds g i o) n (none-held g i (suc k) os)
     go true t r = absurd t
     go false t r = r t
 
-held-by : (g : Grid) (i : ℕ) (os : List (List ℕ)) → Each (Full g) os → T (some-of (holds g i) os) → (a : ℕ) × T (has a (square g i)) × Zero g a
+-- a cell that one of some openings holds has a 0-cell in its square
+pub held-by : (g : Grid) (i : ℕ) (os : List (List ℕ)) → Each (Full g) os → T (some-of (holds g i) os) → (a : ℕ) × T (has a (square g i)) × Zero g a
 held-by g i [] e t = absurd t
 held-by g i (o ∷ os) e t =
     ⊎-elim (λ u. let w = yes-some (λ j. has j o) (square g i) u in (w .0, w .1, e .0 .zero-cell (w .0) (w .2)))
     (λ u. held-by g i os (e .1) u) (or-cases (holds g i o) (some-of (holds g i) os) t)
 
--- a cell that an opening holds has a 0-cell in its square
 pub labelled→zero : (g : Grid) (i : ℕ) → T (some-of (holds g i) (openings g)) → (a : ℕ) × T (has a (square g i)) × Zero g a
 labelled→zero g i t = held-by g i (openings g) (good g .full) t
 

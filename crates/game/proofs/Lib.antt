@@ -19,6 +19,7 @@ pub mod Premiums
 pub mod Choices
 pub mod Legal
 pub mod Units
+pub mod Early
 pub mod Runs
 pub mod Draws
 pub mod KeyWords

@@ -3,14 +3,14 @@ use Prim.Native.Nat.{ℕ, _*_, _+_, _-_, _<_, _≤_, suc, zero}
 use native.Mathlib.Omega.{arith}
 use native.Mathlib.Decide.{ℕ-discrete}
 use native.Mathlib.Nat.{add-sub-of-le, add-suc, add-zero, sub-self, sub-zero, suc-add, suc-mul, zero-add, zero-mul}
-use mathlib.Core.Path.{_∙_, _≡_, ap, refl, sym}
+use mathlib.Core.Path.{_∙_, _≡_, ap, ap₂, refl, sym}
 use mathlib.Core.Logic.{_⊎_, inl, inr, ⊎-elim}
 use mathlib.Core.Bool.{Bool, _||_, false, not, true}
 use mathlib.Core.List.{List, [], _++_, _∷_, append-assoc, append-nil, map}
 use lib.Dec.{T, T-not, eqb, eqb-refl, eqb→eq}
 use lib.ListN.{getD, length}
 use Rattle.game.specs.Lists.{Each, all-of, concat-map, fold, from, has, keep, range, some-of}
-use Rattle.game.proofs.Truth.{and-both, and-left, and-right, or-cases, or-left, or-right}
+use Rattle.game.proofs.Truth.{T→true, and-both, and-left, and-right, or-cases, or-left, or-right}
 
 -- ---- the first and the rest
 
@@ -177,6 +177,15 @@ some-append f (x ∷ xs) ys = ap (λ (b : Bool). f x || b) (some-append f xs ys)
     grouped true b c = refl
     grouped false b c = refl
 
+-- and of lists made from one
+pub some-map : (f : ℕ → Bool) (h : ℕ → ℕ) (xs : List ℕ) → some-of f (map h xs) ≡ some-of (λ x. f (h x)) xs
+some-map f h [] = refl
+some-map f h (x ∷ xs) = ap (λ (b : Bool). f (h x) || b) (some-map f h xs)
+
+pub some-concat : (f : ℕ → Bool) (h : ℕ → List ℕ) (xs : List ℕ) → some-of f (concat-map h xs) ≡ some-of (λ x. some-of f (h x)) xs
+some-concat f h [] = refl
+some-concat f h (x ∷ xs) = some-append f (h x) (concat-map h xs) ∙ ap (λ (b : Bool). some-of f (h x) || b) (some-concat f h xs)
+
 -- one passes the one test in the one list, so one passes the other in the other
 pub some-into : (f h : ℕ → Bool) (xs ys : List ℕ) → ((x : ℕ) → T (has x xs) → T (f x) → T (has x ys) × T (h x)) → T (some-of f xs) → T (some-of h ys)
 some-into f h xs ys m t =
@@ -263,6 +272,18 @@ range-more a b h =
 
 pub range-none : (a : ℕ) → range a a ≡ []
 range-none a = ap (from a) (sub-self a)
+
+-- whether one passes a test, from a number on: none yet, one more that fails, one that passes
+module _ (f : ℕ → Bool) (a : ℕ) where
+  pub none-yet : some-of f (range a a) ≡ false
+  none-yet = ap (some-of f) (range-none a)
+
+  pub none-more : (k : ℕ) → a ≤ k → some-of f (range a k) ≡ false → f k ≡ false → some-of f (range a (k + 1)) ≡ false
+  none-more k h e t =
+      ap (some-of f) (range-more a k h) ∙ some-append f (range a k) (k ∷ []) ∙ ap₂ (λ (p q : Bool). p || (q || false)) e t
+
+  pub one-there : (k b : ℕ) → a ≤ k → k < b → f k ≡ true → true ≡ some-of f (range a b)
+  one-there k b h l t = sym (T→true (some-of f (range a b)) (some-yes f k (range a b) (range-has a b k h l) (rw t tt)))
 
 pub fold-append {ℓ} : {S : Type ℓ} (f : S → ℕ → S) (s : S) (xs ys : List ℕ) → fold f s (xs ++ ys) ≡ fold f (fold f s xs) ys
 fold-append f s [] ys = refl

@@ -19,7 +19,7 @@ use Rattle.game.proofs.Members.{first-of, rest-of}
 use Rattle.game.proofs.Narrow.{after-append}
 use Rattle.game.proofs.Tidy.{untouched-tidy}
 use Rattle.game.proofs.Reveal.{zero-safe}
-use Rattle.game.proofs.Runs.{Fits, Run, choice-fits, fit-takes, moves-append, run-append, run-falls, run-tidy, sound, step-tidy, unit}
+use Rattle.game.proofs.Runs.{Fits, Run, choice-fits, fit-takes, moves-append, no-units, run-append, run-falls, run-tidy, sound, step-tidy, unit}
 use Rattle.game.proofs.Squares.{cells→}
 use Rattle.game.proofs.Truth.{and-left, and-right}
 use Rattle.game.proofs.Units.{units-untouched}
@@ -83,6 +83,14 @@ steps-end (suc n) openedOnly g s f h =
         let p = choice-fits openedOnly g s 0 (never-stuck openedOnly g s f (omega arith)) in
         ap (closedSafe g) (after-append g (t .moves) (movesOf (stepsFrom n openedOnly g (afterStep g s t))) s)
         ∙ r (step-tidy g s t f p) (omega (arith, fit-takes g s t f p))
+
+-- units are closed exactly while safe cells are
+pub all-done : (g : Grid) (s : Position) → Tidy g s → closedUnits g s ≤ 0 → closedSafe g s ≡ 0
+all-done g s f h = steps-end 0 false g s f h
+
+pub safe-left : (g : Grid) (s : Position) → Tidy g s → 1 ≤ closedUnits g s → 1 ≤ closedSafe g s
+safe-left g s f h =
+    elim (decLe 1 (closedSafe g s)) [ yes k ↦ k | no k ↦ absurd (omega (arith, no-units g s f (omega arith))) ]
 
 pub greedy-sound : (g : Grid) → Sound g (greedySteps g)
 unfolding greedySteps

@@ -6,7 +6,7 @@ use mathlib.Core.List.{List, [], _++_, _∷_}
 use mathlib.Core.Option.{Option, none, some}
 use lib.IntN.{ℤ}
 use Rattle.game.specs.Draws.{Mode}
-use Rattle.game.specs.Calls.{Check, Refusal, boardChecks, countCheck, decided, firstGiven, kept, keptListed, keyCheck, keyedRoundCall, keyedRoundsCheck, keyedSearchCall, listCheck, number-wrong, priceCall, randomRoundCall, randomSearchCall, replayCall, roundsCheck, strictChecks, strictKeyedRoundCall, strictKeyedSearchCall, strictPriceCall, strictRandomRoundCall, strictRandomSearchCall, strictReplayCall, strictThreeBVCall, strictly, threeBVCall, workCheck}
+use Rattle.game.specs.Calls.{Check, Refusal, atLeastCall, boardChecks, countCheck, decided, firstGiven, kept, keptListed, keyCheck, keyedRoundCall, keyedRoundsCheck, keyedSearchCall, listCheck, number-wrong, priceCall, randomRoundCall, randomSearchCall, replayCall, roundsCheck, strictChecks, strictAtLeastCall, strictKeyedRoundCall, strictKeyedSearchCall, strictPriceCall, strictRandomRoundCall, strictRandomSearchCall, strictReplayCall, strictThreeBVCall, strictly, threeBVCall, workCheck}
 use Rattle.game.specs.Grid.{Grid}
 use Rattle.game.specs.Keys.{Key}
 use Rattle.game.proofs.Checks.{first-decides}
@@ -36,6 +36,7 @@ module _ {A : Type 0} (leaves : Refusal → A) (g : Grid) (present : A) where
 -- every strict call comes to what the present call does
 pub record SameStrictly (g : Grid) : Type 0 where
   pub three-bv : (ws : List ℤ) → strictThreeBVCall g ws ≡ threeBVCall g ws
+  pub at-least : (ws : List ℤ) (units : ℕ) → strictAtLeastCall g ws units ≡ atLeastCall g ws units
   pub price : (openingsFirst : Bool) (ws : List ℤ) (ms : List ℕ) → strictPriceCall openingsFirst g ws ms ≡ priceCall openingsFirst g ws ms
   pub random-round : (mode : Mode) (ws : List ℤ) (ms bytes : List ℕ) → strictRandomRoundCall mode g ws ms bytes ≡ randomRoundCall mode g ws ms bytes
   pub random-search : (mode : Mode) (ws : List ℤ) (bytes : List ℕ) (n : ℕ) → strictRandomSearchCall mode g ws bytes n ≡ randomSearchCall mode g ws bytes n
@@ -55,10 +56,11 @@ same-strictly leaves g cs o r = go (firstGiven (boardChecks g)) refl
 
 -- where every value is right, also on grids that SHAPE or BOARD refuses
 pub right-calls : (g : Grid) → AllRight g → SameStrictly g
-unfolding threeBVCall priceCall randomRoundCall randomSearchCall keyedRoundCall keyedSearchCall replayCall
+unfolding threeBVCall atLeastCall priceCall randomRoundCall randomSearchCall keyedRoundCall keyedSearchCall replayCall
 right-calls g r =
     record {
       three-bv = λ ws. same-strictly (kept ws) g (workCheck g ws ∷ []) _ r;
+      at-least = λ ws units. same-strictly (kept ws) g (workCheck g ws ∷ []) _ r;
       price = λ openingsFirst ws ms. same-strictly (keptListed ws ms) g (workCheck g ws ∷ listCheck g ms ∷ []) _ r;
       random-round = λ mode ws ms bytes. same-strictly (keptListed ws ms) g (workCheck g ws ∷ listCheck g ms ∷ []) _ r;
       random-search = λ mode ws bytes n. same-strictly (kept ws) g (workCheck g ws ∷ roundsCheck n ∷ []) _ r;
@@ -72,6 +74,7 @@ right-calls g r =
 -- every strict call is NUMBER of a cell and changes nothing lent, also where the work area or the list is too short, there are no rounds, or the key is blank
 pub record NumberCalls (g : Grid) (cell : ℕ) : Type 0 where
   pub three-bv : (ws : List ℤ) → strictThreeBVCall g ws ≡ kept ws (number-wrong cell)
+  pub at-least : (ws : List ℤ) (units : ℕ) → strictAtLeastCall g ws units ≡ kept ws (number-wrong cell)
   pub price : (openingsFirst : Bool) (ws : List ℤ) (ms : List ℕ) → strictPriceCall openingsFirst g ws ms ≡ keptListed ws ms (number-wrong cell)
   pub random-round : (mode : Mode) (ws : List ℤ) (ms bytes : List ℕ) → strictRandomRoundCall mode g ws ms bytes ≡ keptListed ws ms (number-wrong cell)
   pub random-search : (mode : Mode) (ws : List ℤ) (bytes : List ℕ) (n : ℕ) → strictRandomSearchCall mode g ws bytes n ≡ kept ws (number-wrong cell)
@@ -84,6 +87,7 @@ pub fault-calls : (g : Grid) → firstGiven (boardChecks g) ≡ none → (f : Fa
 fault-calls g e f =
     record {
       three-bv = λ ws. strict-fault (kept ws) g (threeBVCall g ws) e f;
+      at-least = λ ws units. strict-fault (kept ws) g (atLeastCall g ws units) e f;
       price = λ openingsFirst ws ms. strict-fault (keptListed ws ms) g (priceCall openingsFirst g ws ms) e f;
       random-round = λ mode ws ms bytes. strict-fault (keptListed ws ms) g (randomRoundCall mode g ws ms bytes) e f;
       random-search = λ mode ws bytes n. strict-fault (kept ws) g (randomSearchCall mode g ws bytes n) e f;

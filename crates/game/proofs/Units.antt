@@ -13,9 +13,9 @@ use Rattle.game.specs.Moves.{after, chord, flag, left, play, reveal}
 use Rattle.game.specs.Openings.{gather, holds, joinedTo, openings, threeBV, unlabelled}
 use Rattle.game.specs.Position.{Position, Tidy, cellUnit, closed, closedUnits, flagged, gain, openingClosed, unflagged, unopened, untouched}
 use Rattle.game.specs.Rounds.{movesAt}
-use Rattle.game.proofs.Counts.{bit-no, bit-yes, count-each, count-ext, count-point, count-split, each-map}
-use Rattle.game.proofs.Legal.{flagged-mines, flagged-tidy}
-use Rattle.game.proofs.Members.{first-of, keep-has, rest-of, some-same, some-yes}
+use Rattle.game.proofs.Counts.{bit-no, bit-yes, count-each, count-ext, count-none, count-point, count-split, each-map}
+use Rattle.game.proofs.Legal.{flagged-mines, flagged-tidy, none-of}
+use Rattle.game.proofs.Members.{first-of, keep-has, only-one, rest-of, some-same, some-yes}
 use Rattle.game.proofs.Narrow.{AllFlagged, after-append, play-chord, play-left}
 use Rattle.game.proofs.Opened.{fold-opening, fold-unlabelled, reveal-opening, reveal-unlabelled}
 use Rattle.game.proofs.Openings.{Full, good}
@@ -77,6 +77,14 @@ flags-taken g (x ∷ js) s h =
   where
     other : (j : ℕ) → T (safe g j) → unopened (set s x 2) j ≡ unopened s j
     other j t = ap (λ (k : ℕ). not (eqb k 1)) (flag-stays g s x j (first-of x js h) t)
+
+-- one flag on a mine leaves as many units closed
+pub units-flag : (g : Grid) (s : Position) (i : ℕ) → T (mine g i) → closedUnits g (play g s (flag i)) ≡ closedUnits g s
+units-flag g s i t =
+    let a = units-taken g (λ j. false) (λ o. false) s (play g s (flag i)) (flags-taken g (i ∷ []) s (λ j u. rw (only-one j i u) t)) in
+    let b = none-of (openings g) in
+    let c = count-none (λ j. false) (cells g) (λ j u v. v) in
+    omega arith
 
 click-taken : (g : Grid) (s : Position) (i : ℕ) → i < size g → T (safe g i) → Tidy g s → (b : Bool)
     → Taken g (λ j. b && eqb j i) (λ o. b && has i o) s (after g s (cond b (left i ∷ []) []))
@@ -147,6 +155,16 @@ units-click g s c h f t which =
     let m = bit-yes (cellUnit g s c) (and-both (unlabelled g c) (unopened s c) n (closed-unopened s c t)) in
     omega arith)
     which
+
+-- a closed numbered cell that has a label takes none: no opening has it, and it is no unit of its own
+pub units-border : (g : Grid) (s : Position) (c : ℕ) → c < size g → Tidy g s → (T (zeroCell g c) → ⊥) → (T (unlabelled g c) → ⊥)
+    → closedUnits g s ≡ closedUnits g (reveal g s c)
+units-border g s c h f z u =
+    let a = units-taken g (λ j. eqb j c) (has c) s (reveal g s c) (reveal-taken g s c h f) in
+    let b = count-point (cellUnit g s) c (cells g) (once-cells g) (→cells g c h) in
+    let d = count-off c (openingClosed s) (openings g) (λ t. z (good g .zeros c t .none)) in
+    let m = bit-no (cellUnit g s c) (λ t. u (and-left (unlabelled g c) (unopened s c) t)) in
+    omega arith
 
 -- the same of the move
 pub units-left : (g : Grid) (s : Position) (c : ℕ) → T (safe g c) → c < size g → Tidy g s → T (closed s c) → T (zeroCell g c) ⊎ T (unlabelled g c)

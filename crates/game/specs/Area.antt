@@ -39,7 +39,7 @@ listOf ms old = begun (map word ms) old
 abbrev pub cleared {ℓ} : {A : Type ℓ} → A → ℕ → List A → List A
 cleared nought n old = begun (replicate n nought) old
 
--- the work area after DRAWS
+-- the work area after DRAWS, and after a count that stops early
 unfoldable pub clearedArea : Grid → List ℤ → List ℤ
 clearedArea g old = cleared (pos 0) (5 * size g) old
 

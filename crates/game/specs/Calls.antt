@@ -5,9 +5,10 @@ use mathlib.Core.List.{List, [], _∷_, _++_, map}
 use mathlib.Core.Option.{Option, none, some}
 use lib.IntN.{ℤ}
 use lib.ListN.{length, take}
-use lib.Dec.{eqb, ltb}
+use lib.Dec.{eqb, leb, ltb}
 use Rattle.game.specs.Draws.{Mode, Source, lent}
 use Rattle.game.specs.Grid.{Grid, cells, size, wrong}
+use Rattle.game.specs.Lists.{bit}
 use Rattle.game.specs.Keys.{Key, blank, keyAfter, keyNumbers, keyed}
 use Rattle.game.specs.Openings.{threeBV}
 use Rattle.game.specs.Position.{untouched, closedSafe, ending}
@@ -180,6 +181,11 @@ unfoldable pub threeBVCall : Grid → List ℤ → Outcome
 threeBVCall g ws =
     unless (firstGiven (gridChecks g ws)) ws (record { answer = gives (threeBV g ∷ []); work = areaOf g (untouched g) ws })
 
+-- whether 3BV is at least so many units, 1 or 0; the first 5 x cells numbers of the work area become 0
+unfoldable pub atLeastCall : Grid → List ℤ → ℕ → Outcome
+atLeastCall g ws units =
+    unless (firstGiven (gridChecks g ws)) ws (record { answer = gives (bit (leb units (threeBV g)) ∷ []); work = clearedArea g ws })
+
 -- a round by its moves: the clicks, the position at its end, the moves written
 abbrev pub playedRound : Grid → List Move → List ℤ → List ℕ → ListOutcome
 playedRound g played ws ms =
@@ -292,6 +298,10 @@ strictly leaves g present = decided (firstGiven (strictChecks g)) leaves present
 -- the 3BV count, strictly
 abbrev pub strictThreeBVCall : Grid → List ℤ → Outcome
 strictThreeBVCall g ws = strictly (kept ws) g (threeBVCall g ws)
+
+-- whether 3BV is at least so many units, strictly
+abbrev pub strictAtLeastCall : Grid → List ℤ → ℕ → Outcome
+strictAtLeastCall g ws units = strictly (kept ws) g (atLeastCall g ws units)
 
 -- greedy, or openings-first, strictly
 abbrev pub strictPriceCall : Bool → Grid → List ℤ → List ℕ → ListOutcome

@@ -2,6 +2,7 @@
 pub mod Lists
 pub mod Grid
 pub mod Openings
+pub mod Early
 pub mod Position
 pub mod Moves
 pub mod Draws

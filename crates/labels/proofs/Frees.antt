@@ -20,13 +20,14 @@ use Rattle.game.proofs.Truth.{and-both, and-left, and-no, and-right}
 use Rattle.labels.proofs.Changes.{content-stays, stays}
 use Rattle.labels.proofs.Edges.{first-some, labelled-first, labelled-other}
 
-fresh-yes? : (w : List ℤ) (i : ℕ) → T (freshOf w i) → (contentAt w i ≡ 1) × (firstAt w i ≡ 0)
+-- a 0-cell without label, by the test
+pub fresh-yes? : (w : List ℤ) (i : ℕ) → T (freshOf w i) → (contentAt w i ≡ 1) × (firstAt w i ≡ 0)
 fresh-yes? w i t = (
   eqb→eq (contentAt w i) 1 (and-left (eqb (contentAt w i) 1) (eqb (firstAt w i) 0) t),
   eqb→eq (firstAt w i) 0 (and-right (eqb (contentAt w i) 1) (eqb (firstAt w i) 0) t),
 )
 
-fresh-test : (w : List ℤ) (i : ℕ) → contentAt w i ≡ 1 → firstAt w i ≡ 0 → freshOf w i ≡ true
+pub fresh-test : (w : List ℤ) (i : ℕ) → contentAt w i ≡ 1 → firstAt w i ≡ 0 → freshOf w i ≡ true
 fresh-test w i p q = simp (eq-eqb (contentAt w i) 1 p, eq-eqb (firstAt w i) 0 q)
 
 module _ (g : Grid) (k : ℕ → ℕ) (op : ℕ) (o : 1 ≤ op) where

@@ -1,5 +1,5 @@
 // The calls under C names. Each returns the refusal's number, 0 for success; answers go through pointers, and what stands there is left alone where an answer has no such value.
-ghost use Rattle.game.specs.Calls.{greedyCall, keyedRoundCall, keyedSearchCall, openingsFirstCall, priceCall, randomRoundCall, randomSearchCall, replayCall, threeBVCall};
+ghost use Rattle.game.specs.Calls.{atLeastCall, greedyCall, keyedRoundCall, keyedSearchCall, openingsFirstCall, priceCall, randomRoundCall, randomSearchCall, replayCall, threeBVCall};
 ghost use Rattle.area.specs.Numbers.{gridOf};
 ghost use Rattle.mbf_form.specs.Calls.{readFileCall, writeFileCall};
 ghost use Rattle.c_answers.specs.Names.{Returned, ReturnedGrid, ReturnedKey, ReturnedList, ReturnedListKey, ReturnedListTwo, ReturnedRun, ReturnedThree, ReturnedTwo, keyBy, modeBy};
@@ -19,6 +19,22 @@ pub extern "C" fn lavgerin_three_bv(
 {
     let answer = zini::count::three_bv(rows, columns, grid, work);
     c_answers::tell_units(answer, units)
+}
+
+// Whether 3BV of a grid is at least so many units, 1 or 0.
+#[no_mangle]
+pub extern "C" fn lavgerin_at_least(
+    rows: usize,
+    columns: usize,
+    grid: &[i32],
+    work: &mut [i32],
+    units: usize,
+    enough: &mut u64,
+) -> u8
+    ensures { λ r. ⌜ Returned (atLeastCall (gridOf rows columns (now (grid .entry))) (now (work .entry)) units) r (now (work .exit)) (now (enough .entry)) (now (enough .exit)) ⌝ }
+{
+    let answer = zini::count::at_least(rows, columns, grid, work, units);
+    c_answers::tell_enough(answer, enough)
 }
 
 // Greedy ZiNi, or openings-first: its clicks, and its moves in the list.

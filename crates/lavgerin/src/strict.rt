@@ -1,6 +1,6 @@
 // The strict forms under C names, with the parameters of the present ones: NUMBER puts the lowest cell at fault behind the first answer pointer.
 ghost use mathlib.Core.Bool.{false, true};
-ghost use Rattle.game.specs.Calls.{strictKeyedRoundCall, strictKeyedSearchCall, strictPriceCall, strictRandomRoundCall, strictRandomSearchCall, strictReplayCall, strictThreeBVCall};
+ghost use Rattle.game.specs.Calls.{strictAtLeastCall, strictKeyedRoundCall, strictKeyedSearchCall, strictPriceCall, strictRandomRoundCall, strictRandomSearchCall, strictReplayCall, strictThreeBVCall};
 ghost use Rattle.area.specs.Numbers.{gridOf};
 ghost use Rattle.mbf_form.specs.Calls.{strictWriteFileCall};
 ghost use Rattle.c_answers.specs.Names.{Returned, ReturnedKey, ReturnedList, ReturnedListKey, ReturnedListTwo, ReturnedRun, ReturnedThree, ReturnedTwo, keyBy, modeBy};
@@ -18,6 +18,22 @@ pub extern "C" fn lavgerin_strict_three_bv(
 {
     let answer = zini::strict::three_bv(rows, columns, grid, work);
     c_answers::tell_units(answer, units)
+}
+
+// Whether 3BV of a grid is at least so many units, 1 or 0.
+#[no_mangle]
+pub extern "C" fn lavgerin_strict_at_least(
+    rows: usize,
+    columns: usize,
+    grid: &[i32],
+    work: &mut [i32],
+    units: usize,
+    enough: &mut u64,
+) -> u8
+    ensures { λ r. ⌜ Returned (strictAtLeastCall (gridOf rows columns (now (grid .entry))) (now (work .entry)) units) r (now (work .exit)) (now (enough .entry)) (now (enough .exit)) ⌝ }
+{
+    let answer = zini::strict::at_least(rows, columns, grid, work, units);
+    c_answers::tell_enough(answer, enough)
 }
 
 // Greedy ZiNi, or openings-first: its clicks, and its moves in the list.

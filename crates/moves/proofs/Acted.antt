@@ -14,7 +14,7 @@ use Rattle.area.specs.Stages.{Stands}
 use Rattle.game.specs.Grid.{Grid, mine, safe, size, square, zeroCell}
 use Rattle.game.specs.Lists.{keep}
 use Rattle.game.specs.Moves.{after, chord, flag, left}
-use Rattle.game.specs.Position.{Position, Tidy, closed, closedSafe, flagged, unflagged}
+use Rattle.game.specs.Position.{Position, Tidy, closed, closedUnits, flagged, unflagged}
 use Rattle.game.specs.Rounds.{movesAt}
 use Rattle.play.specs.Promises.{MinesFlagged}
 use Rattle.moves.specs.Promises.{Made}
@@ -27,7 +27,7 @@ use Rattle.play.proofs.Reveals.{is-closed, not-closed}
 use Rattle.moves.proofs.Joins.{made-both, made-none}
 
 module _ (rows columns : ℕ) (g : Grid) (s : Position) (old w : List ℤ) (i : ℕ) (h : i < rows * columns) (st : Stands rows columns g s old w) where
-  pub left-none : (k : ℕ) (list : List ℕ) (t : State) → k ≡ stateAt w i → (k ≡ 0 → ⊥) → Tidy g s → t .closed ≡ closedSafe g s
+  pub left-none : (k : ℕ) (list : List ℕ) (t : State) → k ≡ stateAt w i → (k ≡ 0 → ⊥) → Tidy g s → t .units ≡ closedUnits g s
       → Made rows columns g s old (cond (closed s i) (left i ∷ []) []) list t w list t
   left-none k list t e n f c =
       rw (no→false (closed s i) (not-closed rows columns g s old w i h st k e n)) (made-none rows columns g s old w list t st f c)
@@ -62,8 +62,8 @@ flags-left g s i t n = go (closed s i) refl
 pub acted : (rows columns : ℕ) (g : Grid) (s : Position) (old : List ℤ) (i : ℕ) (list : List ℕ) (t : State) (w₁ : List ℤ) (l₁ : List ℕ) (t₁ : State)
     (w₂ : List ℤ) (l₂ : List ℕ) (t₂ : State) (w₃ : List ℤ) (l₃ : List ℕ) (t₃ : State) → Tidy g s → i < size g → T (safe g i) → (T (zeroCell g i) → ⊥)
     → Made rows columns g s old (cond (closed s i) (left i ∷ []) []) list t w₁ l₁ t₁
-    → ((p : Position) → Stands rows columns g p old w₁ → Tidy g p → t₁ .closed ≡ closedSafe g p → Made rows columns g p old (map flag (keep (unflagged g p) (square g i))) l₁ t₁ w₂ l₂ t₂)
-    → ((p : Position) → Stands rows columns g p old w₂ → Tidy g p → MinesFlagged g p i → t₂ .closed ≡ closedSafe g p → Made rows columns g p old (chord i ∷ []) l₂ t₂ w₃ l₃ t₃)
+    → ((p : Position) → Stands rows columns g p old w₁ → Tidy g p → t₁ .units ≡ closedUnits g p → Made rows columns g p old (map flag (keep (unflagged g p) (square g i))) l₁ t₁ w₂ l₂ t₂)
+    → ((p : Position) → Stands rows columns g p old w₂ → Tidy g p → MinesFlagged g p i → t₂ .units ≡ closedUnits g p → Made rows columns g p old (chord i ∷ []) l₂ t₂ w₃ l₃ t₃)
     → Made rows columns g s old (movesAt g s i) list t w₃ l₃ t₃
 unfolding movesAt
 acted rows columns g s old i list t w₁ l₁ t₁ w₂ l₂ t₂ w₃ l₃ t₃ tidy inside k n a f h =
@@ -71,7 +71,7 @@ acted rows columns g s old i list t w₁ l₁ t₁ w₂ l₂ t₂ w₃ l₃ t₃
     let flags = map flag (keep (unflagged g s) (square g i)) in
     let p = after g s first in
     let b : Made rows columns g p old flags l₁ t₁ w₂ l₂ t₂ =
-    subst (λ (js : List ℕ). Made rows columns g p old (map flag js) l₁ t₁ w₂ l₂ t₂) (flags-left g s i k n) (f p (a .stands) (a .tidy) (a .left-closed)) in
+    subst (λ (js : List ℕ). Made rows columns g p old (map flag js) l₁ t₁ w₂ l₂ t₂) (flags-left g s i k n) (f p (a .stands) (a .tidy) (a .left-units)) in
     let ab = made-both rows columns g s old first flags list t w₁ l₁ t₁ w₂ l₂ t₂ a b in
     made-both rows columns g s old (first ++ flags) (chord i ∷ []) list t w₂ l₂ t₂ w₃ l₃ t₃ ab (h (after g s (first ++ flags)) (ab .stands) (ab .tidy)
-    (subst (λ (p : Position). MinesFlagged g p i) (sym (after-append g first flags s)) (flagged-mines g s i tidy inside k n)) (ab .left-closed))
+    (subst (λ (p : Position). MinesFlagged g p i) (sym (after-append g first flags s)) (flagged-mines g s i tidy inside k n)) (ab .left-units))

@@ -15,7 +15,7 @@ use Rattle.area.specs.Stages.{Stands}
 use Rattle.game.specs.Grid.{Grid, mine, square}
 use Rattle.game.specs.Lists.{has, keep}
 use Rattle.game.specs.Moves.{Move, after, flag, play}
-use Rattle.game.specs.Position.{Position, Tidy, closed, closedSafe, flagged, unflagged}
+use Rattle.game.specs.Position.{Position, Tidy, closed, closedUnits, flagged, unflagged}
 use Rattle.moves.specs.Promises.{Carried, Made}
 use Rattle.moves.specs.Walks.{Over, flagsFrom}
 use Rattle.game.proofs.Members.{keep-ext}
@@ -23,7 +23,7 @@ use Rattle.game.proofs.Counts.{Once}
 use Rattle.game.proofs.Squares.{once-square}
 use Rattle.game.proofs.Tidy.{flag-tidy}
 use Rattle.game.proofs.Truth.{T→true, and-left, and-right, no→false}
-use Rattle.play.proofs.Changes.{flag-count}
+use Rattle.game.proofs.Units.{units-flag}
 use Rattle.play.proofs.Chords.{square-of}
 use Rattle.play.proofs.Reveals.{inside, is-mine, is-safe, state-read}
 use Rattle.moves.proofs.Joins.{made-none, made-one}
@@ -84,11 +84,11 @@ module _ (rows columns : ℕ) (w : List ℤ) (list : List ℕ) (t : State) (i : 
   -- a mine without flag
   pub flag-noted : (k m : ℕ) (w′ : List ℤ) (list′ : List ℕ) (t′ : State) → k ≡ contentAt w i → k ≡ 0 → m ≡ stateAt w i → (m ≡ 2 → ⊥)
       → ((g : Grid) (s : Position) (old : List ℤ) → Stands rows columns g s old w → T (mine g i) → T (closed s i) → Stands rows columns g (play g s (flag i)) old w′)
-      → Carried 2 i (record { cells = 0 }) list t list′ t′ → Over flagsFrom (i ∷ []) rows columns w list t w′ list′ t′
+      → Carried 2 i (record { units = 0 }) list t list′ t′ → Over flagsFrom (i ∷ []) rows columns w list t w′ list′ t′
   unfolding play
   flag-noted k m w′ list′ t′ ek zk em nm q n = record { made = on }
     where
-      on : (g : Grid) (s : Position) (old : List ℤ) → Stands rows columns g s old w → Tidy g s → t .closed ≡ closedSafe g s
+      on : (g : Grid) (s : Position) (old : List ℤ) → Stands rows columns g s old w → Tidy g s → t .units ≡ closedUnits g s
           → Made rows columns g s old (flagsFrom g s (i ∷ [])) list t w′ list′ t′
       on g s old st f e =
           let a = is-mine rows columns g s old w i h st k ek zk in
@@ -97,8 +97,8 @@ module _ (rows columns : ℕ) (w : List ℤ) (list : List ℕ) (t : State) (i : 
           let b : T (closed s i) = shut (closed s i) (sym no ∙ f .mines i ins a) in
           let c : unflagged g s i ≡ true = rw (T→true (mine g i) a, no) in
           subst (λ (ms : List Move). Made rows columns g s old ms list t w′ list′ t′) (sym (ap (FlagsFrom g s i []) c))
-          (made-one rows columns g s old (flag i) (record { cells = 0 }) list t w′ list′ t′ n (q g s old st a b) (flag-tidy g s i ins a f)
-          (omega (arith, flag-count g s old i (st .room) ins (st .long) a b)) e)
+          (made-one rows columns g s old (flag i) (record { units = 0 }) list t w′ list′ t′ n (q g s old st a b) (flag-tidy g s i ins a f)
+          (omega (arith, units-flag g s i a)) e)
         where
           shut : (x : Bool) → false ≡ not x → T x
           shut true z = tt
@@ -107,7 +107,7 @@ module _ (rows columns : ℕ) (w : List ℤ) (list : List ℕ) (t : State) (i : 
 -- ---- the square
 pub flags-square : (rows columns : ℕ) (w : List ℤ) (list : List ℕ) (t : State) (i : ℕ) (w′ : List ℤ) (list′ : List ℕ) (t′ : State)
     → Over flagsFrom (squareOf rows columns i) rows columns w list t w′ list′ t′
-    → (g : Grid) (s : Position) (old : List ℤ) → Stands rows columns g s old w → Tidy g s → t .closed ≡ closedSafe g s
+    → (g : Grid) (s : Position) (old : List ℤ) → Stands rows columns g s old w → Tidy g s → t .units ≡ closedUnits g s
     → Made rows columns g s old (map flag (keep (unflagged g s) (square g i))) list t w′ list′ t′
 flags-square rows columns w list t i w′ list′ t′ h g s old st f e =
     subst (λ (ms : List Move). Made rows columns g s old ms list t w′ list′ t′)

@@ -12,7 +12,7 @@ use Rattle.area.specs.Stages.{Stands}
 use Rattle.game.specs.Grid.{Grid, cells, safe, zeroCell}
 use Rattle.game.specs.Lists.{range}
 use Rattle.game.specs.Moves.{Move, after, left, play}
-use Rattle.game.specs.Position.{Position, Tidy, closed, closedSafe}
+use Rattle.game.specs.Position.{Position, Tidy, closed, closedUnits}
 use Rattle.game.specs.Rounds.{afterStep, clickStep, movesOf, openingClicks}
 use Rattle.moves.specs.Promises.{Made}
 use Rattle.moves.specs.Walks.{Over, hitsFrom}
@@ -44,7 +44,7 @@ module _ (rows columns : ℕ) (w : List ℤ) (list : List ℕ) (t : State) (i : 
   pub hit-none : (k ≡ 1 → ⊥) → Over hitsFrom (i ∷ []) rows columns w list t w list t
   hit-none n = record { made = on }
     where
-      on : (g : Grid) (s : Position) (old : List ℤ) → Stands rows columns g s old w → Tidy g s → t .closed ≡ closedSafe g s → Made rows columns g s old (hitsFrom g s (i ∷ [])) list t w list t
+      on : (g : Grid) (s : Position) (old : List ℤ) → Stands rows columns g s old w → Tidy g s → t .units ≡ closedUnits g s → Made rows columns g s old (hitsFrom g s (i ∷ [])) list t w list t
       on g s old st f c =
           subst (λ (ms : List Move). Made rows columns g s old ms list t w list t) (sym (ap (HitsFrom g s i []) (no→false (zeroCell g i && closed s i) not-zero)))
           (made-none rows columns g s old w list t st f c)
@@ -55,7 +55,7 @@ module _ (rows columns : ℕ) (w : List ℤ) (list : List ℕ) (t : State) (i : 
               n (eqb→eq k 1 (subst T (sym (is-zero rows columns g s old w i h st k e)) z))
 
   pub hit-zero : (w′ : List ℤ) (list′ : List ℕ) (t′ : State) → k ≡ 1
-      → ((g : Grid) (s : Position) (old : List ℤ) → Stands rows columns g s old w → Tidy g s → T (safe g i) → t .closed ≡ closedSafe g s
+      → ((g : Grid) (s : Position) (old : List ℤ) → Stands rows columns g s old w → Tidy g s → T (safe g i) → t .units ≡ closedUnits g s
       → Made rows columns g s old (cond (closed s i) (left i ∷ []) []) list t w′ list′ t′)
       → Over hitsFrom (i ∷ []) rows columns w list t w′ list′ t′
   hit-zero w′ list′ t′ one q = record { made = on }
@@ -64,7 +64,7 @@ module _ (rows columns : ℕ) (w : List ℤ) (list : List ℕ) (t : State) (i : 
       either g s true = refl
       either g s false = refl
 
-      on : (g : Grid) (s : Position) (old : List ℤ) → Stands rows columns g s old w → Tidy g s → t .closed ≡ closedSafe g s → Made rows columns g s old (hitsFrom g s (i ∷ [])) list t w′ list′ t′
+      on : (g : Grid) (s : Position) (old : List ℤ) → Stands rows columns g s old w → Tidy g s → t .units ≡ closedUnits g s → Made rows columns g s old (hitsFrom g s (i ∷ [])) list t w′ list′ t′
       on g s old st f c =
           let v = is-safe rows columns g s old w i h st k e (λ z. absurd (omega arith)) in
           let z : zeroCell g i ≡ true = sym (is-zero rows columns g s old w i h st k e) ∙ eq-eqb k 1 one in
@@ -75,7 +75,7 @@ module _ (rows columns : ℕ) (w : List ℤ) (list : List ℕ) (t : State) (i : 
 
 pub hits-all : (rows columns : ℕ) (w : List ℤ) (list : List ℕ) (t : State) (w′ : List ℤ) (list′ : List ℕ) (t′ : State)
     → Over hitsFrom (range 0 (rows * columns)) rows columns w list t w′ list′ t′
-    → (g : Grid) (s : Position) (old : List ℤ) → Stands rows columns g s old w → Tidy g s → t .closed ≡ closedSafe g s
+    → (g : Grid) (s : Position) (old : List ℤ) → Stands rows columns g s old w → Tidy g s → t .units ≡ closedUnits g s
     → Made rows columns g s old (movesOf (openingClicks g s (cells g))) list t w′ list′ t′
 hits-all rows columns w list t w′ list′ t′ h g s old st f e =
     subst (λ (k : ℕ). Made rows columns g s old (hitsFrom g s (range 0 k)) list t w′ list′ t′) (sym (ap₂ _*_ (st .rows-are) (st .columns-are))) (h .made g s old st f e)

@@ -2,7 +2,6 @@
 use Prim.Native.Nat.{ℕ, _*_, _+_, _<_, _≤_, suc, zero}
 use native.Mathlib.Omega.{arith}
 use mathlib.Core.Path.{_≡_, ap, ap₂}
-use mathlib.Core.Bool.{false}
 use mathlib.Core.List.{List, [], _++_}
 use lib.IntN.{ℤ}
 use lib.ListN.{length, length-append}
@@ -10,13 +9,12 @@ use Rattle.moves.specs.declared.State.{State}
 use Rattle.area.specs.Stages.{Shape, Stands}
 use Rattle.game.specs.Grid.{Grid}
 use Rattle.game.specs.Moves.{Move, after}
-use Rattle.game.specs.Position.{Position, Tidy, closedSafe, closedUnits}
-use Rattle.game.specs.Rounds.{Step, choice, stepOf}
+use Rattle.game.specs.Position.{Position, Tidy, closedUnits}
+use Rattle.game.specs.Rounds.{Step}
 use Rattle.moves.specs.Promises.{Made}
 use Rattle.area.proofs.Cells.{cells-few}
-use Rattle.game.proofs.Choices.{never-stuck}
-use Rattle.game.proofs.Falls.{step-falls, step-pays, units-most}
-use Rattle.game.proofs.Runs.{Fits, choice-fits, fit-takes}
+use Rattle.game.proofs.Falls.{step-pays, units-most}
+use Rattle.game.proofs.Runs.{Fits, fit-takes}
 use Rattle.game.proofs.Narrow.{after-append}
 use Rattle.game.proofs.Units.{units-at-most-cells}
 use Rattle.moves.proofs.Joins.{made-both, made-none}
@@ -31,7 +29,7 @@ pub record Partway (rows columns : ℕ) (g : Grid) (s : Position) (old : List �
   pub rest : Rest done left-over
 
 module _ (rows columns : ℕ) (g : Grid) (s : Position) (old : List ℤ) (list : List ℕ) (t : State) (Rest : List Move → ℕ → Type 0) where
-  pub partway-begins : (w : List ℤ) (n : ℕ) → Stands rows columns g s old w → Tidy g s → t .closed ≡ closedSafe g s → closedUnits g s ≤ n → Rest [] n
+  pub partway-begins : (w : List ℤ) (n : ℕ) → Stands rows columns g s old w → Tidy g s → t .units ≡ closedUnits g s → closedUnits g s ≤ n → Rest [] n
       → Partway rows columns g s old list t Rest w list t
   partway-begins w n st f e k r =
       record { done = []; left-over = n; made = made-none rows columns g s old w list t st f e; few = omega arith; enough = k; rest = r }
@@ -45,19 +43,18 @@ module _ (rows columns : ℕ) (g : Grid) (s : Position) (old : List ℤ) (list :
     partway-few h =
         omega (arith, o .made .clicks, o .few, units-most g s, units-at-most-cells g, cells-few rows columns h, ap₂ _*_ (o .made .stands .rows-are) (o .made .stands .columns-are))
 
-    -- while a safe cell is closed, a step is still to come
-    pub partway-more : 1 ≤ closedSafe g here → (k : ℕ) × Rest (o .done) (suc k)
+    -- while a unit is closed, a step is still to come
+    pub partway-more : 1 ≤ closedUnits g here → (k : ℕ) × Rest (o .done) (suc k)
     partway-more h = go (o .left-over) (o .enough) (o .rest)
       where
         go : (k : ℕ) → closedUnits g here ≤ k → Rest (o .done) k → (k : ℕ) × Rest (o .done) (suc k)
-        go zero b r =
-            absurd (omega (arith, fit-takes g here (stepOf g here (choice false g here) 0) (o .made .tidy) (choice-fits false g here 0 (never-stuck false g here (o .made .tidy) h))))
+        go zero b r = absurd (omega arith)
         go (suc k) b r = (k, r)
 
     module _ (x : Step) (f : Fits g here x) (w′ : List ℤ) (list′ : List ℕ) (t′ : State) (m : Made rows columns g here old (x .moves) l u w′ list′ t′) where
-      -- a step leaves fewer safe cells closed
-      pub partway-falls : t′ .closed < u .closed
-      partway-falls = omega (arith, m .left-closed, step-falls g here x (o .made .tidy) f, o .made .left-closed)
+      -- a step leaves fewer units closed
+      pub partway-falls : t′ .units < u .units
+      partway-falls = omega (arith, m .left-units, fit-takes g here x (o .made .tidy) f, o .made .left-units)
 
       -- and goes on the way
       pub partway-goes-on : (Next : List Move → ℕ → Type 0) → ((k : ℕ) → Rest (o .done) (suc k) → Next (o .done ++ x .moves) k) → Partway rows columns g s old list t Next w′ list′ t′

@@ -5,7 +5,7 @@ use mathlib.Core.Bool.{true, false}
 use mathlib.Core.List.{List, [], _∷_}
 use lib.IntN.{ℤ}
 use Rattle.game.specs.Grid.{Grid}
-use Rattle.game.specs.Position.{Position, Tidy, closedSafe, unflagged}
+use Rattle.game.specs.Position.{Position, Tidy, closedUnits, unflagged}
 use Rattle.game.specs.Moves.{Move, flag, play}
 use Rattle.game.specs.Rounds.{movesOf, openingClicks}
 use Rattle.area.specs.Stages.{Stands}
@@ -27,5 +27,5 @@ hitsFrom g s is = movesOf (openingClicks g s is)
 
 -- the moves that many gives for some cells were made, whatever tidy position the area stood for
 pub record Over (many : Grid → Position → List ℕ → List Move) (cells : List ℕ) (rows columns : ℕ) (w : List ℤ) (list : List ℕ) (t : State) (w′ : List ℤ) (list′ : List ℕ) (t′ : State) : Type 0 where
-  pub made : (g : Grid) (s : Position) (old : List ℤ) → Stands rows columns g s old w → Tidy g s → t .closed ≡ closedSafe g s
+  pub made : (g : Grid) (s : Position) (old : List ℤ) → Stands rows columns g s old w → Tidy g s → t .units ≡ closedUnits g s
       → Made rows columns g s old (many g s cells) list t w′ list′ t′

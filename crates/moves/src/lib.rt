@@ -2,8 +2,8 @@
 pub mod single; // single moves, and the moves at a chosen cell
 pub mod opening_clicks; // L on each closed 0-cell
 
-// What goes from move to move: moves made, safe cells still closed.
+// What goes from move to move: moves made, and the closed units left.
 pub struct State {
     pub moves: usize,
-    pub closed: usize,
+    pub units: usize,
 }

@@ -7,7 +7,7 @@ ghost use Prim.Native.Nat.{_+_, _*_, _^_, _<_, _≤_};
 ghost use lib.IntN.{ℤ};
 ghost use Rattle.area.specs.Numbers.{HasCells};
 ghost use Rattle.game.specs.Grid.{Grid, cells};
-ghost use Rattle.game.specs.Position.{Position, Tidy, closedSafe};
+ghost use Rattle.game.specs.Position.{Position, Tidy, closedUnits};
 ghost use Rattle.game.specs.Rounds.{movesOf, openingClicks};
 ghost use Rattle.area.specs.Stages.{Shape, Stands};
 ghost use Rattle.moves.specs.Promises.{Made};
@@ -44,7 +44,7 @@ pub fn hit_openings(
     requires { ⌜ Shape rows columns ⌝ }
     requires { ⌜ HasCells (now work) (rows * columns) × (state .moves ≤ 2 ^ 32) ⌝ }
     ensures { λ r. ⌜ r .moves ≤ state .moves + rows * columns ⌝ }
-    ensures { λ r. ⌜ ((g : Grid) (s : Position) (old : List ℤ) → Stands rows columns g s old (now (work .entry)) → Tidy g s → state .closed ≡ closedSafe g s
+    ensures { λ r. ⌜ ((g : Grid) (s : Position) (old : List ℤ) → Stands rows columns g s old (now (work .entry)) → Tidy g s → state .units ≡ closedUnits g s
         → Made rows columns g s old (movesOf (openingClicks g s (cells g))) (now (list .entry)) state (now (work .exit)) (now (list .exit)) r) ⌝ }
 {
     let cells = rows * columns;

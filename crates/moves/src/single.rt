@@ -12,7 +12,7 @@ ghost use Rattle.area.specs.Squares.{rowCells};
 ghost use Rattle.area.specs.Numbers.{HasCells};
 ghost use Rattle.game.specs.Lists.{keep};
 ghost use Rattle.game.specs.Grid.{Grid, safe, square, zeroCell};
-ghost use Rattle.game.specs.Position.{Position, Tidy, closed as isClosed, closedSafe, unflagged};
+ghost use Rattle.game.specs.Position.{Position, Tidy, closed as isClosed, closedUnits, unflagged};
 ghost use Rattle.game.specs.Moves.{left, flag, chord};
 ghost use Rattle.game.specs.Rounds.{movesAt};
 ghost use Rattle.area.specs.Stages.{Shape, Stands};
@@ -31,7 +31,7 @@ pub fn note(list: &mut [u32], at: usize, kind: u32, index: usize)
     list[at] = kind * 65536 + index as u32;
 }
 
-// Notes a move and what it opened, and carries the state on.
+// Notes a move, and carries the state on: one move more, and the units that it took fewer.
 pub fn carry_on(list: &mut [u32], state: State, kind: u32, index: usize, opened: Opened) -> State
     requires { ⌜ (kind ≤ 3) × (index < 65536) × (state .moves ≤ 2 ^ 48) ⌝ }
     ensures { λ r. ⌜ Carried kind index opened (now (list .entry)) state (now (list .exit)) r ⌝ }
@@ -39,7 +39,7 @@ pub fn carry_on(list: &mut [u32], state: State, kind: u32, index: usize, opened:
     note(list, state.moves, kind, index);
     State {
         moves: state.moves + 1,
-        closed: area::take_away(state.closed, opened.cells),
+        units: area::take_away(state.units, opened.units),
     }
 }
 
@@ -56,7 +56,7 @@ pub fn click(
     requires { ⌜ HasCells (now work) (rows * columns) × (index < rows * columns) × (state .moves ≤ 2 ^ 48) ⌝ }
     ensures { λ r. ⌜ r .moves ≤ state .moves + 1 ⌝ }
     ensures { λ r. ⌜ ((g : Grid) (s : Position) (old : List ℤ) → Stands rows columns g s old (now (work .entry)) → Tidy g s
-        → T (safe g index) → T (isClosed s index) → state .closed ≡ closedSafe g s
+        → T (safe g index) → T (isClosed s index) → state .units ≡ closedUnits g s
         → Made rows columns g s old (left index ∷ []) (now (list .entry)) state (now (work .exit)) (now (list .exit)) r) ⌝ }
 {
     let opened = play::reveal(work, rows, columns, index);
@@ -76,7 +76,7 @@ pub fn click_closed(
     requires { ⌜ HasCells (now work) (rows * columns) × (index < rows * columns) × (state .moves ≤ 2 ^ 48) ⌝ }
     ensures { λ r. ⌜ r .moves ≤ state .moves + 1 ⌝ }
     ensures { λ r. ⌜ ((g : Grid) (s : Position) (old : List ℤ) → Stands rows columns g s old (now (work .entry)) → Tidy g s
-        → T (safe g index) → state .closed ≡ closedSafe g s
+        → T (safe g index) → state .units ≡ closedUnits g s
         → Made rows columns g s old (cond (isClosed s index) (left index ∷ []) []) (now (list .entry)) state (now (work .exit)) (now (list .exit)) r) ⌝ }
 {
     if area::state(work, index) != 0 {
@@ -106,7 +106,7 @@ pub fn flag_mine(
         return state;
     }
     play::flag(work, rows, columns, index);
-    carry_on(list, state, 2, index, Opened { cells: 0 })
+    carry_on(list, state, 2, index, Opened { units: 0 })
 }
 
 // F on each mine without flag of one row, in the columns given.
@@ -144,7 +144,7 @@ pub fn flag_around(
     requires { ⌜ Shape rows columns ⌝ }
     requires { ⌜ HasCells (now work) (rows * columns) × (index < rows * columns) × (state .moves ≤ 2 ^ 46) ⌝ }
     ensures { λ r. ⌜ r .moves ≤ state .moves + 9 ⌝ }
-    ensures { λ r. ⌜ ((g : Grid) (s : Position) (old : List ℤ) → Stands rows columns g s old (now (work .entry)) → Tidy g s → state .closed ≡ closedSafe g s
+    ensures { λ r. ⌜ ((g : Grid) (s : Position) (old : List ℤ) → Stands rows columns g s old (now (work .entry)) → Tidy g s → state .units ≡ closedUnits g s
         → Made rows columns g s old (map flag (keep (unflagged g s) (square g index))) (now (list .entry)) state (now (work .exit)) (now (list .exit)) r) ⌝ }
 {
     let sides = area::around(rows, columns, index);
@@ -170,7 +170,7 @@ pub fn chord_on(
 ) -> State
     requires { ⌜ Shape rows columns ⌝ }
     requires { ⌜ HasCells (now work) (rows * columns) × (index < rows * columns) × (state .moves ≤ 2 ^ 48) ⌝ }
-    ensures { λ r. ⌜ ((g : Grid) (s : Position) (old : List ℤ) → Stands rows columns g s old (now (work .entry)) → Tidy g s → MinesFlagged g s index → state .closed ≡ closedSafe g s
+    ensures { λ r. ⌜ ((g : Grid) (s : Position) (old : List ℤ) → Stands rows columns g s old (now (work .entry)) → Tidy g s → MinesFlagged g s index → state .units ≡ closedUnits g s
         → Made rows columns g s old (chord index ∷ []) (now (list .entry)) state (now (work .exit)) (now (list .exit)) r) ⌝ }
 {
     let opened = play::chord(work, rows, columns, index);
@@ -189,7 +189,7 @@ pub fn act(
     requires { ⌜ Shape rows columns ⌝ }
     requires { ⌜ HasCells (now work) (rows * columns) × (index < rows * columns) × (state .moves ≤ 2 ^ 45) ⌝ }
     ensures { λ r. ⌜ ((g : Grid) (s : Position) (old : List ℤ) → Stands rows columns g s old (now (work .entry)) → Tidy g s
-        → T (safe g index) → (T (zeroCell g index) → ⊥) → state .closed ≡ closedSafe g s
+        → T (safe g index) → (T (zeroCell g index) → ⊥) → state .units ≡ closedUnits g s
         → Made rows columns g s old (movesAt g s index) (now (list .entry)) state (now (work .exit)) (now (list .exit)) r) ⌝ }
 {
     let clicked = click_closed(work, rows, columns, list, state, index);

@@ -14,7 +14,7 @@ use labels::fresh;
 use waiting::spread;
 
 // Labels the opening of a 0-cell without label, by the form for so many cells.
-fn label_opening(work: &mut [i32], rows: usize, columns: usize, op: usize, index: usize)
+pub fn label_opening(work: &mut [i32], rows: usize, columns: usize, op: usize, index: usize)
     requires { ⌜ Ready rows columns op (now work) ⌝ }
     ensures { λ _. ⌜ OpeningLabelled (shaped rows columns) (contentAt (now (work .entry))) op index
         (now (work .entry)) (now (work .exit)) ⌝ }

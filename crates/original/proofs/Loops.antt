@@ -15,17 +15,13 @@ use Rattle.game.specs.Rounds.{Step, afterStep, choice, movesOf, stepOf, stepsFr
 use Rattle.original.specs.Play.{State}
 use Rattle.original.specs.Rounds.{apply-zini, zini-loop}
 use Rattle.game.proofs.Choices.{never-stuck}
-use Rattle.game.proofs.Rounds.{steps-end, steps-none}
+use Rattle.game.proofs.Rounds.{all-done, steps-none}
 use Rattle.game.proofs.Runs.{choice-fits, fit-takes, step-tidy}
 use Rattle.game.proofs.Truth.{T→true, no→false}
 use Rattle.original.proofs.Choosing.{applies}
 use Rattle.original.proofs.Positions.{Models}
 
 -- ---- the end
-
--- no step is left where no unit is closed
-pub all-done : (human : Bool) (g : Grid) (s : Position) → Tidy g s → closedUnits g s ≤ 0 → closedSafe g s ≡ 0
-all-done human g s f h = steps-end 0 human g s f h
 
 -- cells are left exactly while a safe cell is closed
 pub cells-left : (g : Grid) (s : Position) (n : ℕ) (st : State) → Models g s n st → (k : ℕ) → closedSafe g s ≡ k
@@ -52,8 +48,8 @@ loop-ends fuel m human g s n st w e =
 -- from any position that the state stands for, with as many turns and steps as there are closed units
 pub loop-clicks : (fuel m : ℕ) (human : Bool) (g : Grid) (s : Position) (n : ℕ) (st : State) → Models g s n st → Tidy g s → closedUnits g s ≤ fuel → closedUnits g s ≤ m
     → zini-loop fuel (g .rows) human (count (mine g) (cells g)) st .zini ≡ n + length (movesOf (stepsFrom m human g s))
-loop-clicks zero m human g s n st w f h l = loop-ends zero m human g s n st w (all-done human g s f h)
-loop-clicks (suc fuel) zero human g s n st w f h l = loop-ends (suc fuel) zero human g s n st w (all-done human g s f l)
+loop-clicks zero m human g s n st w f h l = loop-ends zero m human g s n st w (all-done g s f h)
+loop-clicks (suc fuel) zero human g s n st w f h l = loop-ends (suc fuel) zero human g s n st w (all-done g s f l)
 loop-clicks (suc fuel) (suc m) human g s n st w f h l = go (closedSafe g s) refl (λ d a b. loop-clicks fuel m human g (afterStep g s t) (n + length (t .moves)) d a b)
   where
     t : Step

@@ -21,10 +21,11 @@ use Rattle.original.specs.Rounds.{Applied, RngRound, Stepped, apply-zini
 use Rattle.game.proofs.Tidy.{untouched-tidy}
 use Rattle.game.proofs.Draws.{lent-places}
 use Rattle.game.proofs.Randoms.{by-draw, drawn-fits, draws-none, random-sound}
+use Rattle.game.proofs.Rounds.{all-done}
 use Rattle.game.proofs.Runs.{fit-takes, step-tidy}
 use Rattle.game.proofs.Units.{units-at-most-cells, units-untouched}
 use Rattle.original.proofs.Drawing.{Rolls, rolls}
-use Rattle.original.proofs.Loops.{all-done, cells-left}
+use Rattle.original.proofs.Loops.{cells-left}
 use Rattle.original.proofs.Lowest.{begin-stands, enough-turns, mines-counted}
 use Rattle.original.proofs.Positions.{Models}
 
@@ -71,8 +72,8 @@ module _ (g : Grid) (bytes : List ℕ) (few : size g ≤ 65025) (small : Each (�
 
   loop-rolls : (fuel m : ℕ) (s : Position) (n : ℕ) (st : State) (next : ℕ) (maxpr : List ℕ) → Models g s n st → Tidy g s → length maxpr ≡ size g → closedUnits g s ≤ fuel → closedUnits g s ≤ m
       → loop fuel st next maxpr ≡ told n (randomFrom m g (lent old bytes) s next)
-  loop-rolls zero m s n st next maxpr w f r h l = loop-ends zero m s n st next maxpr w (all-done false g s f h)
-  loop-rolls (suc fuel) zero s n st next maxpr w f r h l = loop-ends (suc fuel) zero s n st next maxpr w (all-done false g s f l)
+  loop-rolls zero m s n st next maxpr w f r h l = loop-ends zero m s n st next maxpr w (all-done g s f h)
+  loop-rolls (suc fuel) zero s n st next maxpr w f r h l = loop-ends (suc fuel) zero s n st next maxpr w (all-done g s f l)
   loop-rolls (suc fuel) (suc m) s n st next maxpr w f r h l =
       go (closedSafe g s) refl
       (λ d z. loop-rolls fuel m (afterStep g s (stepOf g s c (d .place))) (n + length (stepOf g s c (d .place) .moves)) (z .state) (z .next) (z .maxpr))

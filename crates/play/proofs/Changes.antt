@@ -3,7 +3,7 @@ use Prim.Native.Nat.{ℕ, _+_, _-_, _<_, _≤_}
 use native.Mathlib.Omega.{arith}
 use native.Mathlib.Decide.{ℕ-discrete}
 use mathlib.Core.Path.{_∙_, _≡_, ap, refl, sym}
-use mathlib.Core.Bool.{Bool, _&&_, cond, false, not, true}
+use mathlib.Core.Bool.{Bool, _&&_, cond, false, true}
 use mathlib.Core.List.{List}
 use lib.Dec.{T, T-not, not-T, eqb, eqb→eq}
 use lib.IntN.{ℤ}
@@ -13,26 +13,27 @@ use Rattle.area.proofs.Held.{held-cells, heldCell, content-mine, raised-small}
 use Rattle.area.proofs.CellByCell.{Cell, at, at-again, at-here, at-other, cellArea, fold-acts, made, priced, put-state, read-first, same-area, shift-acts, shiftCell, stated}
 use Rattle.area.specs.Squares.{shifted, squareOf}
 use Rattle.game.specs.Grid.{Grid, cells, mine, safe, size, square, zeroCell}
-use Rattle.game.specs.Lists.{bit, count, fold, has}
+use Rattle.game.specs.Lists.{bit, fold, has}
 use Rattle.game.specs.Moves.{reveal}
 use Rattle.game.specs.Openings.{firstLabel, holds, joinedTo, unlabelled}
-use Rattle.game.specs.Position.{Position, Tidy, closed, closedSafe, cost, gain, unopened}
-use Rattle.game.proofs.Counts.{bit-yes, count-drop, count-ext, count-split}
+use Rattle.game.specs.Position.{Position, Tidy, closed, cost, gain}
 use Rattle.game.proofs.Labels.{first-label}
-use Rattle.game.proofs.Owners.{closed-unopened}
-use Rattle.game.proofs.Tidy.{tidy-unopened}
 use Rattle.game.proofs.Premiums.{flag-cost, flag-gain, open-cost, open-gain, reveal-sweep, sweep-cost, sweep-gain}
 use Rattle.game.proofs.Reveal.{getD-sweep, mine-off}
 use Rattle.game.proofs.Squares.{cells→, in-own-square, once-cells, once-square, square-sym, square→, →cells}
-use Rattle.game.proofs.Truth.{T→false, T→true, and-both, and-false, and-true, and-under}
+use Rattle.game.proofs.Truth.{T→false, T→true, and-false, and-true}
 use Rattle.game.proofs.Zeros.{Zero}
 use Rattle.area.specs.Numbers.{HasCells, putState}
 use Rattle.area.specs.Stages.{held, raised}
-use Rattle.play.specs.Walks.{Swept, openedOne, sweptOn}
-use Rattle.play.proofs.Cells.{fold-sweep, labelledCell, opensCell, sweepCell}
+use Rattle.play.specs.Walks.{openedOne, sweptCell}
+use Rattle.play.proofs.Cells.{labelledCell, sweep-acts, sweepCell}
 use Rattle.play.proofs.Held.{level, moved, restated, up-down}
 use Rattle.area.proofs.Marks.{marked-held}
 use borrow.Author.Tests.{eq-eqb, ne-eqb}
+
+-- a safe cell is a unit of its own where it has no label
+pub bare-unit : (g : Grid) (i : ℕ) → T (safe g i) → unlabelled g i ≡ eqb (firstLabel g i) 0
+bare-unit g i t = first-label g i ∙ ap (λ (b : Bool). b && eqb (firstLabel g i) 0) (T→true (safe g i) t)
 
 module _ (g : Grid) (s : Position) (old : List ℤ) (i : ℕ) (room : HasCells old (size g)) (inside : i < size g) (long : length s ≡ size g) where
   -- a cell that keeps its state
@@ -58,7 +59,7 @@ module _ (g : Grid) (s : Position) (old : List ℤ) (i : ℕ) (room : HasCells o
         open-gain g s i inside long shut nonzero x
         ∙ ap (λ (b : Bool). gain g (set s i 1) x + bit (b && unlabelled g i)) (square-sym g i x inside h)
         ∙ ap (λ (b : Bool). gain g (set s i 1) x + bit (has x (square g i) && b))
-        (first-label g i ∙ ap (λ (b : Bool). b && eqb (firstLabel g i) 0) (T→true (safe g i) is-safe))
+        (bare-unit g i is-safe)
 
     cost-falls : (x : ℕ) → cost g s x ≡ cost g (set s i 1) x + bit (eqb x i)
     cost-falls x = open-cost g s i inside long shut nonzero x
@@ -155,16 +156,6 @@ module _ (g : Grid) (s : Position) (old : List ℤ) (i : ℕ) (room : HasCells o
             same-area (size g) old room E (heldCell g (set s i 1)) (λ x h.
             ap (λ (b : Bool). cond b (shiftCell 0 1 (E x)) (E x)) (and-false (has x (square g i))) ∙ each false e x h)
 
-    pub open-count : closedSafe g s ≡ 1 + closedSafe g (set s i 1)
-    unfolding closedSafe
-    open-count =
-        let a = count-drop (λ x. safe g x && unopened s x) (λ x. safe g x && unopened (set s i 1) x) i (cells g) (once-cells g)
-        (λ x n. ap (λ (k : ℕ). safe g x && not (eqb k 1)) (sym (getD-set-other s i x 1 0 n)))
-        (ap (λ (k : ℕ). safe g i && not (eqb k 1)) (getD-set-same s i 1 0 (omega (arith, long))) ∙ sym (and-false (safe g i))) in
-        let b = bit-yes (has i (cells g) && (safe g i && unopened s i))
-        (and-both (has i (cells g)) (safe g i && unopened s i) (→cells g i inside) (and-both (safe g i) (unopened s i) is-safe (closed-unopened s i shut))) in
-        omega arith
-
   -- ---- a mine is flagged
 
   module _ (is-mine : T (mine g i)) (shut : T (closed s i)) where
@@ -205,13 +196,6 @@ module _ (g : Grid) (s : Position) (old : List ℤ) (i : ℕ) (room : HasCells o
               | yes q ↦ rw (q, T→true (has i (square g i)) (in-own-square g i inside), at-here (heldCell g s) i (stated 2 (heldCell g s i)) i refl) flag-own
               | no n ↦ rw (at-other (heldCell g s) i (stated 2 (heldCell g s i)) x n) (flag-other x h n (has x (square g i)) refl)
             ]
-
-    pub flag-count : closedSafe g (set s i 2) ≡ closedSafe g s
-    unfolding closedSafe
-    flag-count =
-        count-ext (λ x. safe g x && unopened (set s i 2) x) (λ x. safe g x && unopened s x) (cells g) (λ x t.
-        and-under (safe g x) (unopened (set s i 2) x) (unopened s x) (λ u.
-        ap (λ (k : ℕ). not (eqb k 1)) (getD-set-other s i x 2 0 (λ e. T-not (mine g x) u (rw e is-mine)))))
 
   -- ---- an opening is swept
 
@@ -258,41 +242,11 @@ module _ (g : Grid) (s : Position) (old : List ℤ) (i : ℕ) (room : HasCells o
             sym (even-cell 0 x (getD s x 0) (omega arith) h)
             ∙ by 0 0 (ap bit e) (ap (λ (b : Bool). bit (b && closed s x)) e) (omega arith) (omega arith) (getD s x 0) (after-state x h ∙ ap (λ (b : Bool). cond b 1 (getD s x 0)) e)
 
-    sweep-count : closedSafe g s ≡ closedSafe g (reveal g s i) + count (λ x. opensCell (firstLabel g i) (heldCell g s x)) (cells g)
-    unfolding closedSafe
-    sweep-count =
-        let a = count-split (λ x. safe g x && unopened s x) in-it (cells g) in
-        let b = count-ext (λ x. (safe g x && unopened s x) && not (in-it x)) (λ x. safe g x && unopened (reveal g s i) x) (cells g) (λ x t. left-closed x (cells→ g x t)) in
-        let c = count-ext (λ x. in-it x && (safe g x && unopened s x)) (λ x. opensCell (firstLabel g i) (heldCell g s x)) (cells g) (λ x t. now-opened x (cells→ g x t)) in
-        omega arith
-      where
-        left-closed : (x : ℕ) → x < size g → ((safe g x && unopened s x) && not (in-it x)) ≡ (safe g x && unopened (reveal g s i) x)
-        left-closed x h =
-            go (safe g x) (unopened s x) (in-it x) (getD s x 0) refl
-            ∙ ap (λ (k : ℕ). safe g x && not (eqb k 1)) (sym (after-state x h))
-          where
-            go : (a b c : Bool) (k : ℕ) → not (eqb k 1) ≡ b → ((a && b) && not c) ≡ (a && not (eqb (cond c 1 k) 1))
-            go true b true k e = sym (and-false b)
-            go true b false k e = sym (and-true b) ∙ sym e
-            go false b c k e = refl
-
-        now-opened : (x : ℕ) → x < size g → (in-it x && (safe g x && unopened s x)) ≡ opensCell (firstLabel g i) (heldCell g s x)
-        now-opened x h =
-            and-under (in-it x) (safe g x && unopened s x) (closed s x)
-            (λ t.
-            let u = not-T (mine g x) (λ m. mine-off g i x z h m t) in
-            ap (λ (b : Bool). b && unopened s x) (T→true (safe g x) u) ∙ tidy-unopened g s x f h u)
-            ∙ ap (λ (b : Bool). b && closed s x) (sym (marks x h))
-
     -- what the sweep comes to
-    pub sweep-area : (w : List ℤ) (r : ℕ)
-        → _≡_ {A = Swept} (record { area = w; opened = r }) (fold (sweptOn (firstLabel g i)) (record { area = held g s old; opened = 0 }) (cells g))
-        → (w ≡ held g (reveal g s i) old) × (r + closedSafe g (reveal g s i) ≡ closedSafe g s)
-    sweep-area w r e =
-        let q = e ∙ ap (λ (v : List ℤ). fold (sweptOn (firstLabel g i)) (record { area = v; opened = 0 }) (cells g)) (held-cells g s old)
-        ∙ fold-sweep (size g) old room (firstLabel g i) (cells g) (heldCell g s) 0 (once-cells g) (λ x t. cells→ g x t) in (
-          ap (λ (t : Swept). t .area) q ∙ same-area (size g) old room (made (sweepCell (firstLabel g i)) (cells g) (heldCell g s)) (heldCell g (reveal g s i)) (λ x h.
-              ap (λ (b : Bool). cond b (sweepCell (firstLabel g i) (heldCell g s x)) (heldCell g s x)) (T→true (has x (cells g)) (→cells g x h)) ∙ sweep-each x h)
-              ∙ sym (held-cells g (reveal g s i) old),
-          omega (arith, ap (λ (t : Swept). t .opened) q, sweep-count),
-        )
+    pub sweep-area : fold (sweptCell (firstLabel g i)) (held g s old) (cells g) ≡ held g (reveal g s i) old
+    sweep-area =
+        ap (λ (w : List ℤ). fold (sweptCell (firstLabel g i)) w (cells g)) (held-cells g s old)
+        ∙ fold-acts (size g) old room (sweptCell (firstLabel g i)) (sweepCell (firstLabel g i)) (sweep-acts (size g) old room (firstLabel g i)) (cells g) (heldCell g s) (once-cells g) (cells→ g)
+        ∙ same-area (size g) old room (made (sweepCell (firstLabel g i)) (cells g) (heldCell g s)) (heldCell g (reveal g s i)) (λ x h.
+        ap (λ (b : Bool). cond b (sweepCell (firstLabel g i) (heldCell g s x)) (heldCell g s x)) (T→true (has x (cells g)) (→cells g x h)) ∙ sweep-each x h)
+        ∙ sym (held-cells g (reveal g s i) old)

@@ -8,20 +8,20 @@ use Rattle.area.specs.Squares.{squareOf}
 use Rattle.game.specs.Grid.{Grid, square}
 use Rattle.game.specs.Lists.{fold}
 use Rattle.game.specs.Moves.{reveal}
-use Rattle.game.specs.Position.{Position, Tidy, closedSafe}
+use Rattle.game.specs.Position.{Position, Tidy, closedUnits}
 use Rattle.game.proofs.Members.{fold-append}
 use Rattle.game.proofs.Narrow.{play-chord}
 use Rattle.area.specs.Stages.{Stands}
 use Rattle.play.specs.Promises.{Chording, MinesFlagged, Opens, Revealing, RevealingAll, together}
 use Rattle.play.specs.declared.Opened.{Opened}
 
-pub opens-none : (rows columns : ℕ) (w : List ℤ) → Opens rows columns w [] (record { cells = 0 }) w
-opens-none rows columns w = record { revealing = λ g s old t f. record { stands = t; tidy = f; opened-cells = omega arith } }
+pub opens-none : (rows columns : ℕ) (w : List ℤ) → Opens rows columns w [] (record { units = 0 }) w
+opens-none rows columns w = record { revealing = λ g s old t f. record { stands = t; tidy = f; taken-units = omega arith } }
 
 pub opens-one : (rows columns : ℕ) (w : List ℤ) (i : ℕ) (r : Opened) (v : List ℤ)
     → ((g : Grid) (s : Position) (old : List ℤ) → Stands rows columns g s old w → Tidy g s → Revealing rows columns g s old i r v) → Opens rows columns w (i ∷ []) r v
 opens-one rows columns w i r v h =
-    record { revealing = λ g s old t f. let q = h g s old t f in record { stands = q .stands; tidy = q .tidy; opened-cells = q .opened-cells } }
+    record { revealing = λ g s old t f. let q = h g s old t f in record { stands = q .stands; tidy = q .tidy; taken-units = q .taken-units } }
 
 pub opens-both : (rows columns : ℕ) (w : List ℤ) (xs ys : List ℕ) (r q p : Opened) (v u : List ℤ) → p ≡ together r q
     → Opens rows columns w xs r v → Opens rows columns v ys q u → Opens rows columns w (xs ++ ys) p u
@@ -35,7 +35,7 @@ opens-both rows columns w xs ys r q p v u d h k = record { revealing = all }
         record {
           stands = rw e (b .stands);
           tidy = rw e (b .tidy);
-          opened-cells = omega (arith, ap (λ (o : Opened). o .cells) d, ap (closedSafe g) e, a .opened-cells, b .opened-cells);
+          taken-units = omega (arith, ap (λ (o : Opened). o .units) d, ap (closedUnits g) e, a .taken-units, b .taken-units);
         }
 
 -- the square of the grid's rows and columns
@@ -49,4 +49,4 @@ pub opens-chord : (rows columns : ℕ) (w : List ℤ) (i : ℕ) (r : Opened) (v 
 opens-chord rows columns w i r v h g s old t f m =
     let a = h .revealing g s old t f in
     let e = play-chord g s i (f .long) m ∙ ap (fold (reveal g) s) (sym (square-of rows columns g i (t .rows-are) (t .columns-are))) in
-    record { stands = rw e (a .stands); tidy = rw e (a .tidy); opened-cells = rw e (a .opened-cells) }
+    record { stands = rw e (a .stands); tidy = rw e (a .tidy); taken-units = rw e (a .taken-units) }

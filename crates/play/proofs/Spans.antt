@@ -69,14 +69,14 @@ module _ (rows columns : ℕ) (g : Grid) (s : Position) (old w : List ℤ) (i la
       column-labelled x (end - 1) m t (inl (omega arith)) (e (end - 1) (omega arith) (omega (arith, c, d, st .columns-are)))
 
   -- both walks from the cell's column: what a sweep of all cells does
-  pub both-ways : (c : ℕ) (u v : List ℤ) (r q : ℕ) → c ≡ i / rows → LeftSwept rows label c w r u → RightSwept rows columns label (c + 1) u q v
-      → SweptOver label 0 (rows * columns) w (r + q) v
-  both-ways c u v r q here a b =
-      over-all label (rows * columns) (a .end * rows) (b .end * rows) w v (r + q) (omega (arith, left, right)) on-grid
-      (to-right label (a .end * rows) (c * rows + rows) (b .end * rows) w u v r q (omega (arith, left)) right (a .swept) (rw seam at (b .swept)))
+  pub both-ways : (c : ℕ) (u v : List ℤ) → c ≡ i / rows → LeftSwept rows label c w u → RightSwept rows columns label (c + 1) u v
+      → SweptOver label 0 (rows * columns) w v
+  both-ways c u v here a b =
+      over-all label (rows * columns) (a .end * rows) (b .end * rows) w v (omega (arith, left, right)) on-grid
+      (to-right label (a .end * rows) (c * rows + rows) (b .end * rows) w u v (omega (arith, left)) right (a .swept) (rw seam at (b .swept)))
       (λ x k t. none-left (a .end) (omega (arith, a .on-left, own-column)) (a .ends) x k (omega (arith, all-cells, left, right, on-grid)) t)
       (λ x k m t. none-right (b .end) (omega (arith, b .on-right, own-column))
-      (λ last e f. sym (labelled-stays label (a .end * rows) (c * rows + rows) w u r (last * rows) (last * rows + rows) (a .swept)) ∙ b .ends last e f)
+      (λ last e f. sym (labelled-stays label (a .end * rows) (c * rows + rows) w u (last * rows) (last * rows + rows) (a .swept)) ∙ b .ends last e f)
       x k (omega (arith, m, all-cells)) t)
     where
       own-column : columnOf g i ≡ c

@@ -1,29 +1,27 @@
 -- Sweeps of runs of cells and of columns: cells are swept independently of each other, labels stay, and a cell without the label is left as it is. Assumes nothing.
 use Prim.Native.Nat.{ℕ, _%_, _*_, _+_, _-_, _<_, _≤_, suc, zero}
 use native.Mathlib.Omega.{arith}
-use native.Mathlib.Nat.{add-assoc, add-sub-of-le, add-zero, mul-le-mul-right}
+use native.Mathlib.Nat.{add-sub-of-le, add-zero, mul-le-mul-right}
 use mathlib.Core.Path.{_∙_, _≡_, ap, ap₂, refl, sym}
-use mathlib.Core.Bool.{Bool, _&&_, _||_, cond, false, true}
+use mathlib.Core.Bool.{Bool, _||_, cond, false, true}
 use mathlib.Core.List.{List, [], _∷_}
 use lib.Dec.{T, eqb}
 use lib.IntN.{pos, ℤ}
-use lib.Seq.{getD-set-other, set-comm}
+use lib.Seq.{set-comm}
 use Rattle.game.specs.Lists.{bit, count, fold, has, range}
 use Rattle.game.proofs.Counts.{bit-small, count-ext, count-more}
 use Rattle.game.proofs.Members.{first-of, fold-more, has-head, has-range, has-tail, range-none, rest-of}
 use Rattle.game.proofs.Truth.{no→false}
 use Rattle.game.proofs.Squares.{next-column}
-use Rattle.area.specs.Numbers.{firstPlace, natural, numberAt, premiumAt, premiumPlace, putAt, putPremium, putState, secondPlace, stateAt, statePlace}
-use Rattle.play.specs.Walks.{CellSwept, LeftSwept, RightSwept, RunSwept, Swept, SweptOver, labelledAt, labelledIn, opensAt, sweptCell, sweptOn}
+use Rattle.area.specs.Numbers.{firstPlace, numberAt, premiumAt, premiumPlace, putPremium, putState, secondPlace, stateAt, statePlace}
+use Rattle.play.specs.Walks.{CellSwept, LeftSwept, RightSwept, RunSwept, SweptOver, labelledAt, labelledIn, sweptCell}
+use Rattle.play.proofs.Steps.{put-other}
 
 -- ---- one cell: what is put in it is seen nowhere else
 
 -- what a sweep does with a cell that was read so
 abbrev act : Bool → Bool → ℕ → List ℤ → ℕ → List ℤ
 act a b p w i = cond a (cond b (putState w i 1) (putPremium w i (p - 1))) w
-
-put-other : (w : List ℤ) (k q v : ℕ) → (q ≡ k → ⊥) → numberAt (putAt w k v) q ≡ numberAt w q
-put-other w k q v n = ap natural (getD-set-other w k q (pos (v % 2147483648)) (pos 0) n)
 
 kept : (label : ℕ) (w : List ℤ) (j q : ℕ) → (q ≡ statePlace j → ⊥) → (q ≡ premiumPlace j → ⊥) → numberAt (sweptCell label w j) q ≡ numberAt w q
 unfolding sweptCell
@@ -46,10 +44,6 @@ module _ (label : ℕ) (w : List ℤ) (i j : ℕ) (n : i ≡ j → ⊥) where
   premium-kept : premiumAt (sweptCell label w j) i ≡ premiumAt w i
   premium-kept = kept label w j (premiumPlace i) (λ e. omega arith) (λ e. n (omega arith))
 
-  opens-kept : opensAt label (sweptCell label w j) i ≡ opensAt label w i
-  unfolding opensAt
-  opens-kept = ap₂ (λ (b : Bool) (k : ℕ). b && eqb k 0) (label-kept label w j i) state-kept
-
   -- two cells in either order
   act-swap : (a b c d : Bool) (p q : ℕ) → act a b p (act c d q w j) i ≡ act c d q (act a b p w i) j
   act-swap true true true true p q = set-comm w (statePlace j) (statePlace i) (pos (1 % 2147483648)) (pos (1 % 2147483648)) (λ e. n (omega arith))
@@ -71,60 +65,40 @@ cell-swap label w i j n =
     ∙ act-swap label w i j n (labelledAt label w i) (eqb (stateAt w i) 0) (labelledAt label w j) (eqb (stateAt w j) 0) (premiumAt w i) (premiumAt w j)
     ∙ sym (act-kept label w j i (λ e. n (sym e)))
 
-on-swap : (label : ℕ) (t : Swept) (i j : ℕ) → (i ≡ j → ⊥) → sweptOn label (sweptOn label t j) i ≡ sweptOn label (sweptOn label t i) j
-unfolding sweptOn
-on-swap label t i j n =
-    ap₂ (λ (v : List ℤ) (k : ℕ). record { area = v; opened = k }) (cell-swap label (t .area) i j n)
-    (omega (arith, ap bit (opens-kept label (t .area) i j n), ap bit (opens-kept label (t .area) j i (λ e. n (sym e)))))
-
 -- ---- lists of cells
 
 module _ (label : ℕ) where
-  fold-past : (t : Swept) (i : ℕ) (ys : List ℕ) → (T (has i ys) → ⊥) → fold (sweptOn label) (sweptOn label t i) ys ≡ sweptOn label (fold (sweptOn label) t ys) i
-  fold-past t i [] n = refl
-  fold-past t i (y ∷ ys) n =
-      ap (λ (u : Swept). fold (sweptOn label) u ys) (on-swap label t y i (λ e. n (has-head i y ys (sym e))))
-      ∙ fold-past (sweptOn label t y) i ys (λ u. n (has-tail i y ys u))
+  fold-past : (w : List ℤ) (i : ℕ) (ys : List ℕ) → (T (has i ys) → ⊥) → fold (sweptCell label) (sweptCell label w i) ys ≡ sweptCell label (fold (sweptCell label) w ys) i
+  fold-past w i [] n = refl
+  fold-past w i (y ∷ ys) n =
+      ap (λ (v : List ℤ). fold (sweptCell label) v ys) (cell-swap label w y i (λ e. n (has-head i y ys (sym e))))
+      ∙ fold-past (sweptCell label w y) i ys (λ u. n (has-tail i y ys u))
 
   -- two lists that share no cell, in either order
-  fold-swap : (t : Swept) (xs ys : List ℕ) → ((x : ℕ) → T (has x xs) → T (has x ys) → ⊥)
-      → fold (sweptOn label) (fold (sweptOn label) t xs) ys ≡ fold (sweptOn label) (fold (sweptOn label) t ys) xs
-  fold-swap t [] ys n = refl
-  fold-swap t (x ∷ xs) ys n =
-      fold-swap (sweptOn label t x) xs ys (rest-of x xs n)
-      ∙ ap (λ (u : Swept). fold (sweptOn label) u xs) (fold-past t x ys (first-of x xs n))
+  fold-swap : (w : List ℤ) (xs ys : List ℕ) → ((x : ℕ) → T (has x xs) → T (has x ys) → ⊥)
+      → fold (sweptCell label) (fold (sweptCell label) w xs) ys ≡ fold (sweptCell label) (fold (sweptCell label) w ys) xs
+  fold-swap w [] ys n = refl
+  fold-swap w (x ∷ xs) ys n =
+      fold-swap (sweptCell label w x) xs ys (rest-of x xs n)
+      ∙ ap (λ (v : List ℤ). fold (sweptCell label) v xs) (fold-past w x ys (first-of x xs n))
 
   -- the labels after a sweep
-  label-after : (t : Swept) (xs : List ℕ) (i : ℕ) → labelledAt label (fold (sweptOn label) t xs .area) i ≡ labelledAt label (t .area) i
-  unfolding sweptOn
-  label-after t [] i = refl
-  label-after t (x ∷ xs) i = label-after (sweptOn label t x) xs i ∙ label-kept label (t .area) x i
+  label-after : (w : List ℤ) (xs : List ℕ) (i : ℕ) → labelledAt label (fold (sweptCell label) w xs) i ≡ labelledAt label w i
+  label-after w [] i = refl
+  label-after w (x ∷ xs) i = label-after (sweptCell label w x) xs i ∙ label-kept label w x i
 
   -- none of the cells has the label: nothing is done
-  fold-none : (t : Swept) (xs : List ℕ) → ((x : ℕ) → T (has x xs) → T (labelledAt label (t .area) x) → ⊥) → fold (sweptOn label) t xs ≡ t
-  unfolding sweptOn sweptCell opensAt
-  fold-none t [] n = refl
-  fold-none t (x ∷ xs) n =
-      ap (λ (u : Swept). fold (sweptOn label) u xs) left
-      ∙ fold-none t xs (rest-of x xs n)
+  fold-none : (w : List ℤ) (xs : List ℕ) → ((x : ℕ) → T (has x xs) → T (labelledAt label w x) → ⊥) → fold (sweptCell label) w xs ≡ w
+  unfolding sweptCell
+  fold-none w [] n = refl
+  fold-none w (x ∷ xs) n =
+      ap (λ (v : List ℤ). fold (sweptCell label) v xs) left
+      ∙ fold-none w xs (rest-of x xs n)
     where
-      left : sweptOn label t x ≡ t
-      left =
-          rw (no→false (labelledAt label (t .area) x) (first-of x xs n)) (ap (λ (k : ℕ). record { area = t .area; opened = k }) (add-zero (t .opened)))
+      left : sweptCell label w x ≡ w
+      left = rw (no→false (labelledAt label w x) (first-of x xs n))
 
 -- ---- runs of cells
-
--- so many more opened
-abbrev more : ℕ → Swept → Swept
-more m t = record { area = t .area; opened = m + t .opened }
-
-fold-opened : (label m : ℕ) (t : Swept) (xs : List ℕ) → fold (sweptOn label) (more m t) xs ≡ more m (fold (sweptOn label) t xs)
-unfolding sweptOn
-fold-opened label m t [] = refl
-fold-opened label m t (x ∷ xs) =
-    ap (λ (u : Swept). fold (sweptOn label) u xs)
-    (ap (λ (k : ℕ). record { area = sweptCell label (t .area) x; opened = k }) (add-assoc m (t .opened) (bit (opensAt label (t .area) x))))
-    ∙ fold-opened label m (sweptOn label t x) xs
 
 -- a run in two parts
 fold-parts : {S : Type 0} (f : S → ℕ → S) (s : S) (a b n : ℕ) → a ≤ b → fold f s (range a (b + n)) ≡ fold f (fold f s (range a b)) (range b (b + n))
@@ -141,84 +115,67 @@ fold-parts f s a b (suc n) h =
 fold-both : {S : Type 0} (f : S → ℕ → S) (s : S) (a b c : ℕ) → a ≤ b → b ≤ c → fold f s (range a c) ≡ fold f (fold f s (range a b)) (range b c)
 fold-both f s a b c h k = rw (add-sub-of-le k) at (fold-parts f s a b (c - b) h)
 
-module _ (label a b c : ℕ) (w v u : List ℤ) (r q : ℕ) (h : a ≤ b) (k : b ≤ c) where
-  -- a sweep that goes on from where one ended
-  goes-on : (x y : ℕ) → SweptOver label x y w r v → (d e : ℕ) → SweptOver label d e v q u
-      → _≡_ {A = Swept} (record { area = u; opened = r + q }) (fold (sweptOn label) (fold (sweptOn label) (record { area = w; opened = 0 }) (range x y)) (range d e))
-  goes-on x y s d e t =
-      ap (more r) t ∙ sym (fold-opened label r (record { area = v; opened = 0 }) (range d e))
-      ∙ ap (λ (k : ℕ). fold (sweptOn label) (record { area = v; opened = k }) (range d e)) (add-zero r)
-      ∙ ap (λ (z : Swept). fold (sweptOn label) z (range d e)) s
-
+module _ (label a b c : ℕ) (w v u : List ℤ) (h : a ≤ b) (k : b ≤ c) where
   -- by the run that follows
-  pub to-right : SweptOver label a b w r v → SweptOver label b c v q u → SweptOver label a c w (r + q) u
-  to-right s t = goes-on a b s b c t ∙ sym (fold-both (sweptOn label) (record { area = w; opened = 0 }) a b c h k)
+  pub to-right : SweptOver label a b w v → SweptOver label b c v u → SweptOver label a c w u
+  to-right s t =
+      t ∙ ap (λ (z : List ℤ). fold (sweptCell label) z (range b c)) s ∙ sym (fold-both (sweptCell label) w a b c h k)
 
   -- by the run before
-  to-left : SweptOver label b c w r v → SweptOver label a b v q u → SweptOver label a c w (r + q) u
+  to-left : SweptOver label b c w v → SweptOver label a b v u → SweptOver label a c w u
   to-left s t =
-      goes-on b c s a b t
-      ∙ fold-swap label (record { area = w; opened = 0 }) (range b c) (range a b) (λ x m n. apart x (has-range b c x m) (has-range a b x n))
-      ∙ sym (fold-both (sweptOn label) (record { area = w; opened = 0 }) a b c h k)
+      t ∙ ap (λ (z : List ℤ). fold (sweptCell label) z (range a b)) s
+      ∙ fold-swap label w (range b c) (range a b) (λ x m n. apart x (has-range b c x m) (has-range a b x n))
+      ∙ sym (fold-both (sweptCell label) w a b c h k)
     where
       apart : (x : ℕ) → (b ≤ x) × (x < c) → (a ≤ x) × (x < b) → ⊥
       apart x m n = omega arith
 
 -- a sweep of no cell
-pub over-none : (label a : ℕ) (w : List ℤ) → SweptOver label a a w 0 w
-over-none label a w = sym (ap (fold (sweptOn label) (record { area = w; opened = 0 })) (range-none a))
+pub over-none : (label a : ℕ) (w : List ℤ) → SweptOver label a a w w
+over-none label a w = sym (ap (fold (sweptCell label) w) (range-none a))
 
 -- the labels that a sweep leaves
-label-stays : (label a b : ℕ) (w v : List ℤ) (r i : ℕ) → SweptOver label a b w r v → labelledAt label v i ≡ labelledAt label w i
-label-stays label a b w v r i s =
-    ap (λ (t : Swept). labelledAt label (t .area) i) s ∙ label-after label (record { area = w; opened = 0 }) (range a b) i
+label-stays : (label a b : ℕ) (w v : List ℤ) (i : ℕ) → SweptOver label a b w v → labelledAt label v i ≡ labelledAt label w i
+label-stays label a b w v i s = ap (λ (z : List ℤ). labelledAt label z i) s ∙ label-after label w (range a b) i
 
 -- and how many have the label
-pub labelled-stays : (label a b : ℕ) (w v : List ℤ) (r d e : ℕ) → SweptOver label a b w r v → labelledIn label v d e ≡ labelledIn label w d e
-labelled-stays label a b w v r d e s =
-    count-ext (labelledAt label v) (labelledAt label w) (range d e) (λ x t. label-stays label a b w v r x s)
+pub labelled-stays : (label a b : ℕ) (w v : List ℤ) (d e : ℕ) → SweptOver label a b w v → labelledIn label v d e ≡ labelledIn label w d e
+labelled-stays label a b w v d e s =
+    count-ext (labelledAt label v) (labelledAt label w) (range d e) (λ x t. label-stays label a b w v x s)
 
 -- a run that has every cell of the label is as good as all cells
-pub over-all : (label n a b : ℕ) (w v : List ℤ) (r : ℕ) → a ≤ b → b ≤ n → SweptOver label a b w r v
-    → ((x : ℕ) → x < a → T (labelledAt label w x) → ⊥) → ((x : ℕ) → b ≤ x → x < n → T (labelledAt label w x) → ⊥) → SweptOver label 0 n w r v
-over-all label n a b w v r h k s below above =
-    ap (λ (m : ℕ). record { area = v; opened = m }) total
-    ∙ to-right label 0 b n w v v (0 + r) 0 (omega arith) k (to-right label 0 a b w w v 0 r (omega arith) h before s) after
+pub over-all : (label n a b : ℕ) (w v : List ℤ) → a ≤ b → b ≤ n → SweptOver label a b w v
+    → ((x : ℕ) → x < a → T (labelledAt label w x) → ⊥) → ((x : ℕ) → b ≤ x → x < n → T (labelledAt label w x) → ⊥) → SweptOver label 0 n w v
+over-all label n a b w v h k s below above =
+    to-right label 0 b n w v v (omega arith) k (to-right label 0 a b w w v (omega arith) h before s) after
   where
-    total : r ≡ 0 + r + 0
-    total = omega arith
+    before : SweptOver label 0 a w w
+    before = sym (fold-none label w (range 0 a) (λ x t. below x (has-range 0 a x t .1)))
 
-    before : SweptOver label 0 a w 0 w
-    before = sym (fold-none label (record { area = w; opened = 0 }) (range 0 a) (λ x t. below x (has-range 0 a x t .1)))
-
-    after : SweptOver label b n v 0 v
+    after : SweptOver label b n v v
     after =
-        sym (fold-none label (record { area = v; opened = 0 }) (range b n) (λ x t l.
+        sym (fold-none label v (range b n) (λ x t l.
         let m = has-range b n x t in
-        above x (m .0) (m .1) (rw (← label-stays label a b w v r x s) l)))
+        above x (m .0) (m .1) (rw (← label-stays label a b w v x s) l)))
 
 -- ---- a run goes on by one cell, a walk by one column
 
 -- one cell counts at most once
-pub at-most-one : (label : ℕ) (w : List ℤ) (i r n : ℕ) (v : List ℤ) → CellSwept label w i r n v → (r ≤ 1) × (n ≤ 1)
-at-most-one label w i r n v c = (
-  omega (arith, c .opened-it, bit-small (opensAt label w i)),
-  omega (arith, c .found-it, bit-small (labelledAt label w i)),
-)
+pub at-most-one : (label : ℕ) (w : List ℤ) (i n : ℕ) (v : List ℤ) → CellSwept label w i n v → n ≤ 1
+at-most-one label w i n v c = omega (arith, c .found-it, bit-small (labelledAt label w i))
 
 -- no cell yet
-pub run-none : (label a : ℕ) (w : List ℤ) → RunSwept label a a w 0 0 w
+pub run-none : (label a : ℕ) (w : List ℤ) → RunSwept label a a w 0 w
 run-none label a w =
     record { swept = over-none label a w; labelled = sym (ap (count (labelledAt label w)) (range-none a)) }
 
 -- one cell more
-pub run-more : (label a k : ℕ) (w v u : List ℤ) (r n q m : ℕ) → a ≤ k → RunSwept label a k w r n v → CellSwept label v k q m u → RunSwept label a (k + 1) w (r + q) (n + m) u
-unfolding sweptOn
-run-more label a k w v u r n q m h s c =
+pub run-more : (label a k : ℕ) (w v u : List ℤ) (n m : ℕ) → a ≤ k → RunSwept label a k w n v → CellSwept label v k m u → RunSwept label a (k + 1) w (n + m) u
+run-more label a k w v u n m h s c =
     record {
-      swept = rw (c .area, c .opened-it) (ap (λ (t : Swept). sweptOn label t k) (s .swept))
-          ∙ sym (fold-more (sweptOn label) (record { area = w; opened = 0 }) a k h);
-      labelled = omega (arith, s .labelled, c .found-it, ap bit (label-stays label a k w v r k (s .swept)), count-more (labelledAt label w) a k h);
+      swept = c .area ∙ ap (λ (z : List ℤ). sweptCell label z k) (s .swept) ∙ sym (fold-more (sweptCell label) w a k h);
+      labelled = omega (arith, s .labelled, c .found-it, ap bit (label-stays label a k w v k (s .swept)), count-more (labelledAt label w) a k h);
     }
 
 -- a column's cells lie on the grid
@@ -226,11 +183,11 @@ pub column-on : (rows columns column : ℕ) → column < columns → column * ro
 column-on rows columns column h = omega (arith, mul-le-mul-right rows h)
 
 -- no column yet
-pub left-none : (rows label column : ℕ) (w : List ℤ) → SweptOver label ((column + 1) * rows) (column * rows + rows) w 0 w
+pub left-none : (rows label column : ℕ) (w : List ℤ) → SweptOver label ((column + 1) * rows) (column * rows + rows) w w
 left-none rows label column w = rw (← next-column rows column) (over-none label (column * rows + rows) w)
 
-module _ (rows label column left : ℕ) (w v u : List ℤ) (r q n : ℕ) (some : 0 < left) (few : left ≤ column + 1)
-    (s : SweptOver label (left * rows) (column * rows + rows) w r v) (t : RunSwept label ((left - 1) * rows) ((left - 1) * rows + rows) v q n u) where
+module _ (rows label column left : ℕ) (w v u : List ℤ) (n : ℕ) (some : 0 < left) (few : left ≤ column + 1)
+    (s : SweptOver label (left * rows) (column * rows + rows) w v) (t : RunSwept label ((left - 1) * rows) ((left - 1) * rows + rows) v n u) where
   seam-left : (left - 1) * rows + rows ≡ left * rows
   seam-left = go left some
     where
@@ -245,53 +202,53 @@ module _ (rows label column left : ℕ) (w v u : List ℤ) (r q n : ℕ) (some :
       go (suc k) h = ap (λ (m : ℕ). m * rows + rows) (back k) ∙ up k
 
   -- one column more to the left
-  pub left-more : SweptOver label ((left - 1) * rows) (column * rows + rows) w (r + q) u
+  pub left-more : SweptOver label ((left - 1) * rows) (column * rows + rows) w u
   left-more =
-      to-left label ((left - 1) * rows) (left * rows) (column * rows + rows) w v u r q (omega (arith, seam-left)) (omega (arith, mul-le-mul-right rows few)) s
+      to-left label ((left - 1) * rows) (left * rows) (column * rows + rows) w v u (omega (arith, seam-left)) (omega (arith, mul-le-mul-right rows few)) s
       (rw seam-left at (t .swept))
 
   -- and it has no cell of the label
-  pub left-ends : n ≡ 0 → LeftSwept rows label column w (r + q) u
+  pub left-ends : n ≡ 0 → LeftSwept rows label column w u
   left-ends e =
       record {
         end = left - 1;
         on-left = omega arith;
         swept = left-more;
-        ends = λ _. sym (labelled-stays label (left * rows) (column * rows + rows) w v r ((left - 1) * rows) ((left - 1) * rows + rows) s) ∙ sym (t .labelled) ∙ e;
+        ends = λ _. sym (labelled-stays label (left * rows) (column * rows + rows) w v ((left - 1) * rows) ((left - 1) * rows + rows) s) ∙ sym (t .labelled) ∙ e;
       }
 
 -- the walk to the left came to the first column
-pub left-whole : (rows label column : ℕ) (w v : List ℤ) (r left : ℕ) → left ≡ 0 → SweptOver label (left * rows) (column * rows + rows) w r v → LeftSwept rows label column w r v
-left-whole rows label column w v r left e s =
+pub left-whole : (rows label column : ℕ) (w v : List ℤ) (left : ℕ) → left ≡ 0 → SweptOver label (left * rows) (column * rows + rows) w v → LeftSwept rows label column w v
+left-whole rows label column w v left e s =
     record { end = left; on-left = omega arith; swept = s; ends = λ n. absurd (n e) }
 
-module _ (rows columns label column right : ℕ) (w v u : List ℤ) (r q n : ℕ) (some : column ≤ right)
-    (s : SweptOver label (column * rows) (right * rows) w r v) (t : RunSwept label (right * rows) (right * rows + rows) v q n u) where
+module _ (rows columns label column right : ℕ) (w v u : List ℤ) (n : ℕ) (some : column ≤ right)
+    (s : SweptOver label (column * rows) (right * rows) w v) (t : RunSwept label (right * rows) (right * rows + rows) v n u) where
   seam-right : right * rows + rows ≡ (right + 1) * rows
   seam-right = omega arith
 
   -- one column more to the right
-  pub right-more : SweptOver label (column * rows) ((right + 1) * rows) w (r + q) u
+  pub right-more : SweptOver label (column * rows) ((right + 1) * rows) w u
   right-more =
-      to-right label (column * rows) (right * rows) ((right + 1) * rows) w v u r q (mul-le-mul-right rows some) (omega arith) s
+      to-right label (column * rows) (right * rows) ((right + 1) * rows) w v u (mul-le-mul-right rows some) (omega arith) s
       (rw seam-right at (t .swept))
 
   -- and it has no cell of the label
-  pub right-ends : right < columns → n ≡ 0 → RightSwept rows columns label column w (r + q) u
+  pub right-ends : right < columns → n ≡ 0 → RightSwept rows columns label column w u
   right-ends h e =
       record {
         end = right + 1;
         on-right = omega arith;
         in-columns = omega arith;
         swept = right-more;
-        ends = λ last f _. rw (← ended last f) (sym (labelled-stays label (column * rows) (right * rows) w v r (right * rows) (right * rows + rows) s) ∙ sym (t .labelled) ∙ e);
+        ends = λ last f _. rw (← ended last f) (sym (labelled-stays label (column * rows) (right * rows) w v (right * rows) (right * rows + rows) s) ∙ sym (t .labelled) ∙ e);
       }
     where
       ended : (last : ℕ) → right + 1 ≡ last + 1 → right ≡ last
       ended last f = omega arith
 
 -- the walk to the right came past the last column
-pub right-whole : (rows columns label column : ℕ) (w v : List ℤ) (r right : ℕ) → column ≤ right → right ≡ columns → SweptOver label (column * rows) (right * rows) w r v
-    → RightSwept rows columns label column w r v
-right-whole rows columns label column w v r right h e s =
+pub right-whole : (rows columns label column : ℕ) (w v : List ℤ) (right : ℕ) → column ≤ right → right ≡ columns → SweptOver label (column * rows) (right * rows) w v
+    → RightSwept rows columns label column w v
+right-whole rows columns label column w v right h e s =
     record { end = right; on-right = h; in-columns = omega arith; swept = s; ends = λ last f l. absurd (omega arith) }

@@ -49,13 +49,13 @@ lay-firsts w i n =
 
 -- what is read in a cell that the pass comes to is counted as it was
 pub lay-counts : (w₀ w : List ℤ) (i n content first k f r : ℕ) → w ≡ fold layCell w₀ (range 0 n) → content ≡ contentAt w i → first ≡ firstAt w i
-    → k ≡ bit (not (eqb content 0)) → f ≡ bit (not (eqb first 0)) → r ≡ k - f → (r ≡ bit (unlabelledAt w₀ i)) × (k ≡ bit (safeAt w₀ i))
+    → k ≡ bit (not (eqb content 0)) → f ≡ bit (not (eqb first 0)) → r ≡ k - f → r ≡ bit (unlabelledAt w₀ i)
 lay-counts w₀ w i n content first k f r e ek ef qk qf qr =
     let a : content ≡ contentAt w₀ i = ek ∙ ap (λ (v : List ℤ). contentAt v i) e ∙ lay-contents w₀ i n in
     let b : first ≡ firstAt w₀ i = ef ∙ ap (λ (v : List ℤ). firstAt v i) e ∙ lay-firsts w₀ i n in
     let s : k ≡ bit (safeAt w₀ i) = qk ∙ ap (λ (n : ℕ). bit (not (eqb n 0))) a in
     let t : f ≡ bit (not (eqb (firstAt w₀ i) 0)) = qf ∙ ap (λ (n : ℕ). bit (not (eqb n 0))) b in
-    (omega (arith, both (safeAt w₀ i) (eqb (firstAt w₀ i) 0)), s)
+    omega (arith, both (safeAt w₀ i) (eqb (firstAt w₀ i) 0))
   where
     both : (x y : Bool) → bit x - bit (not y) ≡ bit (x && y)
     both true true = refl

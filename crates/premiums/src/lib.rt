@@ -1,16 +1,10 @@
-// Each cell's first premium, and the counts, in a labelled work area.
+// Each cell's first premium, and the count of the safe cells without label, in a labelled work area.
 ghost use mathlib.Core.Path.{_≡_};
 ghost use Prim.Native.Nat.{_*_, _<_, _≤_};
 ghost use Rattle.game.specs.Lists.{count, range, fold};
 ghost use Rattle.area.specs.Numbers.{HasCell, HasCells};
 ghost use Rattle.area.specs.Stages.{Shape};
-ghost use Rattle.premiums.specs.Laying.{unlabelledAt, safeAt, alonePremium, layCell, raiseNear};
-
-// The safe cells without label, and all safe cells.
-pub struct Laid {
-    pub unlabelled: usize,
-    pub safe: usize,
-}
+ghost use Rattle.premiums.specs.Laying.{unlabelledAt, alonePremium, layCell, raiseNear};
 
 // The raised premium of a cell that no unlabelled cell is near, before any move; 0 for a mine.
 pub fn alone(labels: usize, content: usize) -> usize
@@ -23,14 +17,13 @@ pub fn alone(labels: usize, content: usize) -> usize
     area::take_away(9 + labels, content)
 }
 
-// Each cell before any move, as if no unlabelled cell were near.
-pub fn lay(work: &mut [i32], cells: usize) -> Laid
+// Each cell before any move, as if no unlabelled cell were near. Answers the safe cells without label.
+pub fn lay(work: &mut [i32], cells: usize) -> usize
     requires { ⌜ HasCells (now work) cells ⌝ }
     ensures { λ r. ⌜ (now (work .exit) ≡ fold layCell (now (work .entry)) (range 0 cells))
-        × (r .unlabelled ≡ count (unlabelledAt (now (work .entry))) (range 0 cells)) × (r .safe ≡ count (safeAt (now (work .entry))) (range 0 cells)) × (r .unlabelled ≤ cells) ⌝ }
+        × (r ≡ count (unlabelledAt (now (work .entry))) (range 0 cells)) × (r ≤ cells) ⌝ }
 {
     let mut unlabelled: usize = 0;
-    let mut safe: usize = 0;
     for index in 0..cells {
         let first = area::one_if_any(area::first_label(work, index));
         let second = area::one_if_any(area::second_label(work, index));
@@ -39,9 +32,8 @@ pub fn lay(work: &mut [i32], cells: usize) -> Laid
         area::put_premium(work, index, alone(first + second, content));
         area::put_state(work, index, 0);
         unlabelled += area::take_away(counted, first);
-        safe += counted;
     }
-    Laid { unlabelled, safe }
+    unlabelled
 }
 
 // Whether there is a safe cell without label.

@@ -23,9 +23,8 @@ fn price_checked(
     requires { ⌜ (length (now grid) ≡ rows * columns) × HasCells (now work) (rows * columns) × (rows * columns ≤ length (now list)) ⌝ }
     ensures { λ r. ⌜ KeepsList (pricedRound «openings_first» (gridOf rows columns (now (grid .entry))) (now (work .entry)) (now (list .entry))) (gives (r ∷ [])) (now (work .exit)) (now (list .exit)) ⌝ }
 {
-    let counts = start::begin::set_up(grid, rows, columns, work);
-    let safe = counts.safe;
-    let clicks = rounds::whole::round(work, rows, columns, list, safe, openings_first);
+    let units = start::begin::set_up(grid, rows, columns, work);
+    let clicks = rounds::whole::round(work, rows, columns, list, units, openings_first);
     start::begin::settle(work, rows * columns);
     clicks
 }

@@ -2,7 +2,7 @@
 use Prim.Native.Nat.{ℕ, _*_, _+_, _<_, _≤_, suc}
 use native.Mathlib.Omega.{arith}
 use mathlib.Core.Path.{_∙_, _≡_, ap, ap₂, refl, subst, sym}
-use mathlib.Core.Bool.{_&&_, false}
+use mathlib.Core.Bool.{false}
 use mathlib.Core.List.{List, [], _++_, _∷_, append-assoc, append-nil, map}
 use mathlib.Core.Option.{Option, none, some}
 use lib.IntN.{ℤ}
@@ -17,24 +17,22 @@ use Rattle.area.specs.Stages.{Stands}
 use Rattle.game.specs.Draws.{Drawn, Mode, Places, Source}
 use Rattle.supplies.specs.declared.Supply.{Supply}
 use Rattle.supplies.specs.Origins.{Origin, Reads, sourceOf}
-use Rattle.game.specs.Grid.{Grid, cells, safe as isSafe}
+use Rattle.game.specs.Grid.{Grid}
 use Rattle.game.specs.Moves.{Move, after, word}
 use Rattle.game.specs.Openings.{threeBV}
-use Rattle.game.specs.Position.{Position, Tidy, closedSafe, unopened, untouched}
+use Rattle.game.specs.Position.{Position, Tidy, closedSafe, closedUnits, untouched}
 use Rattle.game.specs.Rounds.{Round, Step, afterStep, before, choice, movesOf, randomFrom, randomRound, stepOf, width}
 use Rattle.random.specs.Promises.{Rolling, Stepping, Went}
 use Rattle.moves.specs.Promises.{Made}
 use Rattle.rounds.specs.Promises.{Fresh}
 use Rattle.area.proofs.Cells.{cells-few}
-use Rattle.game.proofs.Counts.{count-le}
-use Rattle.game.proofs.Squares.{length-cells}
 use Rattle.game.proofs.Randoms.{by-draw, drawn-fits, draws-none, draws-on}
+use Rattle.game.proofs.Rounds.{all-done, safe-left}
 use Rattle.game.proofs.Runs.{Fits, moves-append}
 use Rattle.game.proofs.Tidy.{untouched-tidy}
 use Rattle.game.proofs.Narrow.{after-append}
 use Rattle.game.proofs.Units.{units-at-most-cells, units-untouched}
 use Rattle.moves.proofs.Partway.{Partway, partway-begins, partway-falls, partway-goes-on, partway-more}
-use Rattle.rounds.proofs.Ending.{closed-alike}
 use Rattle.supplies.proofs.Standing.{at-used}
 
 -- ---- the list past what was written
@@ -71,42 +69,33 @@ pub record Left (g : Grid) (source : Source) (at next : ℕ) (done : List Move) 
 
 -- before any step
 abbrev pub fresh : ℕ → State
-fresh safe = record { moves = 0; closed = safe }
+fresh units = record { moves = 0; units = units }
 
 -- the steps so far, and the supply, at the place of the next draw
-pub record Course (rows columns : ℕ) (g : Grid) (old : List ℤ) (origin : Origin) (source : Source) (safe at : ℕ) (list : List ℕ) (w′ : List ℤ) (list′ : List ℕ) (t′ : State) (rest : Supply) : Type 0 where
-  pub way : Partway rows columns g (untouched g) old list (fresh safe) (Left g source at (rest .used)) w′ list′ t′
+pub record Course (rows columns : ℕ) (g : Grid) (old : List ℤ) (origin : Origin) (source : Source) (units at : ℕ) (list : List ℕ) (w′ : List ℤ) (list′ : List ℕ) (t′ : State) (rest : Supply) : Type 0 where
+  pub way : Partway rows columns g (untouched g) old list (fresh units) (Left g source at (rest .used)) w′ list′ t′
   pub reads : Reads origin (rest .used) rest
 
--- the safe cells are few
-pub safe-few : (rows columns : ℕ) (w : List ℤ) (safe : ℕ) → Fresh rows columns w safe → safe ≤ 65025
-unfolding closedSafe
-safe-few rows columns w safe f =
-    let g = f .grid in
-    omega (
-      arith,
-      f .counts,
-      count-le (λ i. isSafe g i && unopened (untouched g) i) (cells g),
-      length-cells g,
-      cells-few rows columns (f .stands .shape),
-      ap₂ _*_ (f .stands .rows-are) (f .stands .columns-are),
-    )
+-- the units are few
+pub units-few : (rows columns : ℕ) (w : List ℤ) (units : ℕ) → Fresh rows columns w units → units ≤ 65025
+units-few rows columns w units f =
+    omega (arith, f .counts, units-at-most-cells (f .grid), cells-few rows columns (f .stands .shape), ap₂ _*_ (f .stands .rows-are) (f .stands .columns-are))
 
--- whatever grid the area stood for, and wherever the supply stood
-pub record RoundMidway (rows columns : ℕ) (w : List ℤ) (mode : Mode) (bytes : List ℕ) (safe : ℕ) (supply : Supply) (list : List ℕ) (w′ : List ℤ) (list′ : List ℕ) (t′ : State) (rest : Supply) : Type 0 where
-  pub course : (g : Grid) (old : List ℤ) (origin : Origin) (at : ℕ) → Stands rows columns g (untouched g) old w → Reads origin at supply
-      → Course rows columns g old origin (sourceOf mode bytes origin) safe at list w′ list′ t′ rest
+-- whatever grid of so many units the area stood for, and wherever the supply stood
+pub record RoundMidway (rows columns : ℕ) (w : List ℤ) (mode : Mode) (bytes : List ℕ) (units : ℕ) (supply : Supply) (list : List ℕ) (w′ : List ℤ) (list′ : List ℕ) (t′ : State) (rest : Supply) : Type 0 where
+  pub course : (g : Grid) (old : List ℤ) (origin : Origin) (at : ℕ) → Stands rows columns g (untouched g) old w → units ≡ threeBV g → Reads origin at supply
+      → Course rows columns g old origin (sourceOf mode bytes origin) units at list w′ list′ t′ rest
 
-pub midway-begins : (rows columns : ℕ) (w : List ℤ) (mode : Mode) (bytes : List ℕ) (safe : ℕ) (supply : Supply) (list : List ℕ) → Fresh rows columns w safe
-    → RoundMidway rows columns w mode bytes safe supply list w list (fresh safe) supply
+pub midway-begins : (rows columns : ℕ) (w : List ℤ) (mode : Mode) (bytes : List ℕ) (units : ℕ) (supply : Supply) (list : List ℕ)
+    → RoundMidway rows columns w mode bytes units supply list w list (fresh units) supply
 unfolding randomRound
-midway-begins rows columns w mode bytes safe supply list f =
+midway-begins rows columns w mode bytes units supply list =
     record {
-      course = λ g old origin at st d.
+      course = λ g old origin at st counts d.
           let source = sourceOf mode bytes origin in
           record {
-            way = partway-begins rows columns g (untouched g) old list (fresh safe) (Left g source at (supply .used)) w (threeBV g) st (untouched-tidy g)
-                (f .counts ∙ closed-alike rows columns (f .grid) g (untouched (f .grid)) (untouched g) (f .old) old w (f .stands) st)
+            way = partway-begins rows columns g (untouched g) old list (fresh units) (Left g source at (supply .used)) w (threeBV g) st (untouched-tidy g)
+                (counts ∙ sym (units-untouched g))
                 (omega (arith, units-untouched g))
                 (record {
                   steps = [];
@@ -117,19 +106,19 @@ midway-begins rows columns w mode bytes safe supply list f =
           };
     }
 
-module _ (rows columns : ℕ) (g : Grid) (old : List ℤ) (origin : Origin) (source : Source) (safe at : ℕ) (list : List ℕ) (v : List ℤ) (l : List ℕ) (u : State) (rest : Supply)
-    (c : Course rows columns g old origin source safe at list v l u rest) where
-  abbrev o : Partway rows columns g (untouched g) old list (fresh safe) (Left g source at (rest .used)) v l u
+module _ (rows columns : ℕ) (g : Grid) (old : List ℤ) (origin : Origin) (source : Source) (units at : ℕ) (list : List ℕ) (v : List ℤ) (l : List ℕ) (u : State) (rest : Supply)
+    (c : Course rows columns g old origin source units at list v l u rest) where
+  abbrev o : Partway rows columns g (untouched g) old list (fresh units) (Left g source at (rest .used)) v l u
   o = c .way
 
   abbrev here : Position
   here = after g (untouched g) (o .done)
 
-  -- all safe cells are open
-  pub course-ends : u .closed ≡ 0 → Rolling rows columns g old origin (randomRound g source at) list v l (Finishes.Ended (u .moves) rest)
+  -- no unit is closed
+  pub course-ends : u .units ≡ 0 → Rolling rows columns g old origin (randomRound g source at) list v l (Finishes.Ended (u .moves) rest)
   course-ends z =
       let k = o .rest in
-      let e = draws-none (o .left-over) g source here (rest .used) (sym (o .made .left-closed) ∙ z) in
+      let e = draws-none (o .left-over) g source here (rest .used) (all-done g here (o .made .tidy) (omega (arith, o .made .left-units))) in
       let m : u .moves ≡ length (movesOf (k .steps)) = omega (arith, o .made .clicks, ap (λ (ms : List Move). length ms) (k .moves-are)) in
       subst (λ (x : Option Round). Rolling rows columns g old origin x list v l (Finishes.Ended (u .moves) rest))
       (sym (k .all ∙ ap (ahead (k .steps)) e ∙ ap (λ (ts : List Step). some (record { steps = ts; next = rest .used })) (append-nil (k .steps))))
@@ -138,17 +127,21 @@ module _ (rows columns : ℕ) (g : Grid) (old : List ℤ) (origin : Origin) (sou
         answer = ap (λ (n : ℕ). Finishes.Ended n rest) m;
         reads = c .reads;
         stands = subst (λ (ms : List Move). Stands rows columns g (after g (untouched g) ms) old v) (k .moves-are) (o .made .stands);
+        none-left = ap (λ (ms : List Move). closedUnits g (after g (untouched g) ms)) (sym (k .moves-are)) ∙ sym (o .made .left-units) ∙ z;
         noted = o .made .noted ∙ ap (λ (ms : List Move). sets list 0 (map word ms)) (k .moves-are);
       })
 
-  module _ (w′ : List ℤ) (list′ : List ℕ) (r : DrawnStep) (h : 0 < u .closed)
-      (q : (s : Position) (next : ℕ) → Stands rows columns g s old v → Tidy g s → 1 ≤ closedSafe g s → u .closed ≡ closedSafe g s → Reads origin next rest
+  module _ (w′ : List ℤ) (list′ : List ℕ) (r : DrawnStep) (h : 0 < u .units)
+      (q : (s : Position) (next : ℕ) → Stands rows columns g s old v → Tidy g s → 1 ≤ closedUnits g s → u .units ≡ closedUnits g s → Reads origin next rest
       → Stepping rows columns g s old origin (source next (width (choice false g s))) l u v w′ list′ r) where
-    some-closed : 1 ≤ closedSafe g here
-    some-closed = omega (arith, o .made .left-closed)
+    some-closed : 1 ≤ closedUnits g here
+    some-closed = omega (arith, o .made .left-units)
+
+    some-safe : 1 ≤ closedSafe g here
+    some-safe = safe-left g here (o .made .tidy) some-closed
 
     came : Stepping rows columns g here old origin (source (rest .used) (width (choice false g here))) l u v w′ list′ r
-    came = q here (rest .used) (o .made .stands) (o .made .tidy) some-closed (o .made .left-closed) (c .reads)
+    came = q here (rest .used) (o .made .stands) (o .made .tidy) some-closed (o .made .left-units) (c .reads)
 
     -- the draws ran dry
     pub course-breaks : r ≡ Steps.Dry → Rolling rows columns g old origin (randomRound g source at) list w′ list′ Finishes.Dry
@@ -157,10 +150,10 @@ module _ (rows columns : ℕ) (g : Grid) (old : List ℤ) (origin : Origin) (sou
         go : (x : Option Drawn) → source (rest .used) (width (choice false g here)) ≡ x → Stepping rows columns g here old origin x l u v w′ list′ r
             → Rolling rows columns g old origin (randomRound g source at) list w′ list′ Finishes.Dry
         go none e k =
-            let n = partway-more rows columns g (untouched g) old list (fresh safe) (Left g source at (rest .used)) v l u o some-closed in
+            let n = partway-more rows columns g (untouched g) old list (fresh units) (Left g source at (rest .used)) v l u o some-closed in
             let f = k .same-list ∙ o .made .noted in
             subst (λ (x : Option Round). Rolling rows columns g old origin x list w′ list′ Finishes.Dry)
-            (sym (n .1 .all ∙ ap (ahead (n .1 .steps)) (draws-on (n .0) g source here (rest .used) some-closed ∙ ap (by-draw (n .0) g source here) e)))
+            (sym (n .1 .all ∙ ap (ahead (n .1 .steps)) (draws-on (n .0) g source here (rest .used) some-safe ∙ ap (by-draw (n .0) g source here) e)))
             (record {
               answer = refl;
               position = here;
@@ -187,7 +180,7 @@ module _ (rows columns : ℕ) (g : Grid) (old : List ℤ) (origin : Origin) (sou
       step = stepOf g here (choice false g here) (drew .0 .place)
 
       fits : Fits g here step
-      fits = drawn-fits g source p here (rest .used) (drew .0) (o .made .tidy) some-closed (drew .1)
+      fits = drawn-fits g source p here (rest .used) (drew .0) (o .made .tidy) some-safe (drew .1)
 
       -- what it handed on is the state after it, and the supply where its draw left off
       went : Made rows columns g here old (step .moves) l u w′ list′ (t′ .state) × Reads origin (drew .0 .next) (t′ .supply)
@@ -197,17 +190,17 @@ module _ (rows columns : ℕ) (g : Grid) (old : List ℤ) (origin : Origin) (sou
             subst (λ (z : Onward). Reads origin (drew .0 .next) (z .supply)) k (drew .2 .reads),
           )
 
-      pub course-falls : t′ .state .closed < u .closed
-      course-falls = partway-falls rows columns g (untouched g) old list (fresh safe) (Left g source at (rest .used)) v l u o step fits w′ list′ (t′ .state) (went .0)
+      pub course-falls : t′ .state .units < u .units
+      course-falls = partway-falls rows columns g (untouched g) old list (fresh units) (Left g source at (rest .used)) v l u o step fits w′ list′ (t′ .state) (went .0)
 
-      pub course-goes-on : Course rows columns g old origin source safe at list w′ list′ (t′ .state) (t′ .supply)
+      pub course-goes-on : Course rows columns g old origin source units at list w′ list′ (t′ .state) (t′ .supply)
       course-goes-on =
           record {
-            way = partway-goes-on rows columns g (untouched g) old list (fresh safe) (Left g source at (rest .used)) v l u o step fits w′ list′ (t′ .state) (went .0) (Left g source at (t′ .supply .used)) (λ k c.
+            way = partway-goes-on rows columns g (untouched g) old list (fresh units) (Left g source at (rest .used)) v l u o step fits w′ list′ (t′ .state) (went .0) (Left g source at (t′ .supply .used)) (λ k c.
                 record {
                   steps = c .steps ++ step ∷ [];
                   moves-are = ap (λ (ms : List Move). ms ++ step .moves) (c .moves-are) ∙ sym (moves-one (c .steps) step);
-                  all = c .all ∙ ap (ahead (c .steps)) (draws-on k g source here (rest .used) some-closed ∙ ap (by-draw k g source here) (drew .1))
+                  all = c .all ∙ ap (ahead (c .steps)) (draws-on k g source here (rest .used) some-safe ∙ ap (by-draw k g source here) (drew .1))
                       ∙ ahead-before (c .steps) step (randomFrom k g source (afterStep g here step) (drew .0 .next))
                       ∙ ap₂ (λ x j. ahead (c .steps ++ step ∷ []) (randomFrom k g source x j)) (sym (after-append g (o .done) (step .moves) (untouched g))) (sym (went .1 .used-is));
                 });

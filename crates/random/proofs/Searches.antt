@@ -18,9 +18,10 @@ use Rattle.supplies.specs.declared.Supply.{Supply}
 use Rattle.supplies.specs.Origins.{Origin, Reads, Somewhere, bytes-lent, key-given, sourceOf}
 use Rattle.game.specs.Grid.{Grid}
 use Rattle.game.specs.Moves.{Move, after}
+use Rattle.game.specs.Openings.{threeBV}
 use Rattle.game.specs.Position.{Position, untouched}
 use Rattle.game.specs.Rounds.{Round, Searched, movesOf, randomRound, randomSearch, searchFrom}
-use Rattle.random.specs.Promises.{CountsSafe, Rolling, Searching, once}
+use Rattle.random.specs.Promises.{CountsUnits, Rolling, Searching, once}
 use Rattle.rounds.specs.Promises.{Fresh}
 use Rattle.game.proofs.Tidy.{untouched-tidy}
 use Rattle.game.proofs.Draws.{Used}
@@ -40,9 +41,9 @@ pub reset-stands : (rows columns : ℕ) (g : Grid) (s : Position) (old w w′ : 
 reset-stands rows columns g s old w w′ st e =
     record { rows-are = st .rows-are; columns-are = st .columns-are; shape = st .shape; room = st .room; long = untouched-tidy g .long; holds-it = e }
 
-pub reset-fresh : (rows columns : ℕ) (w w′ : List ℤ) (safe : ℕ) → CountsSafe rows columns w safe
-    → ((g : Grid) (s : Position) (old : List ℤ) → Stands rows columns g s old w → w′ ≡ held g (untouched g) old) → Fresh rows columns w′ safe
-reset-fresh rows columns w w′ safe f q =
+pub reset-fresh : (rows columns : ℕ) (w w′ : List ℤ) (units : ℕ) → CountsUnits rows columns w units
+    → ((g : Grid) (s : Position) (old : List ℤ) → Stands rows columns g s old w → w′ ≡ held g (untouched g) old) → Fresh rows columns w′ units
+reset-fresh rows columns w w′ units f q =
     let s = after (f .grid) (untouched (f .grid)) (f .moves) in
     record {
       grid = f .grid;
@@ -76,10 +77,10 @@ module _ (rows columns : ℕ) (g : Grid) (old : List ℤ) (origin : Origin) (sou
       go none e k = (e, record { answer = refl; position = k .position; stands = k .stands })
       go (some x) e k = let z : _≡_ {A = ℕ} 0 1 = cc (k .answer, y) in absurd (omega arith)
 
--- the safe cells are as many after it, and the supply after it stands somewhere
-pub once-counted : (rows columns : ℕ) (w : List ℤ) (safe : ℕ) (f : Fresh rows columns w safe) (origin : Origin) (source : Source) (at : ℕ) (w′ : List ℤ) (r : Finish)
-    → Searching rows columns (f .grid) (f .old) origin (once (randomRound (f .grid) source at)) w′ r → (paid : ℕ) (rest : Supply) → r ≡ Ended paid rest → CountsSafe rows columns w′ safe × Somewhere rest
-once-counted rows columns w safe f origin source at w′ r q paid rest y =
+-- the units are as many after it, and the supply after it stands somewhere
+pub once-counted : (rows columns : ℕ) (w : List ℤ) (units : ℕ) (f : Fresh rows columns w units) (origin : Origin) (source : Source) (at : ℕ) (w′ : List ℤ) (r : Finish)
+    → Searching rows columns (f .grid) (f .old) origin (once (randomRound (f .grid) source at)) w′ r → (paid : ℕ) (rest : Supply) → r ≡ Ended paid rest → CountsUnits rows columns w′ units × Somewhere rest
+once-counted rows columns w units f origin source at w′ r q paid rest y =
     let d = drawn rows columns (f .grid) (f .old) origin source at w′ r q paid rest y in
     (record { grid = f .grid; old = f .old; moves = movesOf (d .round .steps); stands = d .stands; counts = f .counts }, record { origin = origin; reads = at-used origin (d .round .next) rest (d .reads) })
 
@@ -160,17 +161,17 @@ module _ (rows columns : ℕ) (g : Grid) (old : List ℤ) (origin : Origin) (sou
             ∙ ap₂ (λ i j. searchFrom left g source (record { least = i; next = j; moves = ms })) (sym (d .clicks)) (sym (d .reads .used-is));
       }
 
--- ---- whatever grid the area stood for, and wherever the supply stood
+-- ---- whatever grid of so many units the area stood for, and wherever the supply stood
 
-pub record SearchMidway (rows columns : ℕ) (w : List ℤ) (mode : Mode) (bytes : List ℕ) (clicks : ℕ) (supply : Supply) (more : ℕ) (w′ : List ℤ) (least : ℕ) (rest : Supply) (left : ℕ) : Type 0 where
-  pub sofar : (g : Grid) (old : List ℤ) (ms : List Move) (origin : Origin) (at : ℕ) → Stands rows columns g (after g (untouched g) ms) old w → Reads origin at supply
+pub record SearchMidway (rows columns : ℕ) (w : List ℤ) (mode : Mode) (bytes : List ℕ) (units clicks : ℕ) (supply : Supply) (more : ℕ) (w′ : List ℤ) (least : ℕ) (rest : Supply) (left : ℕ) : Type 0 where
+  pub sofar : (g : Grid) (old : List ℤ) (ms : List Move) (origin : Origin) (at : ℕ) → Stands rows columns g (after g (untouched g) ms) old w → units ≡ threeBV g → Reads origin at supply
       → Sofar rows columns g old origin (sourceOf mode bytes origin) (searchFrom more g (sourceOf mode bytes origin) (record { least = clicks; next = at; moves = ms })) w′ least rest left
 
 -- before any of the rounds
-pub midway-begins : (rows columns : ℕ) (w : List ℤ) (mode : Mode) (bytes : List ℕ) (clicks : ℕ) (supply : Supply) (more : ℕ) → SearchMidway rows columns w mode bytes clicks supply more w clicks supply more
-midway-begins rows columns w mode bytes clicks supply more =
+pub midway-begins : (rows columns : ℕ) (w : List ℤ) (mode : Mode) (bytes : List ℕ) (units clicks : ℕ) (supply : Supply) (more : ℕ) → SearchMidway rows columns w mode bytes units clicks supply more w clicks supply more
+midway-begins rows columns w mode bytes units clicks supply more =
     record {
-      sofar = λ g old ms origin at st d.
+      sofar = λ g old ms origin at st n d.
           record {
             moves = ms;
             stands = st;
@@ -179,11 +180,11 @@ midway-begins rows columns w mode bytes clicks supply more =
           };
     }
 
--- the safe cells are as many as they were, and the supply stands somewhere
-pub still-counted : (rows columns : ℕ) (w : List ℤ) (mode : Mode) (bytes : List ℕ) (clicks : ℕ) (supply : Supply) (more : ℕ) (w′ : List ℤ) (least : ℕ) (rest : Supply) (left safe : ℕ)
-    → SearchMidway rows columns w mode bytes clicks supply more w′ least rest left → Somewhere supply → CountsSafe rows columns w safe → CountsSafe rows columns w′ safe × Somewhere rest
-still-counted rows columns w mode bytes clicks supply more w′ least rest left safe m i f =
-    let s = m .sofar (f .grid) (f .old) (f .moves) (i .origin) (supply .used) (f .stands) (i .reads) in
+-- the units are as many as they were, and the supply stands somewhere
+pub still-counted : (rows columns : ℕ) (w : List ℤ) (mode : Mode) (bytes : List ℕ) (units clicks : ℕ) (supply : Supply) (more : ℕ) (w′ : List ℤ) (least : ℕ) (rest : Supply) (left : ℕ)
+    → SearchMidway rows columns w mode bytes units clicks supply more w′ least rest left → Somewhere supply → CountsUnits rows columns w units → CountsUnits rows columns w′ units × Somewhere rest
+still-counted rows columns w mode bytes units clicks supply more w′ least rest left m i f =
+    let s = m .sofar (f .grid) (f .old) (f .moves) (i .origin) (supply .used) (f .stands) (f .counts) (i .reads) in
     (record { grid = f .grid; old = f .old; moves = s .moves; stands = s .stands; counts = f .counts }, record { origin = i .origin; reads = s .reads })
 
 -- ---- few rounds are left
@@ -211,11 +212,11 @@ turns-used bytes at next (suc left) still h u z = go (eqb next at) refl still z 
         let h : 1 + (length bytes - next) / 4 < 1 + (length bytes - at) / 4 = omega (arith, f .0, f .1) in h
 
 -- each round played leaves fewer that can still be played
-pub turns-fall : (rows columns : ℕ) (mode : Mode) (bytes : List ℕ) (w w′ : List ℤ) (rest : Supply) (r : Finish) (safe : ℕ) → CountsSafe rows columns w safe → Somewhere rest
-    → ((g : Grid) (s : Position) (old : List ℤ) (origin : Origin) (at : ℕ) → Stands rows columns g s old w → Reads origin at rest → Searching rows columns g old origin (once (randomRound g (sourceOf mode bytes origin) at)) w′ r)
+pub turns-fall : (rows columns : ℕ) (mode : Mode) (bytes : List ℕ) (w w′ : List ℤ) (rest : Supply) (r : Finish) (units : ℕ) → CountsUnits rows columns w units → Somewhere rest
+    → ((g : Grid) (s : Position) (old : List ℤ) (origin : Origin) (at : ℕ) → Stands rows columns g s old w → units ≡ threeBV g → Reads origin at rest → Searching rows columns g old origin (once (randomRound g (sourceOf mode bytes origin) at)) w′ r)
     → (paid : ℕ) (on : Supply) (left still : ℕ) → r ≡ Ended paid on → 0 < left → still ≡ cond (eqb (on .used) (rest .used)) 0 (left - 1) → still ≤ left - 1
     → turnsOf (length bytes) on still < turnsOf (length bytes) rest left
-turns-fall rows columns mode bytes w w′ rest r safe f i q paid on left still y h z l = go (i .origin) (i .reads) (λ origin d. drawn rows columns g (f .old) origin (sourceOf mode bytes origin) (rest .used) w′ r (q g s (f .old) origin (rest .used) (f .stands) d) paid on y)
+turns-fall rows columns mode bytes w w′ rest r units f i q paid on left still y h z l = go (i .origin) (i .reads) (λ origin d. drawn rows columns g (f .old) origin (sourceOf mode bytes origin) (rest .used) w′ r (q g s (f .old) origin (rest .used) (f .stands) (f .counts) d) paid on y)
   where
     g : Grid
     g = f .grid

@@ -19,27 +19,27 @@ origin-places mode bytes (key-given k) = keyed-places mode k
 
 -- ---- how much of a key is left
 
--- in a round: at most 64 words for each safe cell that is open
-pub record Spent (s : Supply) (safe : ℕ) (s′ : Supply) (closed : ℕ) : Type 0 where
+-- in a round: at most 64 words for each unit that is taken
+pub record Spent (s : Supply) (units : ℕ) (s′ : Supply) (closed : ℕ) : Type 0 where
   pub same-kind : s′ .keyed ≡ s .keyed
-  pub most : s .keyed ≡ true → s′ .used + 256 * closed ≤ s .used + 256 * safe
+  pub most : s .keyed ≡ true → s′ .used + 256 * closed ≤ s .used + 256 * units
 
 -- before any step
-pub spent-none : (s : Supply) (safe : ℕ) → Spent s safe s safe
-spent-none s safe = record { same-kind = refl; most = λ t. omega arith }
+pub spent-none : (s : Supply) (units : ℕ) → Spent s units s units
+spent-none s units = record { same-kind = refl; most = λ t. omega arith }
 
-module _ (s : Supply) (safe : ℕ) (s′ : Supply) (closed : ℕ) (p : Spent s safe s′ closed) where
+module _ (s : Supply) (units : ℕ) (s′ : Supply) (closed : ℕ) (p : Spent s units s′ closed) where
   -- after a step more
-  pub spent-more : (s″ : Supply) (closed′ : ℕ) → GrownBy 256 s′ s″ → closed′ < closed → Spent s safe s″ closed′
+  pub spent-more : (s″ : Supply) (closed′ : ℕ) → GrownBy 256 s′ s″ → closed′ < closed → Spent s units s″ closed′
   spent-more s″ closed′ g h =
       record { same-kind = g .same-kind ∙ p .same-kind; most = λ t. omega (arith, p .most t, g .grows (p .same-kind ∙ t)) }
 
-  -- there is room for a step while a safe cell is closed
-  pub step-room : safe ≤ 65025 → KeyRoom (2 ^ 24) s → 0 < closed → KeyRoom 256 s′
+  -- there is room for a step while a unit is closed
+  pub step-room : units ≤ 65025 → KeyRoom (2 ^ 24) s → 0 < closed → KeyRoom 256 s′
   step-room f k h = record { room = λ t. let u : s .keyed ≡ true = sym (p .same-kind) ∙ t in omega (arith, p .most u, k .room u) }
 
   -- and at the end
-  pub round-grew : safe ≤ 65025 → GrownBy (2 ^ 24) s s′
+  pub round-grew : units ≤ 65025 → GrownBy (2 ^ 24) s s′
   round-grew f = record { same-kind = p .same-kind; grows = λ t. omega (arith, p .most t) }
 
 -- what the answer of a round tells

@@ -23,7 +23,7 @@ use Rattle.game.specs.Draws.{Drawn, Places, Source}
 use Rattle.game.specs.Grid.{Grid, safe, zeroCell}
 use Rattle.game.specs.Lists.{count, has, keep, range}
 use Rattle.game.specs.Moves.{Move, left}
-use Rattle.game.specs.Position.{Position, Tidy, closed, closedSafe}
+use Rattle.game.specs.Position.{Position, Tidy, closed, closedUnits}
 use Rattle.game.specs.Rounds.{Choice, choice, chords, clicks, movesAt, stepOf, topCells, unitCells, width}
 use Rattle.random.specs.Promises.{StepGrows, Stepping, Tells, takenMoves}
 use Rattle.moves.specs.Promises.{Made}
@@ -32,6 +32,7 @@ use Rattle.game.proofs.Choices.{Top, looked→, never-stuck, premium-pays, top�
 use Rattle.game.proofs.Counts.{length-keep}
 use Rattle.game.proofs.Legal.{zero-poor}
 use Rattle.game.proofs.Members.{getD-has, has-range, keep-has}
+use Rattle.game.proofs.Rounds.{safe-left}
 use Rattle.game.proofs.Truth.{T→true, no→false}
 
 -- ---- the moves by the highest raised premium
@@ -141,8 +142,8 @@ module _ (rows columns : ℕ) (g : Grid) (s : Position) (old w : List ℤ) (orig
         go none f q = let z : _≡_ {A = ℕ} 0 1 = cc (q, e) in absurd (omega arith)
         go (some d) f q = (d, f, cc (q .answer, e), let z : q .supply ≡ rest = cc (q .answer, e) in subst (Reads origin (d .next)) z (q .reads))
 
-    pub drawn-inside : Places source → Tidy g s → 1 ≤ closedSafe g s → p < width (choice false g s)
-    drawn-inside c f h = rw (← drew .2) (c .inside at (width (choice false g s)) (drew .0) (never-stuck false g s f h) (drew .1))
+    pub drawn-inside : Places source → Tidy g s → 1 ≤ closedUnits g s → p < width (choice false g s)
+    drawn-inside c f h = rw (← drew .2) (c .inside at (width (choice false g s)) (drew .0) (never-stuck false g s f (safe-left g s f h)) (drew .1))
 
     pub step-went : (w′ : List ℤ) (list′ : List ℕ) (t′ : State) → Made rows columns g s old (stepOf g s (choice false g s) p .moves) list t w′ list′ t′
         → Stepping rows columns g s old origin (source at (width (choice false g s))) list t w w′ list′ (Went (record { state = t′; supply = rest }))

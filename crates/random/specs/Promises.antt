@@ -10,7 +10,8 @@ use lib.ListN.{getD, length}
 use lib.Seq.{sets}
 use Rattle.game.specs.Grid.{Grid, size}
 use Rattle.game.specs.Lists.{keep, range}
-use Rattle.game.specs.Position.{Position, untouched, closedSafe}
+use Rattle.game.specs.Openings.{threeBV}
+use Rattle.game.specs.Position.{Position, closedUnits, untouched}
 use Rattle.game.specs.Moves.{Move, after, left, word}
 use Rattle.game.specs.Calls.{Answer, draws, gives, refuses}
 use Rattle.game.specs.Draws.{Drawn}
@@ -58,12 +59,13 @@ Stepping rows columns g s old origin none list t w w′ list′ r = Dried r w w�
 Stepping rows columns g s old origin (some d) list t w w′ list′ r =
     Went rows columns g s old origin (stepOf g s (choice false g s) (d .place) .moves) (d .next) list t w′ list′ r
 
--- a round was played to its end
+-- a round was played to its end, where no unit is left closed
 pub record Ended (rows columns : ℕ) (g : Grid) (old : List ℤ) (origin : Origin) (o : Round) (list : List ℕ) (w′ : List ℤ) (list′ : List ℕ) (r : Finish) : Type 0 where
   pub supply : Supply
   pub answer : r ≡ Finishes.Ended (length (movesOf (o .steps))) supply
   pub reads : Reads origin (o .next) supply
   pub stands : Stands rows columns g (after g (untouched g) (movesOf (o .steps))) old w′
+  pub none-left : closedUnits g (after g (untouched g) (movesOf (o .steps))) ≡ 0
   pub noted : list′ ≡ sets list 0 (map word (movesOf (o .steps)))
 
 -- the draws ran dry in a round: the area stands for some position, and the list is unchanged past the cells
@@ -79,13 +81,13 @@ abbrev pub Rolling : (rows columns : ℕ) → Grid → List ℤ → Origin → O
 Rolling rows columns g old origin none list w′ list′ r = Broken rows columns g old list w′ list′ r
 Rolling rows columns g old origin (some o) list w′ list′ r = Ended rows columns g old origin o list w′ list′ r
 
--- the area stands for a position of a grid of so many safe cells
-pub record CountsSafe (rows columns : ℕ) (w : List ℤ) (safe : ℕ) : Type 0 where
+-- the area stands for a position of a grid of so many units
+pub record CountsUnits (rows columns : ℕ) (w : List ℤ) (units : ℕ) : Type 0 where
   pub grid : Grid
   pub old : List ℤ
   pub moves : List Move
   pub stands : Stands rows columns grid (after grid (untouched grid) moves) old w
-  pub counts : safe ≡ closedSafe grid (untouched grid)
+  pub counts : units ≡ threeBV grid
 
 -- a round as a search of one
 abbrev pub once : Option Round → Option Searched

@@ -13,7 +13,8 @@ ghost use lib.IntN.{ℤ};
 ghost use lib.ListN.{length};
 ghost use Rattle.area.specs.Numbers.{HasCells};
 ghost use Rattle.game.specs.Grid.{Grid, safe, zeroCell};
-ghost use Rattle.game.specs.Position.{Position, Tidy, closed as isClosed, closedSafe, untouched};
+ghost use Rattle.game.specs.Openings.{threeBV};
+ghost use Rattle.game.specs.Position.{Position, Tidy, closed as isClosed, closedUnits, untouched};
 ghost use Rattle.game.specs.Moves.{Move, after};
 ghost use Rattle.game.specs.Rounds.{choice, stepOf, topCells, width, randomRound, randomSearch, searchFrom};
 ghost use Rattle.draws.specs.Answers.{modeOf};
@@ -22,7 +23,7 @@ ghost use Rattle.supplies.specs.Origins.{KeyRoom, Origin, Reads, Somewhere, sou
 ghost use Rattle.choices.specs.Tops.{TopsKnown, UnitsKnown};
 ghost use Rattle.moves.specs.Promises.{Made};
 ghost use Rattle.rounds.specs.Promises.{MadeKnown, Fresh};
-ghost use Rattle.random.specs.Promises.{CountsSafe, Tells, takenMoves, once, RoundGrows, StepGrows, Stepping, Rolling, Searching};
+ghost use Rattle.random.specs.Promises.{CountsUnits, Tells, takenMoves, once, RoundGrows, StepGrows, Stepping, Rolling, Searching};
 
 // What a step draws among: so many cells, and the highest raised premium; below 10 the step is one L.
 struct Candidates {
@@ -62,7 +63,7 @@ fn take(
     requires { ⌜ Shape rows columns ⌝ }
     requires { ⌜ HasCells (now work) (rows * columns) × (index < rows * columns) × (state .moves ≤ 2 ^ 45) ⌝ }
     ensures { λ r. ⌜ ((g : Grid) (s : Position) (old : List ℤ) → Stands rows columns g s old (now (work .entry)) → Tidy g s
-        → T (safe g index) → (top < 10 → T (isClosed s index) × (topCells false g s ≡ [])) → (10 ≤ top → T (zeroCell g index) → ⊥) → state .closed ≡ closedSafe g s
+        → T (safe g index) → (top < 10 → T (isClosed s index) × (topCells false g s ≡ [])) → (10 ≤ top → T (zeroCell g index) → ⊥) → state .units ≡ closedUnits g s
         → MadeKnown false rows columns g s old (takenMoves g s top index) (now (list .entry)) (now (work .entry)) (now (tops .entry)) state (now (work .exit)) (now (list .exit)) (now (tops .exit)) r) ⌝ }
 {
     if top < 10 {
@@ -106,7 +107,7 @@ fn take_place(
     requires { ⌜ HasCells (now work) (rows * columns) × (state .moves ≤ 2 ^ 45) ⌝ }
     requires { ⌜ TopsKnown false (now work) rows columns (now tops) × UnitsKnown (now work) rows columns (now units) (now units) ⌝ }
     ensures { λ r. ⌜ ((g : Grid) (s : Position) (old : List ℤ) → Stands rows columns g s old (now (work .entry)) → Tidy g s → Tells g s (now (work .entry)) (rows * columns) top
-        → place < width (choice false g s) → state .closed ≡ closedSafe g s
+        → place < width (choice false g s) → state .units ≡ closedUnits g s
         → Made rows columns g s old (stepOf g s (choice false g s) place .moves) (now (list .entry)) state (now (work .exit)) (now (list .exit)) r
         × TopsKnown false (now (work .exit)) rows columns (now (tops .exit))
         × UnitsKnown (now (work .exit)) rows columns (now (tops .exit)) (now (units .exit))) ⌝ }
@@ -134,7 +135,7 @@ pub fn step(
     requires { ⌜ KeyRoom 256 supply ⌝ }
     ensures { λ r. ⌜ StepGrows supply r ⌝ }
     ensures { λ r. ⌜ ((g : Grid) (s : Position) (old : List ℤ) (origin : Origin) (at : ℕ) → Stands rows columns g s old (now (work .entry)) → Tidy g s
-        → 1 ≤ closedSafe g s → state .closed ≡ closedSafe g s → Reads origin at supply
+        → 1 ≤ closedUnits g s → state .units ≡ closedUnits g s → Reads origin at supply
         → Stepping rows columns g s old origin (sourceOf (modeOf mode) (now (draws .entry)) origin at (width (choice false g s))) (now (list .entry)) state (now (work .entry)) (now (work .exit)) (now (list .exit)) r
         × TopsKnown false (now (work .exit)) rows columns (now (tops .exit))
         × UnitsKnown (now (work .exit)) rows columns (now (tops .exit)) (now (units .exit))) ⌝ }
@@ -153,7 +154,7 @@ pub fn step(
     })
 }
 
-// Steps from the position before any move until all safe cells are open.
+// Steps from the position before any move until no unit is closed, and so all safe cells are open.
 fn roll_on(
     work: &mut [i32],
     rows: usize,
@@ -162,25 +163,22 @@ fn roll_on(
     draws: &[u8],
     mode: Mode,
     tops: &mut [u8],
-    units: &mut [u8],
-    safe: usize,
+    column_units: &mut [u8],
+    units: usize,
     supply: Supply,
 ) -> Finish
     requires { ⌜ Shape rows columns ⌝ }
     requires { ⌜ HasCells (now work) (rows * columns) ⌝ }
-    requires { ⌜ Fresh rows columns (now work) safe ⌝ }
+    requires { ⌜ Fresh rows columns (now work) units ⌝ }
     requires { ⌜ KeyRoom (2 ^ 24) supply × Somewhere supply ⌝ }
-    requires { ⌜ TopsKnown false (now work) rows columns (now tops) × UnitsKnown (now work) rows columns (now tops) (now units) ⌝ }
+    requires { ⌜ TopsKnown false (now work) rows columns (now tops) × UnitsKnown (now work) rows columns (now tops) (now «column_units») ⌝ }
     ensures { λ r. ⌜ RoundGrows supply r ⌝ }
-    ensures { λ r. ⌜ ((g : Grid) (old : List ℤ) (origin : Origin) (at : ℕ) → Stands rows columns g (untouched g) old (now (work .entry)) → Reads origin at supply
+    ensures { λ r. ⌜ ((g : Grid) (old : List ℤ) (origin : Origin) (at : ℕ) → Stands rows columns g (untouched g) old (now (work .entry)) → units ≡ threeBV g → Reads origin at supply
         → Rolling rows columns g old origin (randomRound g (sourceOf (modeOf mode) (now (draws .entry)) origin) at) (now (list .entry)) (now (work .exit)) (now (list .exit)) r) ⌝ }
 {
-    let mut state = State {
-        moves: 0,
-        closed: safe,
-    };
+    let mut state = State { moves: 0, units };
     let mut rest = supply;
-    while 0 < state.closed {
+    while 0 < state.units {
         let stepped = step(
             work,
             rows,
@@ -189,7 +187,7 @@ fn roll_on(
             draws,
             mode,
             tops,
-            units,
+            column_units,
             state,
             rest,
         );
@@ -202,7 +200,7 @@ fn roll_on(
     Finish::Ended(state.moves, rest)
 }
 
-// A round from the position before any move, of so many safe cells, that draws from a supply.
+// A round from the position before any move, of so many units, that draws from a supply.
 pub fn round(
     work: &mut [i32],
     rows: usize,
@@ -210,19 +208,19 @@ pub fn round(
     list: &mut [u32],
     draws: &[u8],
     mode: Mode,
-    safe: usize,
+    units: usize,
     supply: Supply,
 ) -> Finish
     requires { ⌜ Shape rows columns ⌝ }
     requires { ⌜ HasCells (now work) (rows * columns) ⌝ }
-    requires { ⌜ Fresh rows columns (now work) safe ⌝ }
+    requires { ⌜ Fresh rows columns (now work) units ⌝ }
     requires { ⌜ KeyRoom (2 ^ 24) supply × Somewhere supply ⌝ }
     ensures { λ r. ⌜ RoundGrows supply r ⌝ }
-    ensures { λ r. ⌜ ((g : Grid) (old : List ℤ) (origin : Origin) (at : ℕ) → Stands rows columns g (untouched g) old (now (work .entry)) → Reads origin at supply
+    ensures { λ r. ⌜ ((g : Grid) (old : List ℤ) (origin : Origin) (at : ℕ) → Stands rows columns g (untouched g) old (now (work .entry)) → units ≡ threeBV g → Reads origin at supply
         → Rolling rows columns g old origin (randomRound g (sourceOf (modeOf mode) (now (draws .entry)) origin) at) (now (list .entry)) (now (work .exit)) (now (list .exit)) r) ⌝ }
 {
     let mut tops = [0u8; 255];
-    let mut units = [0u8; 255];
+    let mut column_units = [0u8; 255];
     roll_on(
         work,
         rows,
@@ -231,8 +229,8 @@ pub fn round(
         draws,
         mode,
         &mut tops,
-        &mut units,
-        safe,
+        &mut column_units,
+        units,
         supply,
     )
 }
@@ -244,19 +242,19 @@ fn unlisted(
     columns: usize,
     draws: &[u8],
     mode: Mode,
-    safe: usize,
+    units: usize,
     supply: Supply,
 ) -> Finish
     requires { ⌜ Shape rows columns ⌝ }
     requires { ⌜ HasCells (now work) (rows * columns) ⌝ }
-    requires { ⌜ Fresh rows columns (now work) safe ⌝ }
+    requires { ⌜ Fresh rows columns (now work) units ⌝ }
     requires { ⌜ KeyRoom (2 ^ 24) supply × Somewhere supply ⌝ }
     ensures { λ r. ⌜ RoundGrows supply r ⌝ }
-    ensures { λ r. ⌜ ((g : Grid) (old : List ℤ) (origin : Origin) (at : ℕ) → Stands rows columns g (untouched g) old (now (work .entry)) → Reads origin at supply
+    ensures { λ r. ⌜ ((g : Grid) (old : List ℤ) (origin : Origin) (at : ℕ) → Stands rows columns g (untouched g) old (now (work .entry)) → units ≡ threeBV g → Reads origin at supply
         → Searching rows columns g old origin (once (randomRound g (sourceOf (modeOf mode) (now (draws .entry)) origin) at)) (now (work .exit)) r) ⌝ }
 {
     let mut none = [0u32; 0];
-    round(work, rows, columns, &mut none, draws, mode, safe, supply)
+    round(work, rows, columns, &mut none, draws, mode, units, supply)
 }
 
 // One more round: the labels stay, and the position is the one before any move again.
@@ -266,19 +264,19 @@ fn again(
     columns: usize,
     draws: &[u8],
     mode: Mode,
-    safe: usize,
+    units: usize,
     supply: Supply,
 ) -> Finish
     requires { ⌜ Shape rows columns ⌝ }
     requires { ⌜ HasCells (now work) (rows * columns) ⌝ }
-    requires { ⌜ CountsSafe rows columns (now work) safe ⌝ }
+    requires { ⌜ CountsUnits rows columns (now work) units ⌝ }
     requires { ⌜ KeyRoom (2 ^ 24) supply × Somewhere supply ⌝ }
     ensures { λ r. ⌜ RoundGrows supply r ⌝ }
-    ensures { λ r. ⌜ ((g : Grid) (s : Position) (old : List ℤ) (origin : Origin) (at : ℕ) → Stands rows columns g s old (now (work .entry)) → Reads origin at supply
+    ensures { λ r. ⌜ ((g : Grid) (s : Position) (old : List ℤ) (origin : Origin) (at : ℕ) → Stands rows columns g s old (now (work .entry)) → units ≡ threeBV g → Reads origin at supply
         → Searching rows columns g old origin (once (randomRound g (sourceOf (modeOf mode) (now (draws .entry)) origin) at)) (now (work .exit)) r) ⌝ }
 {
     start::begin::reset(work, rows, columns);
-    unlisted(work, rows, columns, draws, mode, safe, supply)
+    unlisted(work, rows, columns, draws, mode, units, supply)
 }
 
 // The rounds still to play: none after one that used nothing, since each later one would be the same.
@@ -295,23 +293,23 @@ fn search_on(
     columns: usize,
     draws: &[u8],
     mode: Mode,
-    safe: usize,
+    units: usize,
     clicks: usize,
     supply: Supply,
     more: usize,
 ) -> Finish
     requires { ⌜ Shape rows columns ⌝ }
     requires { ⌜ HasCells (now work) (rows * columns) ⌝ }
-    requires { ⌜ CountsSafe rows columns (now work) safe ⌝ }
+    requires { ⌜ CountsUnits rows columns (now work) units ⌝ }
     requires { ⌜ KeyRoom (2 ^ 24 * more) supply × Somewhere supply ⌝ }
-    ensures { λ r. ⌜ ((g : Grid) (old : List ℤ) (ms : List Move) (origin : Origin) (at : ℕ) → Stands rows columns g (after g (untouched g) ms) old (now (work .entry)) → Reads origin at supply
+    ensures { λ r. ⌜ ((g : Grid) (old : List ℤ) (ms : List Move) (origin : Origin) (at : ℕ) → Stands rows columns g (after g (untouched g) ms) old (now (work .entry)) → units ≡ threeBV g → Reads origin at supply
         → Searching rows columns g old origin (searchFrom more g (sourceOf (modeOf mode) (now (draws .entry)) origin) (record { least = clicks; next = at; moves = ms })) (now (work .exit)) r) ⌝ }
 {
     let mut least = clicks;
     let mut rest = supply;
     let mut left = more;
     while 0 < left {
-        let rolled = again(work, rows, columns, draws, mode, safe, rest);
+        let rolled = again(work, rows, columns, draws, mode, units, rest);
         let Finish::Ended(paid, onward) = rolled else {
             return Finish::Dry;
         };
@@ -329,21 +327,21 @@ pub fn search(
     columns: usize,
     draws: &[u8],
     mode: Mode,
-    safe: usize,
+    units: usize,
     supply: Supply,
     rounds: usize,
 ) -> Finish
     requires { ⌜ Shape rows columns ⌝ }
     requires { ⌜ HasCells (now work) (rows * columns) × (1 ≤ rounds) ⌝ }
-    requires { ⌜ Fresh rows columns (now work) safe ⌝ }
+    requires { ⌜ Fresh rows columns (now work) units ⌝ }
     requires { ⌜ KeyRoom (2 ^ 24 * rounds) supply × Somewhere supply ⌝ }
-    ensures { λ r. ⌜ ((g : Grid) (old : List ℤ) (origin : Origin) → Stands rows columns g (untouched g) old (now (work .entry)) → Reads origin 0 supply
+    ensures { λ r. ⌜ ((g : Grid) (old : List ℤ) (origin : Origin) → Stands rows columns g (untouched g) old (now (work .entry)) → units ≡ threeBV g → Reads origin 0 supply
         → Searching rows columns g old origin (randomSearch g (sourceOf (modeOf mode) (now (draws .entry)) origin) rounds) (now (work .exit)) r) ⌝ }
 {
-    let rolled = unlisted(work, rows, columns, draws, mode, safe, supply);
+    let rolled = unlisted(work, rows, columns, draws, mode, units, supply);
     let Finish::Ended(clicks, rest) = rolled else {
         return Finish::Dry;
     };
     let more = rounds_left(rounds - 1, supply.used, rest.used);
-    search_on(work, rows, columns, draws, mode, safe, clicks, rest, more)
+    search_on(work, rows, columns, draws, mode, units, clicks, rest, more)
 }

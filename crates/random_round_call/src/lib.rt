@@ -58,9 +58,8 @@ fn roll(
     ensures { λ r. ⌜ ((origin : Origin) → Reads origin 0 supply → HandsOn origin r
         × KeepsList (roundBy (sourceOf (modeOf mode) (now (draws .entry)) origin) (gridOf rows columns (now (grid .entry))) (now (work .entry)) (now (list .entry))) (finishAnswer r) (now (work .exit)) (now (list .exit))) ⌝ }
 {
-    let counts = start::begin::set_up(grid, rows, columns, work);
-    let safe = counts.safe;
-    let finish = random::round(work, rows, columns, list, draws, mode, safe, supply);
+    let units = start::begin::set_up(grid, rows, columns, work);
+    let finish = random::round(work, rows, columns, list, draws, mode, units, supply);
     end_round(finish, rows, columns, work, list);
     finish
 }

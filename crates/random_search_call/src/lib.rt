@@ -56,9 +56,8 @@ fn search(
     ensures { λ r. ⌜ ((origin : Origin) → Reads origin 0 supply → HandsOn origin r
         × Keeps (searchBy (sourceOf (modeOf mode) (now (draws .entry)) origin) rounds (gridOf rows columns (now (grid .entry))) (now (work .entry))) (finishAnswer r) (now (work .exit))) ⌝ }
 {
-    let counts = start::begin::set_up(grid, rows, columns, work);
-    let safe = counts.safe;
-    let finish = random::search(work, rows, columns, draws, mode, safe, supply, rounds);
+    let units = start::begin::set_up(grid, rows, columns, work);
+    let finish = random::search(work, rows, columns, draws, mode, units, supply, rounds);
     end_search(finish, rows, columns, work);
     finish
 }

@@ -1,57 +1,30 @@
 -- From a position on: the first steps, then those by premium. A whole round has at most as many moves as cells, so its list is written in order. Assumes nothing.
-use Prim.Native.Nat.{ℕ, _*_, _<_, _≤_}
+use Prim.Native.Nat.{ℕ, _*_, _≤_}
 use native.Mathlib.Omega.{arith}
 use native.Mathlib.Nat.{zero-add}
-use mathlib.Core.Path.{_∙_, _≡_, ap, ap₂, refl, sym}
-use mathlib.Core.Bool.{Bool, _&&_, false, not, true}
+use mathlib.Core.Path.{_∙_, _≡_, ap, ap₂, sym}
+use mathlib.Core.Bool.{Bool, false, true}
 use mathlib.Core.List.{List, _++_, map}
-use lib.Dec.{T, eqb}
 use lib.IntN.{ℤ}
 use lib.ListN.{drop, length, length-map}
 use lib.Seq.{sets, sets-eq}
-use Rattle.area.proofs.Held.{content-mine}
-use Rattle.area.specs.Numbers.{contentAt, stateAt}
 use Rattle.moves.specs.declared.State.{State}
 use Rattle.area.specs.Stages.{Stands}
 use Rattle.game.specs.Area.{listOf}
 use Rattle.game.specs.Demands.{Sound}
-use Rattle.game.specs.Grid.{Grid, cells, safe}
-use Rattle.game.specs.Lists.{count, has, range}
+use Rattle.game.specs.Grid.{Grid, cells}
 use Rattle.game.specs.Moves.{Move, after, word}
-use Rattle.game.specs.Position.{Position, Tidy, closedSafe, closedUnits, unopened, untouched}
+use Rattle.game.specs.Openings.{threeBV}
+use Rattle.game.specs.Position.{Position, Tidy, closedUnits, untouched}
 use Rattle.game.specs.Rounds.{firstSteps, movesOf, openingClicks, roundSteps, stepsFrom, stepsOn}
 use Rattle.moves.specs.Promises.{Made}
 use Rattle.rounds.specs.Promises.{Fresh, Going, RoundPlayed}
-use Rattle.game.proofs.Counts.{count-ext}
 use Rattle.game.proofs.Onwards.{first-falls, round-on}
 use Rattle.game.proofs.Rounds.{greedy-sound, openings-first-sound}
 use Rattle.game.proofs.Runs.{moves-append}
-use Rattle.game.proofs.Squares.{cells→}
 use Rattle.game.proofs.Tidy.{untouched-tidy}
-use Rattle.play.proofs.Reveals.{content-read, state-read}
+use Rattle.game.proofs.Units.{units-untouched}
 use Rattle.moves.proofs.Joins.{made-both, made-none}
-
--- ---- one work area stands for positions with as many closed safe cells
-
-module _ (rows columns : ℕ) (g k : Grid) (s p : Position) (old other w : List ℤ) (st : Stands rows columns g s old w) (su : Stands rows columns k p other w) where
-  cells-alike : cells g ≡ cells k
-  cells-alike =
-      ap (range 0) (ap₂ _*_ (st .rows-are) (st .columns-are) ∙ sym (ap₂ _*_ (su .rows-are) (su .columns-are)))
-
-  pub closed-alike : closedSafe g s ≡ closedSafe k p
-  unfolding closedSafe
-  closed-alike =
-      count-ext (λ i. safe g i && unopened s i) (λ i. safe k i && unopened p i) (cells g) alike
-      ∙ ap (count (λ i. safe k i && unopened p i)) cells-alike
-    where
-      alike : (i : ℕ) → T (has i (cells g)) → (safe g i && unopened s i) ≡ (safe k i && unopened p i)
-      alike i t =
-          let h : i < rows * columns = omega (arith, cells→ g i t, ap₂ _*_ (st .rows-are) (st .columns-are)) in
-          let a = content-read rows columns g s old w i h st (contentAt w i) refl in
-          let b = content-read rows columns k p other w i h su (contentAt w i) refl in
-          let c = state-read rows columns g s old w i h st (stateAt w i) refl in
-          let d = state-read rows columns k p other w i h su (stateAt w i) refl in
-          ap₂ (λ x y. not x && not (eqb y 1)) (sym (content-mine g i) ∙ ap (λ (n : ℕ). eqb n 0) (sym a ∙ b) ∙ content-mine k i) (sym c ∙ d)
 
 -- ---- the first steps
 
@@ -61,23 +34,23 @@ module _ (rows columns : ℕ) (g : Grid) (s : Position) (old : List ℤ) (list :
       → Made rows columns g s old (movesOf (firstSteps first g s)) list t w′ list′ t′
   begun-first first w′ list′ t′ e m = rw e m
 
-  pub begun-bare : (first : Bool) (w : List ℤ) → first ≡ false → Stands rows columns g s old w → Tidy g s → t .closed ≡ closedSafe g s
+  pub begun-bare : (first : Bool) (w : List ℤ) → first ≡ false → Stands rows columns g s old w → Tidy g s → t .units ≡ closedUnits g s
       → Made rows columns g s old (movesOf (firstSteps first g s)) list t w list t
   begun-bare first w e st f c = rw e (made-none rows columns g s old w list t st f c)
 
 -- the work area after some moves
 pub still-going : (rows columns : ℕ) (w : List ℤ) (list : List ℕ) (w′ : List ℤ) (list′ : List ℕ) (t t′ : State) (begins : Grid → Position → List Move) → Going rows columns w t
-    → ((g : Grid) (s : Position) (old : List ℤ) → Stands rows columns g s old w → Tidy g s → t .closed ≡ closedSafe g s → Made rows columns g s old (begins g s) list t w′ list′ t′)
+    → ((g : Grid) (s : Position) (old : List ℤ) → Stands rows columns g s old w → Tidy g s → t .units ≡ closedUnits g s → Made rows columns g s old (begins g s) list t w′ list′ t′)
     → Going rows columns w′ t′
 still-going rows columns w list w′ list′ t t′ begins u q =
     let m = q (u .grid) (u .position) (u .old) (u .stands) (u .tidy) (u .counts) in
-    record { grid = u .grid; position = after (u .grid) (u .position) (begins (u .grid) (u .position)); old = u .old; stands = m .stands; tidy = m .tidy; counts = m .left-closed }
+    record { grid = u .grid; position = after (u .grid) (u .position) (begins (u .grid) (u .position)); old = u .old; stands = m .stands; tidy = m .tidy; counts = m .left-units }
 
 -- ---- from a position on
 
 pub went-on : (rows columns : ℕ) (g : Grid) (s : Position) (old : List ℤ) (first : Bool) (list : List ℕ) (t : State) (v : List ℤ) (l : List ℕ) (u : State) (w′ : List ℤ) (list′ : List ℕ) (t′ : State)
     → Tidy g s → Made rows columns g s old (movesOf (firstSteps first g s)) list t v l u
-    → ((p : Position) (n : ℕ) → Stands rows columns g p old v → Tidy g p → u .closed ≡ closedSafe g p → closedUnits g p ≤ n → Made rows columns g p old (movesOf (stepsFrom n first g p)) l u w′ list′ t′)
+    → ((p : Position) (n : ℕ) → Stands rows columns g p old v → Tidy g p → u .units ≡ closedUnits g p → closedUnits g p ≤ n → Made rows columns g p old (movesOf (stepsFrom n first g p)) l u w′ list′ t′)
     → Made rows columns g s old (movesOf (stepsOn first g s)) list t w′ list′ t′
 unfolding stepsOn
 went-on rows columns g s old first list t v l u w′ list′ t′ f a ends =
@@ -85,7 +58,7 @@ went-on rows columns g s old first list t v l u w′ list′ t′ f a ends =
     let rest = stepsFrom (closedUnits g s) first g hit in
     rw (moves-append (firstSteps first g s) rest)
     (made-both rows columns g s old (movesOf (firstSteps first g s)) (movesOf rest) list t v l u w′ list′ t′ a
-    (ends hit (closedUnits g s) (a .stands) (a .tidy) (a .left-closed) (first-falls first g s f)))
+    (ends hit (closedUnits g s) (a .stands) (a .tidy) (a .left-units) (first-falls first g s f)))
 
 -- ---- the round
 
@@ -100,23 +73,23 @@ listed-moves ms list h =
     sets-eq (map word ms) list 0 (omega (arith, length-map ms word)) ∙ ap (λ (k : ℕ). map word ms ++ drop k list) (zero-add (length (map word ms)))
 
 -- the untouched position is one to go on from
-pub fresh-going : (rows columns : ℕ) (w : List ℤ) (t : State) → Fresh rows columns w (t .closed) → Going rows columns w t
+pub fresh-going : (rows columns : ℕ) (w : List ℤ) (t : State) → Fresh rows columns w (t .units) → Going rows columns w t
 fresh-going rows columns w t f =
-    record { grid = f .grid; position = untouched (f .grid); old = f .old; stands = f .stands; tidy = untouched-tidy (f .grid); counts = f .counts }
+    record { grid = f .grid; position = untouched (f .grid); old = f .old; stands = f .stands; tidy = untouched-tidy (f .grid); counts = f .counts ∙ sym (units-untouched (f .grid)) }
 
 pub rounded : (rows columns : ℕ) (g : Grid) (old w : List ℤ) (first : Bool) (list : List ℕ) (t : State) (w′ : List ℤ) (list′ : List ℕ) (t′ : State)
-    → Fresh rows columns w (t .closed) → Stands rows columns g (untouched g) old w → rows * columns ≤ length list
-    → (Tidy g (untouched g) → t .closed ≡ closedSafe g (untouched g)
+    → Stands rows columns g (untouched g) old w → t .units ≡ threeBV g → rows * columns ≤ length list
+    → (Tidy g (untouched g) → t .units ≡ closedUnits g (untouched g)
     → Made rows columns g (untouched g) old (movesOf (stepsOn first g (untouched g))) list t w′ list′ t′)
     → t .moves ≡ 0 → RoundPlayed rows columns g old (movesOf (roundSteps first g)) list (t′ .moves) w′ list′
-rounded rows columns g old w first list t w′ list′ t′ f st room goes none =
+rounded rows columns g old w first list t w′ list′ t′ st units room goes none =
     let ms = movesOf (roundSteps first g) in
     let m : Made rows columns g (untouched g) old ms list t w′ list′ t′ =
-    rw (round-on first g)
-    (goes (untouched-tidy g) (f .counts ∙ closed-alike rows columns (f .grid) g (untouched (f .grid)) (untouched g) (f .old) old w (f .stands) st)) in
+    rw (round-on first g) (goes (untouched-tidy g) (units ∙ sym (units-untouched g))) in
     let d = round-sound first g in
     record {
       clicks = omega (arith, m .clicks);
       stands = m .stands;
+      none-left = d .finished;
       listed = m .noted ∙ ap (λ (k : ℕ). sets list k (map word ms)) none ∙ listed-moves ms list (omega (arith, d .at-most-units, d .units-at-most, ap₂ _*_ (st .rows-are) (st .columns-are)));
     }

@@ -14,7 +14,7 @@ use Rattle.choices.specs.Tests.{NoUnitBelow, unitAt}
 use Rattle.game.specs.Grid.{Grid, cells, columnOf, rowOf, safe, size, zeroCell}
 use Rattle.game.specs.Moves.{after}
 use Rattle.game.specs.Openings.{unlabelled}
-use Rattle.game.specs.Position.{Position, Tidy, closed, closedSafe}
+use Rattle.game.specs.Position.{Position, Tidy, closed, closedUnits}
 use Rattle.game.specs.Rounds.{Choice, afterStep, choice, chords, clicks, closedUnitCell, stepOf, topCells, unitCells, width}
 use Rattle.choices.proofs.Held.{unit-there}
 use Rattle.choices.proofs.Passing.{first-there}
@@ -22,6 +22,7 @@ use Rattle.game.proofs.Choices.{never-stuck}
 use Rattle.game.proofs.Falls.{step-fewer}
 use Rattle.game.proofs.Members.{getD-has, keep-has}
 use Rattle.game.proofs.Reveal.{Fewer}
+use Rattle.game.proofs.Rounds.{safe-left}
 use Rattle.game.proofs.Runs.{choice-fits}
 use Rattle.game.proofs.Squares.{cells→, column-lt, index-of}
 use Rattle.game.proofs.Truth.{and-both, and-left, and-right}
@@ -62,14 +63,15 @@ first-low rows columns g s old w st h =
 
 -- the column lies on the grid after the step too, and no closed unit comes back before it
 pub low-goes-on : (openedOnly : Bool) (rows columns : ℕ) (g : Grid) (s : Position) (old w w′ : List ℤ) (from to : ℕ) → Stands rows columns g s old w → Tidy g s
-    → Stands rows columns g (after g s (stepOf g s (choice openedOnly g s) 0 .moves)) old w′ → 1 ≤ closedSafe g s → to ≡ columnAfter g (choice openedOnly g s) from
+    → Stands rows columns g (after g s (stepOf g s (choice openedOnly g s) 0 .moves)) old w′ → 1 ≤ closedUnits g s → to ≡ columnAfter g (choice openedOnly g s) from
     → (from ≤ columns) × NoUnitBelow w (from * rows) → (to ≤ columns) × NoUnitBelow w′ (to * rows)
 unfolding choice
 low-goes-on openedOnly rows columns g s old w w′ from to st f st′ h e n =
-    let k : (to ≤ columns) × NoUnitBelow w (to * rows) = rw e (go (topCells openedOnly g s) (never-stuck openedOnly g s f h)) in (
+    let some = never-stuck openedOnly g s f (safe-left g s f h) in
+    let k : (to ≤ columns) × NoUnitBelow w (to * rows) = rw e (go (topCells openedOnly g s) some) in (
       k .0,
       low-stays rows columns g s old w w′ (afterStep g s (stepOf g s (choice openedOnly g s) 0)) (to * rows) st st′
-          (step-fewer g s (stepOf g s (choice openedOnly g s) 0) f (choice-fits openedOnly g s 0 (never-stuck openedOnly g s f h))) (omega (arith, mul-le-mul-right rows (k .0))) (k .1),
+          (step-fewer g s (stepOf g s (choice openedOnly g s) 0) f (choice-fits openedOnly g s 0 some)) (omega (arith, mul-le-mul-right rows (k .0))) (k .1),
     )
   where
     go : (ts : List ℕ) → 1 ≤ width (elim ts as (λ _. Choice) [ [] ↦ clicks (unitCells g s) | x ∷ xs ↦ chords (x ∷ xs) ])

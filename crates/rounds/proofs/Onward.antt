@@ -14,7 +14,7 @@ use Rattle.game.specs.Rounds.{Step, afterStep, choice, movesOf, stepOf, stepsFr
 use Rattle.moves.specs.Promises.{Made}
 use Rattle.rounds.specs.Promises.{Going}
 use Rattle.game.proofs.Choices.{never-stuck}
-use Rattle.game.proofs.Rounds.{steps-none, steps-on}
+use Rattle.game.proofs.Rounds.{all-done, safe-left, steps-none, steps-on}
 use Rattle.game.proofs.Runs.{Fits, choice-fits}
 use Rattle.game.proofs.Narrow.{after-append}
 use Rattle.moves.proofs.Partway.{Partway, partway-begins, partway-falls, partway-goes-on}
@@ -22,7 +22,7 @@ use Rattle.moves.proofs.Partway.{Partway, partway-begins, partway-falls, partwa
 -- one step was made, whatever tidy position w stood for
 abbrev pub Stepping : Bool → (rows columns : ℕ) → List ℤ → List ℕ → State → List ℤ → List ℕ → State → Type 0
 Stepping openedOnly rows columns w list t w′ list′ t′ =
-    (g : Grid) (s : Position) (old : List ℤ) → Stands rows columns g s old w → Tidy g s → 1 ≤ closedSafe g s → t .closed ≡ closedSafe g s
+    (g : Grid) (s : Position) (old : List ℤ) → Stands rows columns g s old w → Tidy g s → 1 ≤ closedUnits g s → t .units ≡ closedUnits g s
     → Made rows columns g s old (stepOf g s (choice openedOnly g s) 0 .moves) list t w′ list′ t′
 
 -- the moves of n steps at most are those done, and those of k steps at most that are still to come
@@ -31,7 +31,7 @@ pub record Left (openedOnly : Bool) (g : Grid) (s : Position) (n : ℕ) (done : 
 
 -- whatever tidy position the steps began with
 pub record StepsMidway (openedOnly : Bool) (rows columns : ℕ) (w : List ℤ) (list : List ℕ) (t : State) (w′ : List ℤ) (list′ : List ℕ) (t′ : State) : Type 0 where
-  pub partway : (g : Grid) (s : Position) (old : List ℤ) (n : ℕ) → Stands rows columns g s old w → Tidy g s → t .closed ≡ closedSafe g s → closedUnits g s ≤ n
+  pub partway : (g : Grid) (s : Position) (old : List ℤ) (n : ℕ) → Stands rows columns g s old w → Tidy g s → t .units ≡ closedUnits g s → closedUnits g s ≤ n
       → Partway rows columns g s old list t (Left openedOnly g s n) w′ list′ t′
 
 module _ (openedOnly : Bool) (rows columns : ℕ) (w : List ℤ) (list : List ℕ) (t : State) where
@@ -44,45 +44,48 @@ module _ (openedOnly : Bool) (rows columns : ℕ) (w : List ℤ) (list : List �
     pub known : (o : Going rows columns w t) → Partway rows columns (o .grid) (o .position) (o .old) list t (Left openedOnly (o .grid) (o .position) (closedUnits (o .grid) (o .position))) v l u
     known o = m .partway (o .grid) (o .position) (o .old) (closedUnits (o .grid) (o .position)) (o .stands) (o .tidy) (o .counts) (omega arith)
 
-    pub midway-ends : u .closed ≡ 0 → (g : Grid) (s : Position) (old : List ℤ) (n : ℕ) → Stands rows columns g s old w → Tidy g s → t .closed ≡ closedSafe g s → closedUnits g s ≤ n
+    pub midway-ends : u .units ≡ 0 → (g : Grid) (s : Position) (old : List ℤ) (n : ℕ) → Stands rows columns g s old w → Tidy g s → t .units ≡ closedUnits g s → closedUnits g s ≤ n
         → Made rows columns g s old (movesOf (stepsFrom n openedOnly g s)) list t v l u
     midway-ends z g s old n st f e k =
         let o = m .partway g s old n st f e k in
-        let y = steps-none (o .left-over) openedOnly g (after g s (o .done)) (sym (o .made .left-closed) ∙ z) in
+        let y = steps-none (o .left-over) openedOnly g (after g s (o .done)) (all-done g (after g s (o .done)) (o .made .tidy) (omega (arith, o .made .left-units))) in
         subst (λ (ms : List Move). Made rows columns g s old ms list t v l u)
         (sym (o .rest .all ∙ ap (λ (ts : List Step). o .done ++ movesOf ts) y ∙ append-nil (o .done))) (o .made)
 
-    module _ (w′ : List ℤ) (list′ : List ℕ) (t′ : State) (q : Stepping openedOnly rows columns v l u w′ list′ t′) (h : 0 < u .closed) where
+    module _ (w′ : List ℤ) (list′ : List ℕ) (t′ : State) (q : Stepping openedOnly rows columns v l u w′ list′ t′) (h : 0 < u .units) where
       module _ (g : Grid) (s : Position) (old : List ℤ) (n : ℕ) (o : Partway rows columns g s old list t (Left openedOnly g s n) v l u) where
         abbrev here : Position
         here = after g s (o .done)
 
-        some-closed : 1 ≤ closedSafe g here
-        some-closed = omega (arith, o .made .left-closed)
+        some-closed : 1 ≤ closedUnits g here
+        some-closed = omega (arith, o .made .left-units)
+
+        some-safe : 1 ≤ closedSafe g here
+        some-safe = safe-left g here (o .made .tidy) some-closed
 
         abbrev next : Step
         next = stepOf g here (choice openedOnly g here) 0
 
         fits : Fits g here next
-        fits = choice-fits openedOnly g here 0 (never-stuck openedOnly g here (o .made .tidy) some-closed)
+        fits = choice-fits openedOnly g here 0 (never-stuck openedOnly g here (o .made .tidy) some-safe)
 
         stepped : Made rows columns g here old (next .moves) l u w′ list′ t′
-        stepped = q g here old (o .made .stands) (o .made .tidy) some-closed (o .made .left-closed)
+        stepped = q g here old (o .made .stands) (o .made .tidy) some-closed (o .made .left-units)
 
-        falls : t′ .closed < u .closed
+        falls : t′ .units < u .units
         falls = partway-falls rows columns g s old list t (Left openedOnly g s n) v l u o next fits w′ list′ t′ stepped
 
         onward : Partway rows columns g s old list t (Left openedOnly g s n) w′ list′ t′
         onward =
             partway-goes-on rows columns g s old list t (Left openedOnly g s n) v l u o next fits w′ list′ t′ stepped (Left openedOnly g s n) (λ k r.
             record {
-              all = r .all ∙ ap (λ (ts : List Step). o .done ++ movesOf ts) (steps-on k openedOnly g here some-closed)
+              all = r .all ∙ ap (λ (ts : List Step). o .done ++ movesOf ts) (steps-on k openedOnly g here some-safe)
                   ∙ sym (append-assoc (o .done) (next .moves) (movesOf (stepsFrom k openedOnly g (afterStep g here next))))
                   ∙ ap (λ (y : Position). (o .done ++ next .moves) ++ movesOf (stepsFrom k openedOnly g y)) (sym (after-append g (o .done) (next .moves) s));
             })
 
-      pub closed-falls : Going rows columns w t → t′ .closed < u .closed
-      closed-falls o = falls (o .grid) (o .position) (o .old) (closedUnits (o .grid) (o .position)) (known o)
+      pub units-fall : Going rows columns w t → t′ .units < u .units
+      units-fall o = falls (o .grid) (o .position) (o .old) (closedUnits (o .grid) (o .position)) (known o)
 
       pub midway-goes-on : StepsMidway openedOnly rows columns w list t w′ list′ t′
       midway-goes-on = record { partway = λ g s old n st f e k. onward g s old n (m .partway g s old n st f e k) }

@@ -14,11 +14,12 @@ use Rattle.choices.specs.Picks.{foundFirst}
 use Rattle.game.specs.Grid.{Grid, columnOf, safe, zeroCell}
 use Rattle.game.specs.Lists.{has}
 use Rattle.game.specs.Moves.{Move, left}
-use Rattle.game.specs.Position.{Position, Tidy, closed, closedSafe}
+use Rattle.game.specs.Position.{Position, Tidy, closed, closedUnits}
 use Rattle.game.specs.Rounds.{Choice, choice, chords, clicks, movesAt, stepOf, topCells, unitCells, width}
 use Rattle.game.proofs.Choices.{choice-none, looked→, never-stuck, premium-pays, top→, unit→}
 use Rattle.game.proofs.Legal.{zero-poor}
 use Rattle.game.proofs.Members.{has-head}
+use Rattle.game.proofs.Rounds.{safe-left}
 use Rattle.rounds.specs.Promises.{columnAfter}
 
 -- what was found is the first
@@ -83,11 +84,11 @@ module _ (rows columns : ℕ) (w : List ℤ) (r : Found) where
           go [] h m = absurd (h .0)
           go (x ∷ xs) h m = rw (h .1) m
 
-      pub click-taken : Tidy g s → 1 ≤ closedSafe g s → r ≡ Nothing
+      pub click-taken : Tidy g s → 1 ≤ closedUnits g s → r ≡ Nothing
           → (1 ≤ length (unitCells g s) → topCells openedOnly g s ≡ [] → P (left (getD (unitCells g s) 0 0) ∷ []) (columnOf g (getD (unitCells g s) 0 0)))
           → P (stepOf g s (choice openedOnly g s) 0 .moves) (columnAfter g (choice openedOnly g s) from)
       click-taken p h e q =
           let z = found-none (topCells openedOnly g s) r e f in
           let n = choice-none openedOnly g s z in
-          let l : 1 ≤ length (unitCells g s) = subst (λ (c : Choice). 1 ≤ width c) n (never-stuck openedOnly g s p h) in
+          let l : 1 ≤ length (unitCells g s) = subst (λ (c : Choice). 1 ≤ width c) n (never-stuck openedOnly g s p (safe-left g s p h)) in
           rw n (q l z)

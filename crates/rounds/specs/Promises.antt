@@ -6,7 +6,8 @@ use mathlib.Core.List.{List}
 use lib.IntN.{ℤ}
 use lib.ListN.{getD, length}
 use Rattle.game.specs.Grid.{Grid, columnOf}
-use Rattle.game.specs.Position.{Position, Tidy, untouched, closedSafe}
+use Rattle.game.specs.Openings.{threeBV}
+use Rattle.game.specs.Position.{Position, Tidy, untouched, closedUnits}
 use Rattle.game.specs.Moves.{Move, after}
 use Rattle.game.specs.Area.{listOf}
 use Rattle.game.specs.Rounds.{Choice, choice, chords, clicks, stepOf}
@@ -33,24 +34,25 @@ pub record StepKnown (openedOnly : Bool) (rows columns : ℕ) (g : Grid) (s : Po
   pub kept : TopsKnown openedOnly w′ rows columns tops′
   pub column : r .from ≡ columnAfter g (choice openedOnly g s) from
 
--- a state that counts the safe cells still closed in a tidy position that the area stands for
+-- a state that keeps the closed units of a tidy position that the area stands for
 pub record Going (rows columns : ℕ) (w : List ℤ) (t : State) : Type 0 where
   pub grid : Grid
   pub position : Position
   pub old : List ℤ
   pub stands : Stands rows columns grid position old w
   pub tidy : Tidy grid position
-  pub counts : t .closed ≡ closedSafe grid position
+  pub counts : t .units ≡ closedUnits grid position
 
--- the area stands for an untouched grid of so many safe cells
-pub record Fresh (rows columns : ℕ) (w : List ℤ) (safe : ℕ) : Type 0 where
+-- the area stands for an untouched grid of so many units
+pub record Fresh (rows columns : ℕ) (w : List ℤ) (units : ℕ) : Type 0 where
   pub grid : Grid
   pub old : List ℤ
   pub stands : Stands rows columns grid (untouched grid) old w
-  pub counts : safe ≡ closedSafe grid (untouched grid)
+  pub counts : units ≡ threeBV grid
 
--- a round of the moves ms: its clicks, the area at its end, and the list with its moves
+-- a round of the moves ms: its clicks, the area at its end, where no unit is left closed, and the list with its moves
 pub record RoundPlayed (rows columns : ℕ) (g : Grid) (old : List ℤ) (ms : List Move) (list : List ℕ) (r : ℕ) (w′ : List ℤ) (list′ : List ℕ) : Type 0 where
   pub clicks : r ≡ length ms
   pub stands : Stands rows columns g (after g (untouched g) ms) old w′
+  pub none-left : closedUnits g (after g (untouched g) ms) ≡ 0
   pub listed : list′ ≡ listOf ms list

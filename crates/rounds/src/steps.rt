@@ -12,7 +12,7 @@ ghost use lib.ListN.{length, getD};
 ghost use lib.Dec.{T};
 ghost use Rattle.area.specs.Numbers.{HasCells};
 ghost use Rattle.game.specs.Grid.{Grid, columnOf, safe, zeroCell};
-ghost use Rattle.game.specs.Position.{Position, Tidy, closed as isClosed, closedSafe};
+ghost use Rattle.game.specs.Position.{Position, Tidy, closed as isClosed, closedUnits};
 ghost use Rattle.game.specs.Moves.{left};
 ghost use Rattle.game.specs.Rounds.{movesAt, topCells, unitCells};
 ghost use Rattle.area.specs.Stages.{Shape, Stands, Standing};
@@ -33,7 +33,7 @@ pub fn click_at(
     requires { ⌜ Shape rows columns ⌝ }
     requires { ⌜ HasCells (now work) (rows * columns) × (index < rows * columns) × (state .moves ≤ 2 ^ 45) ⌝ }
     ensures { λ r. ⌜ ((openedOnly : Bool) (g : Grid) (s : Position) (old : List ℤ) → Stands rows columns g s old (now (work .entry)) → Tidy g s
-        → T (safe g index) → T (isClosed s index) → topCells openedOnly g s ≡ [] → state .closed ≡ closedSafe g s
+        → T (safe g index) → T (isClosed s index) → topCells openedOnly g s ≡ [] → state .units ≡ closedUnits g s
         → MadeKnown openedOnly rows columns g s old (left index ∷ []) (now (list .entry)) (now (work .entry)) (now (tops .entry)) state (now (work .exit)) (now (list .exit)) (now (tops .exit)) r) ⌝ }
 {
     marks::mark_click(work, rows, columns, tops, index);
@@ -53,7 +53,7 @@ pub fn act_at(
     requires { ⌜ Shape rows columns ⌝ }
     requires { ⌜ HasCells (now work) (rows * columns) × (index < rows * columns) × (state .moves ≤ 2 ^ 45) ⌝ }
     ensures { λ r. ⌜ ((openedOnly : Bool) (g : Grid) (s : Position) (old : List ℤ) → Stands rows columns g s old (now (work .entry)) → Tidy g s
-        → T (safe g index) → (T (zeroCell g index) → ⊥) → state .closed ≡ closedSafe g s
+        → T (safe g index) → (T (zeroCell g index) → ⊥) → state .units ≡ closedUnits g s
         → MadeKnown openedOnly rows columns g s old (movesAt g s index) (now (list .entry)) (now (work .entry)) (now (tops .entry)) state (now (work .exit)) (now (list .exit)) (now (tops .exit)) r) ⌝ }
 {
     marks::mark(work, rows, columns, tops, index);
@@ -74,7 +74,7 @@ pub fn click_lowest(
     requires { ⌜ HasCells (now work) (rows * columns) × (state .moves ≤ 2 ^ 45) × (from ≤ columns) × NoUnitBelow (now work) (from * rows) ⌝ }
     requires { ⌜ Standing rows columns (now work) ⌝ }
     ensures { λ r. ⌜ ((openedOnly : Bool) (g : Grid) (s : Position) (old : List ℤ) → Stands rows columns g s old (now (work .entry)) → Tidy g s
-        → 1 ≤ length (unitCells g s) → topCells openedOnly g s ≡ [] → state .closed ≡ closedSafe g s
+        → 1 ≤ length (unitCells g s) → topCells openedOnly g s ≡ [] → state .units ≡ closedUnits g s
         → MadeKnown openedOnly rows columns g s old (left (getD (unitCells g s) 0 0) ∷ []) (now (list .entry)) (now (work .entry)) (now (tops .entry)) state (now (work .exit)) (now (list .exit)) (now (tops .exit)) (r .state)
         × (r .from ≡ columnOf g (getD (unitCells g s) 0 0))) ⌝ }
 {
@@ -108,7 +108,7 @@ pub fn step(
     requires { ⌜ TopsKnown «opened_only» (now work) rows columns (now tops) ⌝ }
     requires { ⌜ Standing rows columns (now work) ⌝ }
     ensures { λ r. ⌜ ((g : Grid) (s : Position) (old : List ℤ) → Stands rows columns g s old (now (work .entry)) → Tidy g s
-        → 1 ≤ closedSafe g s → state .closed ≡ closedSafe g s
+        → 1 ≤ closedUnits g s → state .units ≡ closedUnits g s
         → StepKnown «opened_only» rows columns g s old (now (list .entry)) state from (now (work .exit)) (now (list .exit)) (now (tops .exit)) r) ⌝ }
 {
     let found = choices::known::best(work, rows, columns, tops, opened_only);

@@ -53,14 +53,18 @@ module _ (g : Grid) (old : List ℤ) (room : HasCells old (size g)) where
       ap (λ (b : Bool). b && eqb (firstAt w i) 0) (safe-there i h)
       ∙ ap (λ (k : ℕ). safe g i && eqb k 0) (read-first (size g) old room (labelledCell g) i h) ∙ sym (first-label g i)
 
-  -- what is counted in a labelled area
-  counted : (length (openings g) + count (unlabelledAt w) (cells g) ≡ threeBV g) × (count (safeAt w) (cells g) ≡ closedSafe g (untouched g))
-  unfolding threeBV closedSafe
-  counted = (
-    ap (λ (n : ℕ). length (openings g) + n) (count-ext (unlabelledAt w) (unlabelled g) (cells g) (λ i t. unlabelled-there i (cells→ g i t))),
-    count-ext (safeAt w) (λ i. safe g i && unopened (untouched g) i) (cells g) (λ i t.
-        safe-there i (cells→ g i t) ∙ and-true (safe g i) ∙ ap (λ (b : Bool). safe g i && b) (sym (unopened-untouched g i (cells→ g i t)))),
-  )
+  -- what is counted in a labelled area: the units
+  units-counted : length (openings g) + count (unlabelledAt w) (cells g) ≡ threeBV g
+  unfolding threeBV
+  units-counted =
+      ap (λ (n : ℕ). length (openings g) + n) (count-ext (unlabelledAt w) (unlabelled g) (cells g) (λ i t. unlabelled-there i (cells→ g i t)))
+
+  -- for a replay the safe cells
+  safe-counted : count (safeAt w) (cells g) ≡ closedSafe g (untouched g)
+  unfolding closedSafe
+  safe-counted =
+      count-ext (safeAt w) (λ i. safe g i && unopened (untouched g) i) (cells g) (λ i t.
+      safe-there i (cells→ g i t) ∙ and-true (safe g i) ∙ ap (λ (b : Bool). safe g i && b) (sym (unopened-untouched g i (cells→ g i t))))
 
   -- a labelled area is set out for a replay
   pub set-out : (w₁ : List ℤ) (s : ℕ) → Shape (g .rows) (g .columns) → w₁ ≡ laid (labelledFive g) (size g) old → s ≡ count (safeAt w₁) (cells g)
@@ -69,7 +73,7 @@ module _ (g : Grid) (old : List ℤ) (room : HasCells old (size g)) where
   set-out w₁ s h e k =
       let q = e ∙ labelled-cells g old in
       record {
-        safe = k ∙ ap (λ (v : List ℤ). count (safeAt v) (cells g)) q ∙ counted .1;
+        safe = k ∙ ap (λ (v : List ℤ). count (safeAt v) (cells g)) q ∙ safe-counted;
         moving = record {
           rows-are = refl;
           columns-are = refl;
@@ -89,16 +93,14 @@ module _ (g : Grid) (old : List ℤ) (room : HasCells old (size g)) where
       (e₂ ∙ ap (λ (w : List ℤ). fold layCell w (cells g)) e₁ ∙ laid-alone g old room C firsts seconds contents) ∙ raised-all g old room
 
   -- the passes one after the other
-  pub begun-setting : (w₂ w₃ w₄ : List ℤ) (r b s : ℕ) → (r ≡ length (openings g)) × (w₂ ≡ laid (labelledFive g) (size g) old)
-      → b ≡ count (unlabelledAt w₂) (cells g) → s ≡ count (safeAt w₂) (cells g) → w₃ ≡ fold layCell w₂ (cells g)
-      → w₄ ≡ fold (raiseNear (g .rows) (g .columns)) w₃ (cells g) → Setting g old (record { units = r + b; safe = s }) w₄
-  begun-setting w₂ w₃ w₄ r b s l eb es e₃ e₄ =
+  pub begun-setting : (w₂ w₃ w₄ : List ℤ) (r b : ℕ) → (r ≡ length (openings g)) × (w₂ ≡ laid (labelledFive g) (size g) old)
+      → b ≡ count (unlabelledAt w₂) (cells g) → w₃ ≡ fold layCell w₂ (cells g)
+      → w₄ ≡ fold (raiseNear (g .rows) (g .columns)) w₃ (cells g) → Setting g old (r + b) w₄
+  begun-setting w₂ w₃ w₄ r b l eb e₃ e₄ =
       let e = l .1 ∙ labelled-cells g old in
-      let k = counted in
       let b-is : b ≡ count (unlabelledAt w) (cells g) = eb ∙ ap (λ (v : List ℤ). count (unlabelledAt v) (cells g)) e in
       record {
-        units = omega (arith, l .0, k .0, b-is);
-        safe = es ∙ ap (λ (v : List ℤ). count (safeAt v) (cells g)) e ∙ k .1;
+        units = omega (arith, l .0, units-counted, b-is);
         work = begun (labelledCell g) (λ i. refl) (λ i. refl) (λ i. refl) w₂ w₃ w₄ e e₃ e₄;
       }
 

@@ -15,7 +15,7 @@ use Rattle.area.specs.Numbers.{HasCells, firstPlace, five}
 use Rattle.area.specs.Squares.{rowCells}
 use Rattle.area.specs.Stages.{content, loadedFive}
 use Rattle.game.specs.Area.{laid}
-use Rattle.game.specs.Grid.{Grid, index, size}
+use Rattle.game.specs.Grid.{Grid, index}
 use Rattle.game.specs.Lists.{fold, range}
 use Rattle.start.specs.Passes.{loadAt, loadCell, loadColumn}
 use Rattle.game.proofs.Areas.{laid-fold, sets-above, sets-apart, sets-below, sets-here}
@@ -89,13 +89,13 @@ columns-more g old now new a b h e q =
     q ∙ ap (λ (w : List ℤ). fold (loadColumn g) w (range a b)) e ∙ sym (fold-append (loadColumn g) old (range 0 a) (range a b))
     ∙ ap (fold (loadColumn g) old) (sym (range-split 0 a b (omega arith) h))
 
--- the cells of the grid
-pub loaded-all : (g : Grid) (w : List ℤ) → HasCells w (size g)
-    → fold (loadColumn g) w (range 0 (g .columns)) ≡ laid (loadedFive g) (size g) w
+-- the first n columns
+pub loaded-first : (g : Grid) (w : List ℤ) (n : ℕ) → HasCells w (g .rows * n)
+    → fold (loadColumn g) w (range 0 n) ≡ laid (loadedFive g) (g .rows * n) w
 unfolding loadedFive
-loaded-all g w room =
-    fold-columns (loadCell g) (g .rows) w (g .columns) ∙ ap (λ (n : ℕ). fold (loadCell g) w (range 0 n)) (mul-comm (g .columns) (g .rows))
-    ∙ laid-fold (loadedFive g) (λ i. refl) (size g) w room (loadCell g) (λ v i. length-load v i (content g i))
+loaded-first g w n room =
+    fold-columns (loadCell g) (g .rows) w n ∙ ap (λ (m : ℕ). fold (loadCell g) w (range 0 m)) (mul-comm n (g .rows))
+    ∙ laid-fold (loadedFive g) (λ i. refl) (g .rows * n) w room (loadCell g) (λ v i. length-load v i (content g i))
     (λ v i k h l b. ap (λ (u : List ℤ). getD u (5 * i + k) (pos 0)) (load-sets v i (content g i) (content-few g i))
     ∙ sets-here (pos 0) (loadedFive g i) v (firstPlace i) k (omega (arith, l .long)) b)
     (λ v i m h l o. ap (λ (u : List ℤ). getD u m (pos 0)) (load-sets v i (content g i) (content-few g i))

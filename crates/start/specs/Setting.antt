@@ -7,12 +7,10 @@ use Rattle.game.specs.Grid.{Grid}
 use Rattle.game.specs.Openings.{threeBV}
 use Rattle.game.specs.Position.{untouched, closedSafe}
 use Rattle.area.specs.Stages.{Moving, held}
-use Rattle.start.specs.declared.begin.Counts.{Counts}
 
--- the units and the safe cells are counted, and the work area stands for the untouched grid
-pub record Setting (g : Grid) (old : List ℤ) (r : Counts) (w : List ℤ) : Type 0 where
-  pub units : r .units ≡ threeBV g
-  pub safe : r .safe ≡ closedSafe g (untouched g)
+-- the units are counted, and the work area stands for the untouched grid
+pub record Setting (g : Grid) (old : List ℤ) (r : ℕ) (w : List ℤ) : Type 0 where
+  pub units : r ≡ threeBV g
   pub work : w ≡ held g (untouched g) old
 
 -- the safe cells are counted, and the work area has the states of the untouched grid, for a replay

@@ -13,14 +13,8 @@ ghost use Rattle.area.specs.Stages.{Shape, Stands, held};
 ghost use Rattle.premiums.specs.Laying.{safeAt};
 ghost use Rattle.start.specs.Setting.{SetOut, Setting};
 
-// The units and the safe cells of a grid.
-pub struct Counts {
-    pub units: usize,
-    pub safe: usize,
-}
-
-// The work area stands for the position before any move. Answers the units and the safe cells.
-pub fn set_up(grid: &[i32], rows: usize, columns: usize, work: &mut [i32]) -> Counts
+// The work area stands for the position before any move. Answers the units.
+pub fn set_up(grid: &[i32], rows: usize, columns: usize, work: &mut [i32]) -> usize
     requires { ⌜ Shape rows columns ⌝ }
     requires { ⌜ (length (now grid) ≡ rows * columns) × HasCells (now work) (rows * columns) ⌝ }
     ensures { λ r. ⌜ Setting (gridOf rows columns (now (grid .entry))) (now (work .entry)) r (now (work .exit)) ⌝ }
@@ -28,12 +22,9 @@ pub fn set_up(grid: &[i32], rows: usize, columns: usize, work: &mut [i32]) -> Co
     let cells = rows * columns;
     crate::load::load(grid, rows, columns, work);
     let openings = openings::label(work, rows, columns);
-    let laid = premiums::lay(work, cells);
+    let unlabelled = premiums::lay(work, cells);
     premiums::raise_all(work, rows, columns);
-    Counts {
-        units: openings + laid.unlabelled,
-        safe: laid.safe,
-    }
+    openings + unlabelled
 }
 
 // The safe cells of a work area with contents.

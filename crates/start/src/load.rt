@@ -57,7 +57,14 @@ fn load_row(
 }
 
 // The cells of the columns `from` to before `to`, row by row.
-fn load_columns(grid: &[i32], rows: usize, columns: usize, work: &mut [i32], from: usize, to: usize)
+pub fn load_columns(
+    grid: &[i32],
+    rows: usize,
+    columns: usize,
+    work: &mut [i32],
+    from: usize,
+    to: usize,
+)
     requires { ⌜ Shape rows columns ⌝ }
     requires { ⌜ (length (now grid) ≡ rows * columns) × HasCells (now work) (rows * columns) × (from < to) × (to ≤ columns) ⌝ }
     ensures { λ _. ⌜ now (work .exit) ≡ fold (loadColumn (gridOf rows columns (now (grid .entry)))) (now (work .entry)) (range from to) ⌝ }

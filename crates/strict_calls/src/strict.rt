@@ -1,5 +1,6 @@
 // The strict form of each call: it takes only -1 for a mine and, for a safe cell, exactly its number. NUMBER names the lowest cell at fault; on any other grid the call does what the present one does.
 use answers::Counted;
+use answers::Judged;
 use answers::KeyRolled;
 use answers::Priced;
 use answers::Replayed;
@@ -8,11 +9,11 @@ use draws::Mode;
 use keys::Key;
 use refusals::Checked;
 ghost use mathlib.Core.Bool.{false, true};
-ghost use Rattle.game.specs.Calls.{strictKeyedRoundCall, strictKeyedSearchCall, strictPriceCall, strictRandomRoundCall, strictRandomSearchCall, strictReplayCall, strictThreeBVCall};
+ghost use Rattle.game.specs.Calls.{strictAtLeastCall, strictKeyedRoundCall, strictKeyedSearchCall, strictPriceCall, strictRandomRoundCall, strictRandomSearchCall, strictReplayCall, strictThreeBVCall};
 ghost use Rattle.draws.specs.Answers.{modeOf};
 ghost use Rattle.keys.specs.Stands.{keyOf};
 ghost use Rattle.area.specs.Numbers.{gridOf};
-ghost use Rattle.answers.specs.Answers.{Keeps, KeepsList, countedAnswer, keyRolledAnswer, pricedAnswer, replayedAnswer, rolledAnswer};
+ghost use Rattle.answers.specs.Answers.{Keeps, KeepsList, countedAnswer, judgedAnswer, keyRolledAnswer, pricedAnswer, replayedAnswer, rolledAnswer};
 
 // 3BV of a grid; the work area is left at the position before any move.
 pub fn three_bv(rows: usize, columns: usize, grid: &[i32], work: &mut [i32]) -> Counted
@@ -22,6 +23,17 @@ pub fn three_bv(rows: usize, columns: usize, grid: &[i32], work: &mut [i32]) -> 
     match checked {
         Checked::Refused(refusal) => Counted::Refused(refusal),
         Checked::Fine => count_call::count::three_bv(rows, columns, grid, work),
+    }
+}
+
+// Whether 3BV of a grid is at least so many units, counted until that is certain; the work area's numbers become 0.
+pub fn at_least(rows: usize, columns: usize, grid: &[i32], work: &mut [i32], units: usize) -> Judged
+    ensures { λ r. ⌜ Keeps (strictAtLeastCall (gridOf rows columns (now (grid .entry))) (now (work .entry)) units) (judgedAnswer r) (now (work .exit)) ⌝ }
+{
+    let checked = number_check::check_numbers(rows, columns, grid);
+    match checked {
+        Checked::Refused(refusal) => Judged::Refused(refusal),
+        Checked::Fine => count_call::count::at_least(rows, columns, grid, work, units),
     }
 }
 

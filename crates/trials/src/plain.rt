@@ -1,6 +1,7 @@
 // What the calls answer, as three numbers, a replay's as four, and a keyed call's with the key after it.
 use refusals::Refusal;
 use zini::Counted;
+use zini::Judged;
 use zini::KeyRolled;
 use zini::Priced;
 use zini::Replayed;
@@ -82,6 +83,14 @@ pub fn of_counted(answer: Counted) -> Plain {
     match answer {
         Counted::Units(units) => numbers(0, units as u64, 0),
         Counted::Refused(refusal) => of_refusal(refusal),
+    }
+}
+
+// What the early count answered, 1 for enough.
+pub fn of_judged(answer: Judged) -> Plain {
+    match answer {
+        Judged::Enough(enough) => numbers(0, enough as u64, 0),
+        Judged::Refused(refusal) => of_refusal(refusal),
     }
 }
 

@@ -13,7 +13,7 @@ use Rattle.play.proofs.chord.Statement.{statement}
 use Rattle.play.proofs.chord.Tie as tie
 
 abbrev Inv-loop : tie.InvT-loop
-Inv-loop work₀ rows columns index first last from to opened₀ row₀ work opened row = (first ≤ row) × (row ≤ last) × (length work ≡ length work₀) × (opened .cells ≤ 16581375 * (row - first))
+Inv-loop work₀ rows columns index first last from to opened₀ row₀ work opened row = (first ≤ row) × (row ≤ last) × (length work ≡ length work₀) × (opened .units ≤ 255 * (row - first))
     × Opens rows columns work₀ (blockCells rows first row from to) opened work
 
 abbrev μ-loop : tie.MeasureT-loop
@@ -53,7 +53,7 @@ loop-again c = let l = c .before .before .before .before .before in
       omega arith,
       omega arith,
       search needs,
-      omega (arith, ap (λ (o : Opened). o .cells) (t .ensures)),
+      omega (arith, ap (λ (o : Opened). o .units) (t .ensures)),
       rw (block-more (a .rows) (q .first) (l .loop .row) (q .from) (q .to) (l .loop .inv .0))
           (opens-both (a .rows) (a .columns) (a .work .now) (blockCells (a .rows) (q .first) (l .loop .row) (q .from) (q .to)) (rowCells (a .rows) (l .loop .row) (q .from) (q .to))
           (l .loop .opened) (u .result) (t .result) (l .loop .work) (u .last .0) (t .ensures) (l .loop .inv .4) (u .ensures .1)),

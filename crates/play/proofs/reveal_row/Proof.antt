@@ -15,7 +15,7 @@ use Rattle.play.proofs.reveal_row.Statement.{statement}
 use Rattle.play.proofs.reveal_row.Tie as tie
 
 abbrev Inv-loop : tie.InvT-loop
-Inv-loop work₀ rows columns row from to opened₀ column₀ work opened column = (from ≤ column) × (column ≤ to) × (length work ≡ length work₀) × (opened .cells ≤ 65025 * (column - from))
+Inv-loop work₀ rows columns row from to opened₀ column₀ work opened column = (from ≤ column) × (column ≤ to) × (length work ≡ length work₀) × (opened .units ≤ column - from)
     × Opens rows columns work₀ (rowCells rows row from column) opened work
 
 abbrev μ-loop : tie.MeasureT-loop
@@ -64,7 +64,7 @@ loop-again c = let l = c .before .before .before .before .before in
       omega arith,
       omega arith,
       search needs,
-      omega (arith, ap (λ (o : Opened). o .cells) (t .ensures)),
+      omega (arith, ap (λ (o : Opened). o .units) (t .ensures)),
       rw (row-more (a .rows) (a .row) (a .from) (l .loop .column) (l .loop .inv .0))
           (opens-both (a .rows) (a .columns) (a .work .now) (rowCells (a .rows) (a .row) (a .from) (l .loop .column)) ((l .loop .column * a .rows + a .row) ∷ [])
           (l .loop .opened) (u .result) (t .result) (l .loop .work) (u .last .0) (t .ensures) (l .loop .inv .4)

@@ -10,32 +10,28 @@ use Rattle.play.proofs.sweep.Statement.{statement}
 use Rattle.play.proofs.sweep.Tie as tie
 
 abbrev Inv-loop : tie.InvT-loop
-Inv-loop work₀ first last label opened₀ found₀ index₀ work opened found index =
-    (first ≤ index) × (index ≤ last) × (length work ≡ length work₀) × (opened ≤ index - first) × (found ≤ index - first)
-    × RunSwept label first index work₀ opened found work
+Inv-loop work₀ first last label found₀ index₀ work found index =
+    (first ≤ index) × (index ≤ last) × (length work ≡ length work₀) × (found ≤ index - first) × RunSwept label first index work₀ found work
 
 abbrev μ-loop : tie.MeasureT-loop
-μ-loop work₀ first last label opened₀ found₀ index₀ work opened found index = last - index
+μ-loop work₀ first last label found₀ index₀ work found index = last - index
 
 loop-holds : tie.Need-loop-holds Inv-loop μ-loop
 loop-holds c = let a = c .args in
-    (omega arith, omega arith, refl, omega arith, omega arith, run-none (a .label) (a .first) (a .work .now))
+    (omega arith, omega arith, refl, omega arith, run-none (a .label) (a .first) (a .work .now))
 
 sweep-cell-requires : tie.Need-sweep-cell-requires Inv-loop μ-loop
 sweep-cell-requires c κs = omega arith
 
 -- the cell of this turn counts at most once
-one : (c : tie.After-struct-known Inv-loop μ-loop) → (c .before .before .sweep-cell .result .opened ≤ 1) × (c .before .before .sweep-cell .result .found ≤ 1)
+one : (c : tie.After-work Inv-loop μ-loop) → c .before .sweep-cell .result ≤ 1
 one c =
-    let l = c .before .before .before .before .before in
-    let u = c .before .before .sweep-cell in
-    at-most-one (l .before .args .label) (l .loop .work) (l .loop .index) (u .result .opened) (u .result .found) (u .last .0) (u .ensures)
-
-add-opened : tie.Need-add-opened Inv-loop μ-loop
-add-opened c = omega (arith, one c)
+    let l = c .before .before .before .before in
+    let u = c .before .sweep-cell in
+    at-most-one (l .before .args .label) (l .loop .work) (l .loop .index) (u .result) (u .last .0) (u .ensures)
 
 add-found : tie.Need-add-found Inv-loop μ-loop
-add-found c = omega (arith, one (c .before))
+add-found c = omega (arith, one c)
 
 add-index : tie.Need-add-index Inv-loop μ-loop
 add-index c = omega arith
@@ -44,16 +40,14 @@ loop-less : tie.Need-loop-less Inv-loop μ-loop
 loop-less c = omega arith
 
 loop-again : tie.Need-loop-again Inv-loop μ-loop
-loop-again c = let l = c .before .before .before .before .before .before in
+loop-again c = let l = c .before .before .before .before in
     let a = l .before .args in
-    let u = c .before .before .before .sweep-cell in (
+    let u = c .before .sweep-cell in (
       omega arith,
       omega arith,
       search needs,
-      omega (arith, one (c .before)),
-      omega (arith, one (c .before)),
-      run-more (a .label) (a .first) (l .loop .index) (a .work .now) (l .loop .work) (u .last .0) (l .loop .opened) (l .loop .found) (u .result .opened) (u .result .found)
-          (l .loop .inv .0) (l .loop .inv .5) (u .ensures),
+      omega (arith, one c),
+      run-more (a .label) (a .first) (l .loop .index) (a .work .now) (l .loop .work) (u .last .0) (l .loop .found) (u .result) (l .loop .inv .0) (l .loop .inv .4) (u .ensures),
     )
 
 same-length : tie.Need-same-length Inv-loop μ-loop
@@ -62,7 +56,7 @@ same-length c = search needs
 returns : tie.Need-returns Inv-loop μ-loop
 returns c = let a = c .before .before .args in
     let e : c .before .loop .index ≡ a .last = omega arith in
-    (omega arith, rw e at (c .before .loop .inv .5))
+    rw e at (c .before .loop .inv .4)
 
 pub sweep-spec : {M : Type 1} → statement M
 sweep-spec =
@@ -72,7 +66,6 @@ sweep-spec =
     μ-loop
     loop-holds
     sweep-cell-requires
-    add-opened
     add-found
     add-index
     loop-less

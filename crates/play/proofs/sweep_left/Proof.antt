@@ -10,18 +10,18 @@ use Rattle.play.proofs.sweep_left.Statement.{statement}
 use Rattle.play.proofs.sweep_left.Tie as tie
 
 abbrev Inv-loop : tie.InvT-loop
-Inv-loop work₀ rows columns column label opened₀ left₀ work opened left = (left ≤ column + 1) × (length work ≡ length work₀) × (opened ≤ 255 * (column + 1 - left))
-    × SweptOver label (left * rows) (column * rows + rows) work₀ opened work
+Inv-loop work₀ rows columns column label left₀ work left =
+    (left ≤ column + 1) × (length work ≡ length work₀) × SweptOver label (left * rows) (column * rows + rows) work₀ work
 
 abbrev μ-loop : tie.MeasureT-loop
-μ-loop work₀ rows columns column label opened₀ left₀ work opened left = left
+μ-loop work₀ rows columns column label left₀ work left = left
 
 add-left : tie.Need-add-left Inv-loop μ-loop
 add-left c = omega arith
 
 loop-holds : tie.Need-loop-holds Inv-loop μ-loop
 loop-holds c = let a = c .args in
-    (omega arith, refl, omega arith, left-none (a .rows) (a .label) (a .column) (a .work .now))
+    (omega arith, refl, left-none (a .rows) (a .label) (a .column) (a .work .now))
 
 sub-left : tie.Need-sub-left Inv-loop μ-loop
 sub-left c = omega arith
@@ -42,34 +42,27 @@ add-sweep c = omega (arith, column (c .before))
 sweep-requires : tie.Need-sweep-requires Inv-loop μ-loop
 sweep-requires c κs = (omega arith, omega (arith, column (c .before)))
 
-add-opened : tie.Need-add-opened Inv-loop μ-loop
-add-opened c = let a = c .before .before .before .before .before .before in
-    omega (arith, a .pre .0 .few-rows, c .before .before .sweep .ensures .0)
-
 same-length : tie.Need-same-length Inv-loop μ-loop
 same-length c = search needs
 
 returns : tie.Need-returns Inv-loop μ-loop
-returns c = let l = c .before .before .before .before .before .before .before in
+returns c = let l = c .before .before .before .before .before in
     let a = l .before .args in
-    let u = c .before .before .before .before .sweep in (
-      omega (arith, l .before .pre .0 .few-rows, u .ensures .0),
-      left-ends (a .rows) (a .label) (a .column) (l .loop .left) (a .work .now) (l .loop .work) (u .last .0) (l .loop .opened) (u .result .opened) (u .result .found)
-          (omega arith) (l .loop .inv .0) (l .loop .inv .3) (u .ensures .1) (c .if1 .taken),
-    )
+    let u = c .before .before .sweep in
+    left-ends (a .rows) (a .label) (a .column) (l .loop .left) (a .work .now) (l .loop .work) (u .last .0) (u .result)
+    (omega arith) (l .loop .inv .0) (l .loop .inv .2) (u .ensures) (c .if1 .taken)
 
 loop-less : tie.Need-loop-less Inv-loop μ-loop
 loop-less c = omega arith
 
 loop-again : tie.Need-loop-again Inv-loop μ-loop
-loop-again c = let l = c .before .before .before .before .before .before .before in
+loop-again c = let l = c .before .before .before .before .before in
     let a = l .before .args in
-    let u = c .before .before .before .before .sweep in (
+    let u = c .before .before .sweep in (
       omega arith,
       search needs,
-      omega (arith, l .before .pre .0 .few-rows, u .ensures .0),
-      left-more (a .rows) (a .label) (a .column) (l .loop .left) (a .work .now) (l .loop .work) (u .last .0) (l .loop .opened) (u .result .opened) (u .result .found)
-          (omega arith) (l .loop .inv .0) (l .loop .inv .3) (u .ensures .1),
+      left-more (a .rows) (a .label) (a .column) (l .loop .left) (a .work .now) (l .loop .work) (u .last .0) (u .result)
+          (omega arith) (l .loop .inv .0) (l .loop .inv .2) (u .ensures),
     )
 
 same-length-2 : tie.Need-same-length-2 Inv-loop μ-loop
@@ -78,7 +71,7 @@ same-length-2 c = search needs
 returns-2 : tie.Need-returns-2 Inv-loop μ-loop
 returns-2 c = let l = c .before in
     let a = l .before .args in
-    (omega arith, left-whole (a .rows) (a .label) (a .column) (a .work .now) (l .loop .work) (l .loop .opened) (l .loop .left) (omega arith) (l .loop .inv .3))
+    left-whole (a .rows) (a .label) (a .column) (a .work .now) (l .loop .work) (l .loop .left) (omega arith) (l .loop .inv .2)
 
 pub sweep-left-spec : {M : Type 1} → statement M
 sweep-left-spec =
@@ -92,7 +85,6 @@ sweep-left-spec =
     mul-first
     add-sweep
     sweep-requires
-    add-opened
     same-length
     returns
     loop-less

@@ -1,5 +1,5 @@
 -- `play::sweep_opening`: no cell of the opening lies beyond a column without the label. Assumes nothing.
-use Prim.Native.Nat.{_+_, _/_, _<_, _≤_}
+use Prim.Native.Nat.{_/_, _<_}
 use native.Mathlib.Omega.{arith}
 use mathlib.Core.Path.{refl}
 use borrow.Author.Needs.{needs}
@@ -26,15 +26,6 @@ sweep-right-requires : tie.Need-sweep-right-requires
 sweep-right-requires c κs = let b = c .before .before .before .before in
     (b .pre .0, (search needs, omega (arith, column b)))
 
--- a column counts at most 255
-few : (c : tie.After-work2) → c .before .before .before .before .sweep-left .result + c .before .sweep-right .result ≤ 65025
-few c =
-    let b = c .before .before .before .before .before .before in
-    omega (arith, column b, b .pre .0 .few-columns, c .before .before .before .before .sweep-left .ensures .0, c .before .sweep-right .ensures .0)
-
-add-result : tie.Need-add-result
-add-result c = omega (arith, few c)
-
 same-length : tie.Need-same-length
 same-length c = search needs
 
@@ -42,12 +33,10 @@ returns : tie.Need-returns
 returns c = let b = c .before .before .before .before .before .before in
     let a = b .args in
     let l = c .before .before .before .before .sweep-left in
-    let r = c .before .sweep-right in (
-      few c,
-      λ g s old t none own. both-ways (a .rows) (a .columns) g s old (a .work .now) (a .index) (a .label) (b .pre .1 .1) t none own
-          (a .index / a .rows) (l .last .0) (r .last .0) (l .result) (r .result) refl (l .ensures .1) (r .ensures .1),
-    )
+    let r = c .before .sweep-right in
+    λ g s old t none own. both-ways (a .rows) (a .columns) g s old (a .work .now) (a .index) (a .label) (b .pre .1 .1) t none own
+    (a .index / a .rows) (l .last .0) (r .last .0) refl (l .ensures) (r .ensures)
 
 pub sweep-opening-spec : {M : Type 1} → statement M
 sweep-opening-spec =
-    tie.close (tie.spec div-column sweep-left-requires add-sweep-right sweep-right-requires add-result same-length returns)
+    tie.close (tie.spec div-column sweep-left-requires add-sweep-right sweep-right-requires same-length returns)

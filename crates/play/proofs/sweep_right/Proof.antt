@@ -10,15 +10,15 @@ use Rattle.play.proofs.sweep_right.Statement.{statement}
 use Rattle.play.proofs.sweep_right.Tie as tie
 
 abbrev Inv-loop : tie.InvT-loop
-Inv-loop work₀ rows columns column label opened₀ right₀ work opened right = (column ≤ right) × (right ≤ columns) × (length work ≡ length work₀) × (opened ≤ 255 * (right - column))
-    × SweptOver label (column * rows) (right * rows) work₀ opened work
+Inv-loop work₀ rows columns column label right₀ work right =
+    (column ≤ right) × (right ≤ columns) × (length work ≡ length work₀) × SweptOver label (column * rows) (right * rows) work₀ work
 
 abbrev μ-loop : tie.MeasureT-loop
-μ-loop work₀ rows columns column label opened₀ right₀ work opened right = columns - right
+μ-loop work₀ rows columns column label right₀ work right = columns - right
 
 loop-holds : tie.Need-loop-holds Inv-loop μ-loop
 loop-holds c = let a = c .args in
-    (omega arith, omega arith, refl, omega arith, over-none (a .label) (a .column * a .rows) (a .work .now))
+    (omega arith, omega arith, refl, over-none (a .label) (a .column * a .rows) (a .work .now))
 
 -- the column of this turn lies on the grid
 column : (c : tie.In-loop Inv-loop μ-loop)
@@ -36,21 +36,15 @@ add-sweep c = omega (arith, column (c .before))
 sweep-requires : tie.Need-sweep-requires Inv-loop μ-loop
 sweep-requires c κs = (omega arith, omega (arith, column (c .before)))
 
-add-opened : tie.Need-add-opened Inv-loop μ-loop
-add-opened c = let a = c .before .before .before .before .before .before in
-    omega (arith, a .pre .0 .few-rows, a .pre .0 .few-columns, c .before .before .sweep .ensures .0)
-
 same-length : tie.Need-same-length Inv-loop μ-loop
 same-length c = search needs
 
 returns : tie.Need-returns Inv-loop μ-loop
-returns c = let l = c .before .before .before .before .before .before .before in
+returns c = let l = c .before .before .before .before .before in
     let a = l .before .args in
-    let u = c .before .before .before .before .sweep in (
-      omega (arith, l .before .pre .0 .few-rows, u .ensures .0),
-      right-ends (a .rows) (a .columns) (a .label) (a .column) (l .loop .right) (a .work .now) (l .loop .work) (u .last .0) (l .loop .opened) (u .result .opened) (u .result .found)
-          (l .loop .inv .0) (l .loop .inv .4) (u .ensures .1) (omega arith) (c .if1 .taken),
-    )
+    let u = c .before .before .sweep in
+    right-ends (a .rows) (a .columns) (a .label) (a .column) (l .loop .right) (a .work .now) (l .loop .work) (u .last .0) (u .result)
+    (l .loop .inv .0) (l .loop .inv .3) (u .ensures) (omega arith) (c .if1 .taken)
 
 add-right : tie.Need-add-right Inv-loop μ-loop
 add-right c = omega arith
@@ -59,15 +53,14 @@ loop-less : tie.Need-loop-less Inv-loop μ-loop
 loop-less c = omega arith
 
 loop-again : tie.Need-loop-again Inv-loop μ-loop
-loop-again c = let l = c .before .before .before .before .before .before .before in
+loop-again c = let l = c .before .before .before .before .before in
     let a = l .before .args in
-    let u = c .before .before .before .before .sweep in (
+    let u = c .before .before .sweep in (
       omega arith,
       omega arith,
       search needs,
-      omega (arith, l .before .pre .0 .few-rows, u .ensures .0),
-      right-more (a .rows) (a .columns) (a .label) (a .column) (l .loop .right) (a .work .now) (l .loop .work) (u .last .0) (l .loop .opened) (u .result .opened) (u .result .found)
-          (l .loop .inv .0) (l .loop .inv .4) (u .ensures .1),
+      right-more (a .rows) (a .columns) (a .label) (a .column) (l .loop .right) (a .work .now) (l .loop .work) (u .last .0) (u .result)
+          (l .loop .inv .0) (l .loop .inv .3) (u .ensures),
     )
 
 same-length-2 : tie.Need-same-length-2 Inv-loop μ-loop
@@ -75,11 +68,8 @@ same-length-2 c = search needs
 
 returns-2 : tie.Need-returns-2 Inv-loop μ-loop
 returns-2 c = let l = c .before in
-    let a = l .before .args in (
-      omega arith,
-      right-whole (a .rows) (a .columns) (a .label) (a .column) (a .work .now) (l .loop .work) (l .loop .opened) (l .loop .right)
-          (l .loop .inv .0) (omega arith) (l .loop .inv .4),
-    )
+    let a = l .before .args in
+    right-whole (a .rows) (a .columns) (a .label) (a .column) (a .work .now) (l .loop .work) (l .loop .right) (l .loop .inv .0) (omega arith) (l .loop .inv .3)
 
 pub sweep-right-spec : {M : Type 1} → statement M
 sweep-right-spec =
@@ -91,7 +81,6 @@ sweep-right-spec =
     mul-first
     add-sweep
     sweep-requires
-    add-opened
     same-length
     returns
     add-right

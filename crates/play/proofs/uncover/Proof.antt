@@ -1,5 +1,8 @@
 -- `play::uncover`: each branch is one case of the reveal. Assumes nothing.
 use native.Mathlib.Omega.{arith}
+use lib.Dec.{eqb}
+use Rattle.area.specs.Numbers.{firstAt}
+use Rattle.game.proofs.Counts.{bit-small}
 use Rattle.play.proofs.Reveals.{by-mine, by-one, by-state, by-zero}
 use borrow.Author.Needs.{needs}
 use Rattle.play.proofs.uncover.Statement.{statement}
@@ -46,10 +49,10 @@ returns-3 c = let q = c .before in
     let k = m .before .before .before in
     let b = k .before .before in
     let a = b .args in (
-      q .sweep-opening .ensures .0,
+      omega arith,
       λ g s old t f. by-zero (a .rows) (a .columns) g s old (a .work .now) (a .index) (b .pre .1 .1) t f
           (k .content .result) (m .state .result) (k .content .ensures .0) (m .before .before .if1 .left) (m .state .ensures .0) (z .before .if2 .left)
-          (l .first-label .result) (q .sweep-opening .result) (q .sweep-opening .last .0) (z .if3 .taken) (l .first-label .ensures .0) (q .sweep-opening .ensures .1 g s old t),
+          (l .first-label .result) (q .sweep-opening .last .0) (z .if3 .taken) (l .first-label .ensures .0) (q .sweep-opening .ensures g s old t),
     )
 
 open-one-requires : tie.Need-open-one-requires
@@ -65,10 +68,10 @@ returns-4 c = let q = c .before in
     let k = m .before .before .before in
     let b = k .before .before in
     let a = b .args in (
-      omega arith,
+      omega (arith, q .open-one .ensures .1, bit-small (eqb (firstAt (a .work .now) (a .index)) 0)),
       λ g s old t f. by-one (a .rows) (a .columns) g s old (a .work .now) (a .index) (b .pre .1 .1) t f
           (k .content .result) (m .state .result) (k .content .ensures .0) (m .before .before .if1 .left) (m .state .ensures .0) (z .before .if2 .left)
-          (q .open-one .last .0) (z .if3 .left) (q .open-one .ensures),
+          (q .open-one .result) (q .open-one .last .0) (z .if3 .left) (q .open-one .ensures .1) (q .open-one .ensures .0),
     )
 
 pub uncover-spec : {M : Type 1} → statement M

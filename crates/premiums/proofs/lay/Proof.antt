@@ -10,23 +10,21 @@ use Rattle.game.specs.Lists.{count, fold, range}
 use Rattle.game.proofs.Counts.{count-more}
 use Rattle.game.proofs.Members.{fold-more}
 use Rattle.area.proofs.Tests.{count-none-yet}
-use Rattle.premiums.specs.Laying.{layCell, safeAt, unlabelledAt}
+use Rattle.premiums.specs.Laying.{layCell, unlabelledAt}
 use Rattle.premiums.proofs.Raising.{lay-counts, length-lay}
 use Rattle.premiums.proofs.lay.Statement.{statement}
 use Rattle.premiums.proofs.lay.Tie as tie
 
 abbrev Inv-loop : tie.InvT-loop
-Inv-loop work₀ cells unlabelled₀ safe₀ index₀ work unlabelled safe index =
+Inv-loop work₀ cells unlabelled₀ index₀ work unlabelled index =
     (index ≤ cells) × (work ≡ fold (layCell) work₀ (range 0 index)) × (length work ≡ length work₀)
-    × (unlabelled ≡ count (unlabelledAt work₀) (range 0 index)) × (safe ≡ count (safeAt work₀) (range 0 index)) × (unlabelled ≤ index) × (safe ≤ index)
+    × (unlabelled ≡ count (unlabelledAt work₀) (range 0 index)) × (unlabelled ≤ index)
 
 abbrev μ-loop : tie.MeasureT-loop
-μ-loop work₀ cells unlabelled₀ safe₀ index₀ work unlabelled safe index = cells - index
+μ-loop work₀ cells unlabelled₀ index₀ work unlabelled index = cells - index
 
 loop-holds : tie.Need-loop-holds Inv-loop μ-loop
-loop-holds c =
-    let w = c .args .work .now in
-    (omega arith, refl, refl, count-none-yet (unlabelledAt w) 0, count-none-yet (safeAt w) 0, omega arith, omega arith)
+loop-holds c = (omega arith, refl, refl, count-none-yet (unlabelledAt (c .args .work .now)) 0, omega arith)
 
 first-label-requires : tie.Need-first-label-requires Inv-loop μ-loop
 first-label-requires c κs = omega arith
@@ -64,9 +62,6 @@ take-away-requires c κs = search needs
 add-unlabelled : tie.Need-add-unlabelled Inv-loop μ-loop
 add-unlabelled c = omega arith
 
-add-safe : tie.Need-add-safe Inv-loop μ-loop
-add-safe c = omega arith
-
 add-index : tie.Need-add-index Inv-loop μ-loop
 add-index c = omega arith
 
@@ -87,9 +82,7 @@ loop-again c =
       omega arith,
       e ∙ ap (λ (w : List ℤ). layCell w (l .index)) (l .inv .1) ∙ sym (fold-more layCell (a .work .now) 0 (l .index) (omega arith)),
       ap length e ∙ length-lay (l .work) (l .index) ∙ l .inv .2,
-      omega (arith, count-more (unlabelledAt (a .work .now)) 0 (l .index) (omega arith), k .0),
-      omega (arith, count-more (safeAt (a .work .now)) 0 (l .index) (omega arith), k .1),
-      omega arith,
+      omega (arith, count-more (unlabelledAt (a .work .now)) 0 (l .index) (omega arith), k),
       omega arith,
     )
 
@@ -103,7 +96,6 @@ returns c =
     let e : l .index ≡ a .cells = omega arith in (
       l .inv .1 ∙ ap (λ (k : ℕ). fold layCell (a .work .now) (range 0 k)) e,
       l .inv .3 ∙ ap (λ (k : ℕ). count (unlabelledAt (a .work .now)) (range 0 k)) e,
-      l .inv .4 ∙ ap (λ (k : ℕ). count (safeAt (a .work .now)) (range 0 k)) e,
       omega arith,
     )
 
@@ -126,7 +118,6 @@ lay-spec =
     put-state-requires
     take-away-requires
     add-unlabelled
-    add-safe
     add-index
     loop-less
     loop-again

@@ -1,4 +1,4 @@
--- `random::roll_on`: the steps so far are those of the definition; fewer safe cells are closed after each, so a key has room; what is kept of the columns stays right. Assumes nothing.
+-- `random::roll_on`: the steps so far are those of the definition; fewer units are closed after each, so a key has room; what is kept of the columns stays right. Assumes nothing.
 use native.Mathlib.Omega.{arith}
 use mathlib.Core.Path.{_≡_, refl}
 use mathlib.Core.Bool.{false}
@@ -10,19 +10,19 @@ use Rattle.game.specs.Position.{untouched}
 use Rattle.moves.proofs.Partway.{partway-few}
 use Rattle.draws.specs.Answers.{modeOf}
 use Rattle.supplies.specs.Origins.{sourceOf}
-use Rattle.random.proofs.Courses.{RoundMidway, course-breaks, course-ends, course-falls, course-goes-on, fresh, midway-begins, safe-few}
+use Rattle.random.proofs.Courses.{RoundMidway, course-breaks, course-ends, course-falls, course-goes-on, fresh, midway-begins, units-few}
 use Rattle.random.proofs.Supplies.{Spent, origin-places, round-dry, round-ended, round-grew, spent-more, spent-none, step-room}
 use Rattle.random.proofs.roll_on.Statement.{statement}
 use Rattle.random.proofs.roll_on.Tie as tie
 
 abbrev Inv-loop : tie.InvT-loop
-Inv-loop work₀ rows columns list₀ draws mode tops₀ units₀ safe state₀ rest₀ work list tops units state rest =
-    (length work ≡ length work₀) × (length list ≡ length list₀) × (length tops ≡ length tops₀) × (length units ≡ length units₀)
-    × RoundMidway rows columns work₀ (modeOf mode) draws safe rest₀ list₀ work list state rest × TopsKnown false work rows columns tops × UnitsKnown work rows columns tops units
-    × Spent rest₀ safe rest (state .closed)
+Inv-loop work₀ rows columns list₀ draws mode tops₀ column-units₀ units state₀ rest₀ work list tops column-units state rest =
+    (length work ≡ length work₀) × (length list ≡ length list₀) × (length tops ≡ length tops₀) × (length column-units ≡ length column-units₀)
+    × RoundMidway rows columns work₀ (modeOf mode) draws units rest₀ list₀ work list state rest × TopsKnown false work rows columns tops × UnitsKnown work rows columns tops column-units
+    × Spent rest₀ units rest (state .units)
 
 abbrev μ-loop : tie.MeasureT-loop
-μ-loop work₀ rows columns list₀ draws mode tops₀ units₀ safe state₀ rest₀ work list tops units state rest = state .closed
+μ-loop work₀ rows columns list₀ draws mode tops₀ column-units₀ units state₀ rest₀ work list tops column-units state rest = state .units
 
 loop-holds : tie.Need-loop-holds Inv-loop μ-loop
 loop-holds c =
@@ -32,10 +32,10 @@ loop-holds c =
       refl,
       refl,
       refl,
-      midway-begins (a .rows) (a .columns) (a .work .now) (modeOf (a .mode)) (a .draws .now) (a .safe) (a .supply) (a .list .now) (b .pre .1 .1 .0),
+      midway-begins (a .rows) (a .columns) (a .work .now) (modeOf (a .mode)) (a .draws .now) (a .units) (a .supply) (a .list .now),
       b .pre .1 .1 .1 .1 .0,
       b .pre .1 .1 .1 .1 .1,
-      spent-none (a .supply) (a .safe),
+      spent-none (a .supply) (a .units),
     )
 
 step-requires : tie.Need-step-requires Inv-loop μ-loop
@@ -52,13 +52,13 @@ step-requires c κs =
           omega arith,
           omega (
             arith,
-            partway-few (a .rows) (a .columns) (f .grid) (untouched (f .grid)) (f .old) (a .list .now) (fresh (a .safe)) _ (l .loop .work) (l .loop .list) (l .loop .state)
-                (l .loop .inv .4 .course (f .grid) (f .old) (i .origin) (a .supply .used) (f .stands) (i .reads) .way) (b .pre .0),
+            partway-few (a .rows) (a .columns) (f .grid) (untouched (f .grid)) (f .old) (a .list .now) (fresh (a .units)) _ (l .loop .work) (l .loop .list) (l .loop .state)
+                (l .loop .inv .4 .course (f .grid) (f .old) (i .origin) (a .supply .used) (f .stands) (f .counts) (i .reads) .way) (b .pre .0),
           ),
         ),
         (
           (l .loop .inv .5, l .loop .inv .6),
-          step-room (a .supply) (a .safe) (l .loop .rest) (l .loop .state .closed) (l .loop .inv .7) (safe-few (a .rows) (a .columns) (a .work .now) (a .safe) f) (b .pre .1 .1 .1 .0 .0) (k .if1 .taken),
+          step-room (a .supply) (a .units) (l .loop .rest) (l .loop .state .units) (l .loop .inv .7) (units-few (a .rows) (a .columns) (a .work .now) (a .units) f) (b .pre .1 .1 .1 .0 .0) (k .if1 .taken),
         ),
       ),
     )
@@ -88,8 +88,8 @@ returns c =
     let l = k .before .before in
     let a = l .before .before .before .before .before .args in (
       round-dry (a .supply),
-      λ g old origin at st d. course-breaks (a .rows) (a .columns) g old origin (sourceOf (modeOf (a .mode)) (a .draws .now) origin) (a .safe) at (a .list .now) (l .loop .work) (l .loop .list) (l .loop .state) (l .loop .rest)
-          (l .loop .inv .4 .course g old origin at st d) (x .step .last .0) (x .step .last .1 .1 .1 .0) (x .step .result) (k .if1 .taken) (λ s n v f h e q. x .step .ensures .1 g s old origin n v f h e q .0) (c .enum-told .given .1),
+      λ g old origin at st z d. course-breaks (a .rows) (a .columns) g old origin (sourceOf (modeOf (a .mode)) (a .draws .now) origin) (a .units) at (a .list .now) (l .loop .work) (l .loop .list) (l .loop .state) (l .loop .rest)
+          (l .loop .inv .4 .course g old origin at st z d) (x .step .last .0) (x .step .last .1 .1 .1 .0) (x .step .result) (k .if1 .taken) (λ s n v f h e q. x .step .ensures .1 g s old origin n v f h e q .0) (c .enum-told .given .1),
     )
 
 loop-less : tie.Need-loop-less Inv-loop μ-loop
@@ -101,8 +101,8 @@ loop-less c =
     let a = b .args in
     let f = b .pre .1 .1 .0 in
     let i = b .pre .1 .1 .1 .0 .1 in
-    course-falls (a .rows) (a .columns) (f .grid) (f .old) (i .origin) (sourceOf (modeOf (a .mode)) (a .draws .now) (i .origin)) (a .safe) (a .supply .used) (a .list .now) (l .loop .work) (l .loop .list) (l .loop .state) (l .loop .rest)
-    (l .loop .inv .4 .course (f .grid) (f .old) (i .origin) (a .supply .used) (f .stands) (i .reads)) (x .step .last .0) (x .step .last .1 .1 .1 .0) (x .step .result) (k .if1 .taken)
+    course-falls (a .rows) (a .columns) (f .grid) (f .old) (i .origin) (sourceOf (modeOf (a .mode)) (a .draws .now) (i .origin)) (a .units) (a .supply .used) (a .list .now) (l .loop .work) (l .loop .list) (l .loop .state) (l .loop .rest)
+    (l .loop .inv .4 .course (f .grid) (f .old) (i .origin) (a .supply .used) (f .stands) (f .counts) (i .reads)) (x .step .last .0) (x .step .last .1 .1 .1 .0) (x .step .result) (k .if1 .taken)
     (λ s n v p h e q. x .step .ensures .1 (f .grid) s (f .old) (i .origin) n v p h e q .0) (origin-places (modeOf (a .mode)) (a .draws .now) (i .origin)) _ (c .before .before .before .stepped .given .1)
 
 -- what is kept of the columns stays right in a step
@@ -115,9 +115,9 @@ columns-kept x =
     let b = l .before .before .before .before .before in
     let f = b .pre .1 .1 .0 in
     let i = b .pre .1 .1 .1 .0 .1 in
-    let o = l .loop .inv .4 .course (f .grid) (f .old) (i .origin) (b .args .supply .used) (f .stands) (i .reads) in
+    let o = l .loop .inv .4 .course (f .grid) (f .old) (i .origin) (b .args .supply .used) (f .stands) (f .counts) (i .reads) in
     let m = o .way .made in
-    let z = x .step .ensures .1 (f .grid) (after (f .grid) (untouched (f .grid)) (o .way .done)) (f .old) (i .origin) (l .loop .rest .used) (m .stands) (m .tidy) (omega (arith, m .left-closed, k .if1 .taken)) (m .left-closed) (o .reads) in
+    let z = x .step .ensures .1 (f .grid) (after (f .grid) (untouched (f .grid)) (o .way .done)) (f .old) (i .origin) (l .loop .rest .used) (m .stands) (m .tidy) (omega (arith, m .left-units, k .if1 .taken)) (m .left-units) (o .reads) in
     (z .1, z .2)
 
 loop-again : tie.Need-loop-again Inv-loop μ-loop
@@ -131,8 +131,8 @@ loop-again c = (
       let l = k .before .before in
       let a = l .before .before .before .before .before .args in
       record {
-        course = λ g old origin at st d. course-goes-on (a .rows) (a .columns) g old origin (sourceOf (modeOf (a .mode)) (a .draws .now) origin) (a .safe) at (a .list .now) (l .loop .work) (l .loop .list) (l .loop .state) (l .loop .rest)
-            (l .loop .inv .4 .course g old origin at st d) (x .step .last .0) (x .step .last .1 .1 .1 .0) (x .step .result) (k .if1 .taken)
+        course = λ g old origin at st z d. course-goes-on (a .rows) (a .columns) g old origin (sourceOf (modeOf (a .mode)) (a .draws .now) origin) (a .units) at (a .list .now) (l .loop .work) (l .loop .list) (l .loop .state) (l .loop .rest)
+            (l .loop .inv .4 .course g old origin at st z d) (x .step .last .0) (x .step .last .1 .1 .1 .0) (x .step .result) (k .if1 .taken)
             (λ s n v f h e q. x .step .ensures .1 g s old origin n v f h e q .0) (origin-places (modeOf (a .mode)) (a .draws .now) origin) _ (c .before .before .before .stepped .given .1);
       },
   columns-kept (c .before .before .before .before .before .before .before .before .before .before .before .before) .0,
@@ -140,7 +140,7 @@ loop-again c = (
   let x = c .before .before .before .before .before .before .before .before .before .before .before .before in
       let l = x .before .before .before .before .before .before .before in
       let a = l .before .before .before .before .before .args in
-      spent-more (a .supply) (a .safe) (l .loop .rest) (l .loop .state .closed) (l .loop .inv .7) _ _ (x .step .ensures .0 .went _ (c .before .before .before .stepped .given .1)) (loop-less c),
+      spent-more (a .supply) (a .units) (l .loop .rest) (l .loop .state .units) (l .loop .inv .7) _ _ (x .step .ensures .0 .went _ (c .before .before .before .stepped .given .1)) (loop-less c),
 )
 
 same-length-5 : tie.Need-same-length-5 Inv-loop μ-loop
@@ -161,9 +161,9 @@ returns-2 c =
     let b = l .before .before .before .before .before in
     let a = b .args in (
       round-ended (a .supply) (l .loop .state .moves) (l .loop .rest)
-          (round-grew (a .supply) (a .safe) (l .loop .rest) (l .loop .state .closed) (l .loop .inv .7) (safe-few (a .rows) (a .columns) (a .work .now) (a .safe) (b .pre .1 .1 .0))),
-      λ g old origin at st d. course-ends (a .rows) (a .columns) g old origin (sourceOf (modeOf (a .mode)) (a .draws .now) origin) (a .safe) at (a .list .now) (l .loop .work) (l .loop .list) (l .loop .state) (l .loop .rest)
-          (l .loop .inv .4 .course g old origin at st d) (omega arith),
+          (round-grew (a .supply) (a .units) (l .loop .rest) (l .loop .state .units) (l .loop .inv .7) (units-few (a .rows) (a .columns) (a .work .now) (a .units) (b .pre .1 .1 .0))),
+      λ g old origin at st z d. course-ends (a .rows) (a .columns) g old origin (sourceOf (modeOf (a .mode)) (a .draws .now) origin) (a .units) at (a .list .now) (l .loop .work) (l .loop .list) (l .loop .state) (l .loop .rest)
+          (l .loop .inv .4 .course g old origin at st z d) (omega arith),
     )
 
 pub roll-on-spec : {M : Type 1} → statement M

@@ -31,7 +31,7 @@ returns : tie.Need-returns
 returns c =
     let x = c .before .before .before in
     let a = x .before .before .before .args in
-    λ g old origin st d. first-breaks (a .rows) (a .columns) g old origin (sourceOf (modeOf (a .mode)) (a .draws .now) origin) (x .unlisted .last .0) (x .unlisted .result) (x .unlisted .ensures .1 g old origin 0 st d) (a .rounds) (c .enum-told .given .1)
+    λ g old origin st n d. first-breaks (a .rows) (a .columns) g old origin (sourceOf (modeOf (a .mode)) (a .draws .now) origin) (x .unlisted .last .0) (x .unlisted .result) (x .unlisted .ensures .1 g old origin 0 st n d) (a .rounds) (c .enum-told .given .1)
 
 sub-rounds-left : tie.Need-sub-rounds-left
 sub-rounds-left c = search needs
@@ -48,8 +48,8 @@ search-on-requires c κs =
     let a = b .args in
     let f = b .pre .1 .1 .0 in
     let i = b .pre .1 .1 .1 .1 in
-    let t = once-counted (a .rows) (a .columns) (a .work .now) (a .safe) f (i .origin) (sourceOf (modeOf (a .mode)) (a .draws .now) (i .origin)) (a .supply .used) (x .unlisted .last .0) (x .unlisted .result)
-    (x .unlisted .ensures .1 (f .grid) (f .old) (i .origin) (a .supply .used) (f .stands) (i .reads)) _ _ (o .rolled .given .1) in (
+    let t = once-counted (a .rows) (a .columns) (a .work .now) (a .units) f (i .origin) (sourceOf (modeOf (a .mode)) (a .draws .now) (i .origin)) (a .supply .used) (x .unlisted .last .0) (x .unlisted .result)
+    (x .unlisted .ensures .1 (f .grid) (f .old) (i .origin) (a .supply .used) (f .stands) (f .counts) (i .reads)) _ _ (o .rolled .given .1) in (
       b .pre .0,
       (
         search needs,
@@ -73,11 +73,11 @@ returns-2 c =
     let o = z .before .before in
     let x = o .before .before .before in
     let a = x .before .before .before .args in
-    λ g old origin st d.
-    let f = first-ends (a .rows) (a .columns) g old origin (sourceOf (modeOf (a .mode)) (a .draws .now) origin) (x .unlisted .last .0) (x .unlisted .result) (x .unlisted .ensures .1 g old origin 0 st d) (a .rounds)
+    λ g old origin st n d.
+    let f = first-ends (a .rows) (a .columns) g old origin (sourceOf (modeOf (a .mode)) (a .draws .now) origin) (x .unlisted .last .0) (x .unlisted .result) (x .unlisted .ensures .1 g old origin 0 st n d) (a .rounds)
     _ _ (a .supply .used) (z .rounds-left .result) (o .rolled .given .1) (d .used-is) (z .rounds-left .ensures .0) in
     subst (λ (s : Option Searched). Searching (a .rows) (a .columns) g old origin s (y .search-on .last .0) (y .search-on .result)) (sym (f .rest))
-    (y .search-on .ensures g old (f .moves) origin _ (f .stands) (f .reads))
+    (y .search-on .ensures g old (f .moves) origin _ (f .stands) n (f .reads))
 
 pub search-spec : {M : Type 1} → statement M
 search-spec =

@@ -21,7 +21,7 @@ returns c =
     let x = c .before .before .round in
     let a = c .before .before .before .before .before .before .args in (
       x .ensures .0,
-      λ g old origin at st d. once-searched (a .rows) (a .columns) g old origin (randomRound g (sourceOf (modeOf (a .mode)) (a .draws .now) origin) at) _ (x .last .0) _ (x .result) (x .ensures .1 g old origin at st d),
+      λ g old origin at st n d. once-searched (a .rows) (a .columns) g old origin (randomRound g (sourceOf (modeOf (a .mode)) (a .draws .now) origin) at) _ (x .last .0) _ (x .result) (x .ensures .1 g old origin at st n d),
     )
 
 pub unlisted-spec : {M : Type 1} → statement M

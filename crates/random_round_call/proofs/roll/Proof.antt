@@ -30,7 +30,7 @@ round-requires c κs =
     let u = c .before .before .before in
     let s = u .before .before .before .before in
     let a = s .args in
-    (s .pre .0, (search needs, (record { grid = gridOf (a .rows) (a .columns) (a .grid .now); old = a .work .now; stands = begun u; counts = u .set-up .ensures .safe }, s .pre .1 .1)))
+    (s .pre .0, (search needs, (record { grid = gridOf (a .rows) (a .columns) (a .grid .now); old = a .work .now; stands = begun u; counts = u .set-up .ensures .units }, s .pre .1 .1)))
 
 end-round-requires : tie.Need-end-round-requires
 end-round-requires c κs = search needs
@@ -51,7 +51,7 @@ returns c =
     let g = gridOf (a .rows) (a .columns) (a .grid .now) in
     λ origin d.
     let source = sourceOf (modeOf (a .mode)) (a .draws .now) origin in
-    let p = y .round .ensures .1 g (a .work .now) origin 0 (begun u) d in (
+    let p = y .round .ensures .1 g (a .work .now) origin 0 (begun u) (u .set-up .ensures .units) d in (
       round-hands (a .rows) (a .columns) g origin (a .work .now) _ (y .round .result) (randomRound g source 0) (a .list .now) _ p,
       e .end-round .ensures g source origin (a .work .now) (a .list .now) (origin-places (modeOf (a .mode)) (a .draws .now) origin) refl (s .pre .1 .0 .1) (s .pre .1 .0 .2) p,
     )

@@ -29,7 +29,7 @@ search-requires c κs =
     let u = c .before .before in
     let s = u .before .before .before in
     let a = s .args in
-    (s .pre .0, ((search needs, s .pre .1 .0 .2), (record { grid = gridOf (a .rows) (a .columns) (a .grid .now); old = a .work .now; stands = begun u; counts = u .set-up .ensures .safe }, s .pre .1 .1)))
+    (s .pre .0, ((search needs, s .pre .1 .0 .2), (record { grid = gridOf (a .rows) (a .columns) (a .grid .now); old = a .work .now; stands = begun u; counts = u .set-up .ensures .units }, s .pre .1 .1)))
 
 end-search-requires : tie.Need-end-search-requires
 end-search-requires c κs = search needs
@@ -47,7 +47,7 @@ returns c =
     let g = gridOf (a .rows) (a .columns) (a .grid .now) in
     λ origin d.
     let o = randomSearch g (sourceOf (modeOf (a .mode)) (a .draws .now) origin) (a .rounds) in
-    let p = y .search .ensures g (a .work .now) origin (begun u) d in
+    let p = y .search .ensures g (a .work .now) origin (begun u) (u .set-up .ensures .units) d in
     (search-hands (a .rows) (a .columns) g origin (a .work .now) _ (y .search .result) o p, e .end-search .ensures g origin o (a .work .now) refl (s .pre .1 .0 .1) p)
 
 pub search-spec : {M : Type 1} → statement M

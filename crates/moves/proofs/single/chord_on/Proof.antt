@@ -27,7 +27,7 @@ returns c =
     let x = v .chord in
     λ g s old st f m e. let q = x .ensures g s old st f m in
     made-one (a .rows) (a .columns) g s old (chord (a .index)) (x .result) (a .list .now) (a .state) (x .last .0) (y .last .0) (y .result)
-    (y .ensures) (q .stands) (q .tidy) (q .opened-cells) e
+    (y .ensures) (q .stands) (q .tidy) (q .taken-units) e
 
 pub chord-on-spec : {M : Type 1} → statement M
 chord-on-spec =

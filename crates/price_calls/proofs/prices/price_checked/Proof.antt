@@ -25,7 +25,7 @@ set-up-requires c κs = search needs
 round-requires : tie.Need-round-requires
 round-requires c κs =
     let a = c .before .before .before .before .before .before .args in
-    (c .before .before .before .before .before .before .pre .0, (search needs, record { grid = gridOf (a .rows) (a .columns) (a .grid .now); old = a .work .now; stands = begun (c .before .before .before); counts = c .before .before .before .set-up .ensures .safe }))
+    (c .before .before .before .before .before .before .pre .0, (search needs, record { grid = gridOf (a .rows) (a .columns) (a .grid .now); old = a .work .now; stands = begun (c .before .before .before); counts = c .before .before .before .set-up .ensures .units }))
 
 mul-settle : tie.Need-mul-settle
 mul-settle c = search needs
@@ -44,7 +44,8 @@ returns c =
     let a = c .before .before .before .before .before .before .before .before .before .before .before .before .before .args in
     let g = gridOf (a .rows) (a .columns) (a .grid .now) in
     let played = movesOf (roundSteps (a .openings-first) g) in
-    let k = c .before .before .before .before .before .before .round .ensures g (a .work .now) (begun (c .before .before .before .before .before .before .before .before .before .before)) (c .before .before .before .before .before .before .before .before .before .before .before .before .before .pre .1 .2) in
+    let u = c .before .before .before .before .before .before .before .before .before .before in
+    let k = c .before .before .before .before .before .before .round .ensures g (a .work .now) (begun u) (u .set-up .ensures .units) (c .before .before .before .before .before .before .before .before .before .before .before .before .before .pre .1 .2) in
     record {
       answers = ap (λ (n : ℕ). gives (n ∷ [])) (k .clicks);
       leaves = c .before .settle .ensures g (after g (untouched g) played) (a .work .now) refl (c .before .before .before .before .before .before .before .before .before .before .before .before .before .pre .1 .1) (k .stands .holds-it);

@@ -1,4 +1,4 @@
--- `rounds::whole::play_on`: the steps so far are those of the definition; fewer safe cells are closed after each; what is kept of the columns stays right. Assumes nothing.
+-- `rounds::whole::play_on`: the steps so far are those of the definition; fewer units are closed after each; what is kept of the columns stays right. Assumes nothing.
 use Prim.Native.Nat.{_*_, _≤_}
 use native.Mathlib.Omega.{arith}
 use mathlib.Core.Path.{_≡_, refl}
@@ -7,10 +7,10 @@ use borrow.Author.Needs.{needs}
 use Rattle.choices.specs.Tests.{NoUnitBelow}
 use Rattle.choices.specs.Tops.{TopsKnown}
 use Rattle.game.specs.Moves.{after}
-use Rattle.game.specs.Position.{closedSafe}
+use Rattle.game.specs.Position.{closedUnits}
 use Rattle.rounds.proofs.Lows.{low-goes-on}
 use Rattle.moves.proofs.Partway.{partway-few}
-use Rattle.rounds.proofs.Onward.{StepsMidway, closed-falls, known, midway-begins, midway-ends, midway-goes-on}
+use Rattle.rounds.proofs.Onward.{StepsMidway, known, midway-begins, midway-ends, midway-goes-on, units-fall}
 use Rattle.rounds.proofs.whole.play_on.Statement.{statement}
 use Rattle.rounds.proofs.whole.play_on.Tie as tie
 
@@ -20,7 +20,7 @@ Inv-loop work₀ rows columns list₀ tops₀ opened-only current₀ from₀ wor
     × StepsMidway opened-only rows columns work₀ list₀ current₀ work list current × TopsKnown opened-only work rows columns tops × (from ≤ columns) × NoUnitBelow work (from * rows)
 
 abbrev μ-loop : tie.MeasureT-loop
-μ-loop work₀ rows columns list₀ tops₀ opened-only current₀ from₀ work list tops current from = current .closed
+μ-loop work₀ rows columns list₀ tops₀ opened-only current₀ from₀ work list tops current from = current .units
 
 loop-holds : tie.Need-loop-holds Inv-loop μ-loop
 loop-holds c =
@@ -52,7 +52,7 @@ loop-less c =
     let l = n .before .before in
     let b = l .before .before .before in
     let a = b .args in
-    closed-falls (a .opened-only) (a .rows) (a .columns) (a .work .now) (a .list .now) (a .state) (l .loop .work) (l .loop .list) (l .loop .current) (l .loop .inv .3)
+    units-fall (a .opened-only) (a .rows) (a .columns) (a .work .now) (a .list .now) (a .state) (l .loop .work) (l .loop .list) (l .loop .current) (l .loop .inv .3)
     (x .last .0) (x .last .1 .1 .1 .0) (x .result .state) (λ g s old st f h e. x .ensures g s old st f h e .made) (n .if1 .taken) (b .pre .1 .1 .0)
 
 loop-again : tie.Need-loop-again Inv-loop μ-loop
@@ -66,8 +66,8 @@ loop-again c =
     let o = known (a .opened-only) (a .rows) (a .columns) (a .work .now) (a .list .now) (a .state) (l .loop .work) (l .loop .list) (l .loop .current) (l .loop .inv .3) g in
     let u = o .made in
     let p = after (g .grid) (g .position) (o .done) in
-    let h : 1 ≤ closedSafe (g .grid) p = omega (arith, u .left-closed, n .if1 .taken) in
-    let q = x .ensures (g .grid) p (g .old) (u .stands) (u .tidy) h (u .left-closed) in
+    let h : 1 ≤ closedUnits (g .grid) p = omega (arith, u .left-units, n .if1 .taken) in
+    let q = x .ensures (g .grid) p (g .old) (u .stands) (u .tidy) h (u .left-units) in
     let low = low-goes-on (a .opened-only) (a .rows) (a .columns) (g .grid) p (g .old) (l .loop .work) (x .last .0) (l .loop .from) (x .result .from)
     (u .stands) (u .tidy) (q .made .stands) h (q .column) (l .loop .inv .5, l .loop .inv .6) in (
       search needs,

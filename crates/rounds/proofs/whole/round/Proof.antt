@@ -21,10 +21,9 @@ same-length-2 c = search needs
 returns : tie.Need-returns
 returns c =
     let y = c .before .before .before .go-on in
-    let b = c .before .before .before .before .before .before .before in
-    let a = b .args in
-    λ g old st room. rounded (a .rows) (a .columns) g old (a .work .now) (a .openings-first) (a .list .now) _ (y .last .0) (y .last .1 .1 .1 .0) (y .result)
-    (b .pre .1 .1) st room (y .ensures g _ old st) refl
+    let a = c .before .before .before .before .before .before .before .args in
+    λ g old st units room. rounded (a .rows) (a .columns) g old (a .work .now) (a .openings-first) (a .list .now) _ (y .last .0) (y .last .1 .1 .1 .0) (y .result)
+    st units room (y .ensures g _ old st) refl
 
 pub round-spec : {M : Type 1} → statement M
 round-spec = tie.close (tie.spec go-on-requires same-length same-length-2 returns)

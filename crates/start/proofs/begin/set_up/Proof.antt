@@ -23,9 +23,9 @@ lay-requires c κs = search needs
 raise-all-requires : tie.Need-raise-all-requires
 raise-all-requires c κs = search needs
 
-add-t17 : tie.Need-add-t17
-add-t17 c =
-    let label = c .before .before .before .before .before .before .before .before in
+add-result : tie.Need-add-result
+add-result c =
+    let label = c .before .before .before .before .before .before .before in
     let load = label .before .before .before in
     let a = load .before .before .args in
     let g = gridOf (a .rows) (a .columns) (a .grid .now) in
@@ -37,17 +37,16 @@ same-length c = search needs
 
 returns : tie.Need-returns
 returns c =
-    let raise = c .before .before in
+    let raise = c .before in
     let lay = raise .before .before .before in
     let label = lay .before .before .before in
     let load = label .before .before .before in
     let a = load .before .before .args in
     let g = gridOf (a .rows) (a .columns) (a .grid .now) in
-    begun-setting g (a .work .now) (omega arith) (label .label .last .0) (lay .lay .last .0) (raise .raise-all .last .0) (label .label .result) (lay .lay .result .unlabelled) (lay .lay .result .safe)
-    (label .label .ensures g (a .work .now) refl refl (omega arith) (load .load .ensures)) (lay .lay .ensures .1) (lay .lay .ensures .2)
-    (lay .lay .ensures .0) (raise .raise-all .ensures)
+    begun-setting g (a .work .now) (omega arith) (label .label .last .0) (lay .lay .last .0) (raise .raise-all .last .0) (label .label .result) (lay .lay .result)
+    (label .label .ensures g (a .work .now) refl refl (omega arith) (load .load .ensures)) (lay .lay .ensures .1) (lay .lay .ensures .0) (raise .raise-all .ensures)
 
 pub set-up-spec : {M : Type 1} → statement M
 set-up-spec =
     tie.close
-    (tie.spec mul-cells load-requires label-requires lay-requires raise-all-requires add-t17 same-length returns)
+    (tie.spec mul-cells load-requires label-requires lay-requires raise-all-requires add-result same-length returns)

@@ -7,7 +7,7 @@ use lib.ListN.{length}
 use Rattle.game.specs.Lists.{range, fold}
 use Rattle.area.specs.Numbers.{gridOf}
 use Rattle.start.specs.Passes.{loadColumn}
-use Rattle.start.proofs.Loaded.{columns-more, length-columns, loaded-all}
+use Rattle.start.proofs.Loaded.{columns-more, length-columns, loaded-first}
 use Rattle.start.proofs.load.load.Statement.{statement}
 use Rattle.start.proofs.load.load.Tie as tie
 
@@ -80,7 +80,7 @@ returns c =
     let l = c .before .loop in
     let e : min (32 * l .block) (a .columns) ≡ a .columns = omega arith in
     l .inv .1 ∙ ap (λ (k : ℕ). fold (loadColumn (gridOf (a .rows) (a .columns) (a .grid .now))) (a .work .now) (range 0 k)) e
-    ∙ loaded-all (gridOf (a .rows) (a .columns) (a .grid .now)) (a .work .now) (omega arith)
+    ∙ loaded-first (gridOf (a .rows) (a .columns) (a .grid .now)) (a .work .now) (a .columns) (omega arith)
 
 pub load-spec : {M : Type 1} → statement M
 load-spec =

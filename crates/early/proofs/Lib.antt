@@ -1,0 +1,5 @@
+pub mod Lones
+pub mod Unchanged
+pub mod Looked
+pub mod Glances
+pub mod Stops
