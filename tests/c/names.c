@@ -841,6 +841,16 @@ static void judged_random(size_t rows, size_t columns, size_t percent) {
     judged_around(rows, columns, values);
 }
 
+/* Five rows and 64 columns with mines along the middle row, in the first so many columns: an opening in two arms, joined past them. */
+static void judged_arms(size_t mines) {
+    enum { ROWS = 5, COLUMNS = 64 };
+    memset(values, 0, sizeof values);
+    for (size_t k = 0; k < mines; k++) values[2 * COLUMNS + k] = -1;
+    judged(ROWS, COLUMNS, values, 1, 1);
+    judged(ROWS, COLUMNS, values, 2, 0);
+    judged_around(ROWS, COLUMNS, values);
+}
+
 /* The early count: all small grids, one opening, both labelling forms, league boards, wide boards, the largest. */
 static void early(void) {
     for (size_t rows = 1; rows <= 4; rows++)
@@ -850,6 +860,7 @@ static void early(void) {
     judged_around(16, 32, grid);
     judged_around(19, 27, grid);
     judged_around(3, 64, grid);
+    for (size_t mines = 0; mines < 63; mines++) judged_arms(mines);
     judged_around(255, 255, grid);
     for (size_t k = 0; k < RANDOM_GRIDS; k++) {
         judged_random(16, 32, below(41));
