@@ -85,6 +85,7 @@ same-play g s m f t = go m (narrow→ g s m t)
     go (left i) (by_left h a c) = play_left g s i a ∙ same-reveal g s i h f
     go (flag i) (by_flag h a c) = refl
     go (chord i) (by_chord h o a) = play_chord g s i f.long a ∙ same-reveals g (square g i) s (λ x u. (square→ g i x h u).0) f
+    go (unflag _) w = elim w [ ]
 
 -- ---- what is legal
 
@@ -129,6 +130,8 @@ new_refused g s m n t = go m n (narrow→ g s m t)
     go : (m : Move) → New g s m → Narrow g s m → ⊥
     go (flag i) (flags_safe a c) (by_flag h b d) = T_not (mine g i) a b
     go (left i) (clicks_mine a c) (by_left h b d) = T_not (mine g i) b a
+    go (chord _) n _ = elim n [ ]
+    go (unflag _) _ w = elim w [ ]
 
 -- ---- the counts
 

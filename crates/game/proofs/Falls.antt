@@ -6,7 +6,7 @@ use mathlib.Core.List.{List, [], ◌∷◌}
 use lib.Dec.{T}
 use lib.ListN.{length}
 use Rattle.game.specs.Grid.{Grid, cells, size, square}
-use Rattle.game.specs.Moves.{Move, after, chord, flag, left, play}
+use Rattle.game.specs.Moves.{Move, after, chord, flag, left, play, unflag}
 use Rattle.game.specs.Openings.{openings, three_bv, unlabelled}
 use Rattle.game.specs.Position.{Position, Tidy, cell_unit, closed_units, opening_closed, unopened}
 use Rattle.game.specs.Rounds.{Step, after_step}
@@ -26,6 +26,7 @@ play_fewer g s m t l = go m (narrow→ g s m t)
     go (left i) (by_left h a c) = subst (Fewer s) (sym (play_left g s i a)) (reveal_fewer g s i l)
     go (flag i) (by_flag h a c) = subst (Fewer s) (sym (play_flag g s i)) (set_fewer s i 2 c)
     go (chord i) (by_chord h o a) = subst (Fewer s) (sym (play_chord g s i l a)) (fold_fewer g (square g i) s l)
+    go (unflag _) w = elim w [ ]
 
 after_fewer : (g : Grid) (ms : List Move) (s : Position) → AllNarrow g s ms → Tidy g s → Fewer s (after g s ms)
 after_fewer g [] s h f j t = t

@@ -41,6 +41,7 @@ mines_flagged→ g s i t j u m = or (mine g j) (flagged s j) (all_has (λ j. not
   where
     or : (a b : Bool) → T (not a || b) → T a → T b
     or true b h k = h
+    or false b h k = elim k [ ]
 
 -- what such a move is on
 pub data Narrow (g : Grid) (s : Position) : Move → Type 0 where
@@ -117,6 +118,7 @@ narrow_legal g s m f u t =
     asked (chord i) (by_chord h o a) =
         and_both (opened s i && not (zero_cell g i)) (eqb (count (flagged s) (square g i)) (number g i)) o
         (rw (eq-eqb (count (flagged s) (square g i)) (number g i) (flags_mines g s i f a)) tt)
+    asked (unflag _) w = elim w [ ]
 
 -- a legal move is on the grid, as the move asks, in a game that is neither won nor lost
 pub legal→ : (g : Grid) (s : Position) (m : Move) → T (legal g s m) → T (unfinished g s) × (cell_of m < size g) × T (allowed g s m)
@@ -167,6 +169,7 @@ play_tidy g s m t f = go m (narrow→ g s m t)
     go (flag i) (by_flag h a c) = subst (Tidy g) (sym (play_flag g s i)) (flag_tidy g s i h a f)
     go (chord i) (by_chord h o a) =
         subst (Tidy g) (sym (play_chord g s i f.long a)) (fold_tidy g (square g i) s (λ x u. (square→ g i x h u).0) f)
+    go (unflag _) w = elim w [ ]
 
 pub after_tidy : (g : Grid) (ms : List Move) (s : Position) → AllNarrow g s ms → Tidy g s → Tidy g (after g s ms)
 after_tidy g [] s h f = f

@@ -4,7 +4,7 @@ use Rattle.std.proofs.Math.Option.{none, some}
 use Rattle.game.specs.Draws.{Source}
 use Rattle.game.specs.Grid.{Grid, safe, size}
 use Rattle.game.specs.Lists.{Each}
-use Rattle.game.specs.Moves.{AllLegal, Move, after, left}
+use Rattle.game.specs.Moves.{AllLegal, Move, after}
 use Rattle.game.specs.Openings.{three_bv}
 use Rattle.game.specs.Position.{Position, closed_units, opened, premium, untouched, won}
 use Rattle.game.specs.Rounds.{Round, Searched, Step, after_step, moves_of, random_round}
