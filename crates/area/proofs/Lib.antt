@@ -6,6 +6,6 @@ pub mod Rows
 pub mod Shifting
 pub mod CellByCell
 pub mod Held
-pub mod Sides
+pub mod SquareSides
 pub mod Marks
 pub mod Spans

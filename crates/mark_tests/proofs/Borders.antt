@@ -12,7 +12,7 @@ use Rattle.area.proofs.Held.{held_numbers}
 use Rattle.area.specs.Numbers.{grid_of, content_at, state_at}
 use Rattle.area.specs.Squares.{near_cell, on_grid}
 use Rattle.area.specs.Stages.{Stands}
-use Rattle.area.proofs.Sides.{nine, nine_all, nine_more}
+use Rattle.area.proofs.SquareSides.{nine, nine_all, nine_more}
 use Rattle.game.specs.Grid.{Grid, size, square, zero_cell}
 use Rattle.game.specs.Lists.{has, some_of}
 use Rattle.game.specs.Position.{Position, closed}

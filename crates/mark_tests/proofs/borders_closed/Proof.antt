@@ -8,7 +8,7 @@ use lib.Dec.{T}
 use Rattle.area.specs.Numbers.{grid_of}
 use Rattle.area.specs.Squares.{near_cell}
 use Rattle.area.proofs.Cells.{cells_few}
-use Rattle.area.proofs.Sides.{near-cell, nine, nine_none}
+use Rattle.area.proofs.SquareSides.{near-cell, nine, nine_none}
 use Rattle.game.specs.Lists.{some_of}
 use Rattle.game.proofs.Truth.{T→true, or_right}
 use Rattle.mark_tests.specs.Tests.{closed_zero_at}

@@ -5,7 +5,7 @@ use Rattle.area.proofs.squares.near_at.Tie as tie
 use native.Mathlib.Omega.{arith}
 use Rattle.area.proofs.Cells.{cells_few}
 use Rattle.area.proofs.Rows.{column_inside, row_inside}
-use Rattle.area.proofs.Sides.{near_below, off_grid, on-grid}
+use Rattle.area.proofs.SquareSides.{near_below, off_grid, on-grid}
 use Prim.Native.Nat.{ℕ, ◌%◌, ◌*◌, ◌+◌, ◌-◌, ◌/◌, ◌<◌, ◌≤◌}
 use mathlib.Core.Path.{◌≡◌}
 use mathlib.Core.List.{[]}
