@@ -1,0 +1,18 @@
+-- `mine_sums::sum_of`: what is above, here and below. Assumes nothing.
+use native.Mathlib.Omega.{arith}
+use Rattle.area.specs.Numbers.{grid_of}
+use Rattle.area.proofs.Tests.{byte_le}
+use Rattle.mine_sums.proofs.Columns.{column_three}
+use Rattle.mine_sums.proofs.sum_of.Goals as goal
+
+pub overflow_add-result : goal.overflow_add-result
+overflow_add-result c = omega (arith, byte_le c.args.own_val)
+
+pub overflow_add-result-2 : goal.overflow_add-result-2
+overflow_add-result-2 c = omega (arith, byte_le c.args.own_val)
+
+pub returns : goal.returns
+returns c =
+    let a = c.args in
+    column_three (grid_of a.rows a.columns a.grid.now) a.row a.column c.mine_above-above.result c.mine_below-below.result a.own_val (omega arith)
+    c.mine_above-above.ensures.0 c.requires.columns_in_bounds.1 c.mine_below-below.ensures.0
