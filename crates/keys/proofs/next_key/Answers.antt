@@ -1,9 +1,8 @@
 -- `keys::next_key`: field by field the next key of the rules. Assumes nothing.
-use Rattle.std.proofs.Common.{◌≡◌, ℕ, ◌+◌, ◌%◌, ◌^◌, ap₂, rules}
+use Rattle.std.proofs.Common.{◌≡◌, ℕ, ◌+◌, ◌%◌, ◌^◌, ap₂}
 use lib.Bits.{bit_xor}
 use Rattle.game.specs.Keys.{Key, mix_left, mix_right, next_key}
-use Rattle.keys.proofs.next_key.Statement.{statement}
-use Rattle.keys.proofs.next_key.Tie as tie
+use Rattle.keys.proofs.next_key.Goals as goal
 
 -- the words moved down, with these as last word and counter
 moved : (k : Key) (last counter : ℕ) → last ≡ bit_xor (mix_left 4 k.v) (mix_left 1 (mix_right k.x)) → counter ≡ (k.counter + 362437) % 2 ^ 32
@@ -11,14 +10,5 @@ moved : (k : Key) (last counter : ℕ) → last ≡ bit_xor (mix_left 4 k.v) (mi
 unfolding next_key
 moved k last counter e f = ap₂ (λ (a b : ℕ). record { x = k.y; y = k.z; z = k.w; w = k.v; v = a; counter = b }) e f
 
-mixed-requires : tie.Need-mixed-requires
-mixed-requires c κs = search rules
-
-wrapping-add-u32-requires : tie.Need-wrapping-add-u32-requires
-wrapping-add-u32-requires c κs = search rules
-
-returns : tie.Need-returns
-returns c = moved _ _ _ c.before.mixed.ensures c.wrapping-add-u32.ensures
-
-pub next_key_spec : {M : Type 1} → statement M
-next_key_spec = tie.close (tie.spec mixed-requires wrapping-add-u32-requires returns)
+pub returns : goal.returns
+returns c = moved _ _ _ c.mixed.ensures c.wrapping_add_u32.ensures

@@ -2,8 +2,7 @@
 use Rattle.std.proofs.Common.{◌≡◌, Bool, true, false, ◌&&◌, eqb, sym, refl, eq-eqb, ne_eqb}
 use Rattle.game.specs.Keys.{Key, blank}
 use Rattle.keys.specs.Stands.{key_of}
-use Rattle.keys.proofs.is_blank.Statement.{statement}
-use Rattle.keys.proofs.is_blank.Tie as tie
+use Rattle.keys.proofs.is_blank.Goals as goal
 
 -- a test that fails, before others or after them
 before : (b others : Bool) → b ≡ false → (b && others) ≡ false
@@ -31,25 +30,21 @@ module _ (k : Key) where
   by_last : k.x ≡ 0 → k.y ≡ 0 → k.z ≡ 0 → k.w ≡ 0 → eqb k.v 0 ≡ blank k
   by_last x y z w = rw (eq-eqb k.x 0 x) (rw (eq-eqb k.y 0 y) (rw (eq-eqb k.z 0 z) (rw (eq-eqb k.w 0 w) refl)))
 
-returns : tie.Need-returns
-returns c = by_x (key_of c.before.before.args.key) c.if1.true
+pub returns-then-key-ne0 : goal.returns-then-key-ne0
+returns-then-key-ne0 c = by_x (key_of c.args.key) c.if-key-ne0.true
 
-returns-2 : tie.Need-returns-2
-returns-2 c = by_y (key_of c.before.before.before.before.args.key) c.if2.true
+pub returns-then-key-ne0-2 : goal.returns-then-key-ne0-2
+returns-then-key-ne0-2 c = by_y (key_of c.args.key) c.if-key-ne0-2.true
 
-returns-3 : tie.Need-returns-3
-returns-3 c = by_z (key_of c.before.before.before.before.before.before.args.key) c.if3.true
+pub returns-then-key-ne0-3 : goal.returns-then-key-ne0-3
+returns-then-key-ne0-3 c = by_z (key_of c.args.key) c.if-key-ne0-3.true
 
-returns-4 : tie.Need-returns-4
-returns-4 c = by_w (key_of c.before.before.before.before.before.before.before.before.args.key) c.if4.true
+pub returns-then-key-ne0-4 : goal.returns-then-key-ne0-4
+returns-then-key-ne0-4 c = by_w (key_of c.args.key) c.if-key-ne0-4.true
 
-returns-5 : tie.Need-returns-5
-returns-5 c =
+pub returns : goal.returns
+returns c =
     let w = c.before in
     let z = w.before.before in
     let y = z.before.before in
-    let x = y.before.before in
-    by_last (key_of x.before.before.args.key) x.if1.false y.if2.false z.if3.false w.if4.false
-
-pub is_blank_spec : {M : Type 1} → statement M
-is_blank_spec = tie.close (tie.spec returns returns-2 returns-3 returns-4 returns-5)
+    by_last (key_of c.args.key) c.if-key-ne0.false c.if-key-ne0-2.false c.if-key-ne0-3.false c.if-key-ne0-4.false
