@@ -33,7 +33,7 @@ pub fn lowest(work: &[i32], rows: usize, columns: usize, from: usize) -> Lowest
     requires shape { Shape rows columns }
     requires has_cells { HasCells work.now (rows * columns) × (from ≤ columns) × NoUnitBelow work.now (from * rows) }
     ensures { (g : Grid) (s : Position) (old : List ℤ) → Stands rows columns g s old work.now
-        → (result.found ≡ foundFirst (unitCells g s)) × (result.column ≡ foundColumn g result.found) }
+        → (result.found ≡ found_first (unit_cells g s)) × (result.column ≡ found_column g result.found) }
 {
     let mut found = Found::Nothing;
     let mut column = from;

@@ -47,7 +47,7 @@ pub fn given_by(key: Key) -> usize
 
 // Whether the five words are all 0.
 pub fn is_blank(key: Key) -> bool
-    ensures { «r» ≡ blank (key_of key) }
+    ensures { result ≡ blank (key_of key) }
 {
     if key.x != 0 {
         return false;

@@ -42,7 +42,7 @@ pub fn hit_openings(
     requires has_cells { HasCells work.old (rows * columns) × (state.moves ≤ 2 ^ 32) }
     ensures moves_bound { result.moves ≤ state.moves + rows * columns }
     ensures made { (g : Grid) (s : Position) (old : List ℤ) → Stands rows columns g s old work.old → Tidy g s → state.units ≡ closed_units g s
-        → Made rows columns g s old (moves_of (openingClicks g s (cells g))) list.old state work.new list.new result }
+        → Made rows columns g s old (moves_of (opening_clicks g s (cells g))) list.old state work.new list.new result }
 {
     let cells = rows * columns;
     let mut clicked = state;

@@ -4,7 +4,7 @@ ghost use Rattle.area.specs.Squares.{row_cells};
 ghost use Rattle.area.specs.Numbers.{HasCells};
 ghost use Rattle.game.specs.Lists.{keep};
 ghost use Rattle.game.specs.Grid.{Grid, safe, square, zero_cell};
-ghost use Rattle.game.specs.Position.{Position, Tidy, closed as isClosed, closed_units, unflagged};
+ghost use Rattle.game.specs.Position.{Position, Tidy, closed as is_closed, closed_units, unflagged};
 ghost use Rattle.game.specs.Moves.{left, flag, chord};
 ghost use Rattle.game.specs.Rounds.{moves_at};
 ghost use Rattle.area.specs.Stages.{Shape, Stands};
@@ -51,7 +51,7 @@ pub fn click(
     requires has_cells { HasCells work.old (rows * columns) × (index < rows * columns) × (state.moves ≤ 2 ^ 48) }
     ensures moves_bound { result.moves ≤ state.moves + 1 }
     ensures made { (g : Grid) (s : Position) (old : List ℤ) → Stands rows columns g s old work.old → Tidy g s
-        → T (safe g index) → T (isClosed s index) → state.units ≡ closedUnits g s
+        → T (safe g index) → T (is_closed s index) → state.units ≡ closed_units g s
         → Made rows columns g s old (left index ∷ []) list.old state work.new list.new result }
 {
     let opened = play::reveal(work, rows, columns, index);
@@ -71,8 +71,8 @@ pub fn click_closed(
     requires has_cells { HasCells work.old (rows * columns) × (index < rows * columns) × (state.moves ≤ 2 ^ 48) }
     ensures moves_bound { result.moves ≤ state.moves + 1 }
     ensures made { (g : Grid) (s : Position) (old : List ℤ) → Stands rows columns g s old work.old → Tidy g s
-        → T (safe g index) → state.units ≡ closedUnits g s
-        → Made rows columns g s old (cond (isClosed s index) (left index ∷ []) []) list.old state work.new list.new result }
+        → T (safe g index) → state.units ≡ closed_units g s
+        → Made rows columns g s old (cond (is_closed s index) (left index ∷ []) []) list.old state work.new list.new result }
 {
     if area::state(work, index) != 0 {
         return state;
@@ -184,8 +184,8 @@ pub fn act(
     requires shape { Shape rows columns }
     requires has_cells { HasCells work.old (rows * columns) × (index < rows * columns) × (state.moves ≤ 2 ^ 45) }
     ensures { (g : Grid) (s : Position) (old : List ℤ) → Stands rows columns g s old work.old → Tidy g s
-        → T (safe g index) → (T (zeroCell g index) → ⊥) → state.units ≡ closedUnits g s
-        → Made rows columns g s old (movesAt g s index) list.old state work.new list.new result }
+        → T (safe g index) → (T (zero_cell g index) → ⊥) → state.units ≡ closed_units g s
+        → Made rows columns g s old (moves_at g s index) list.old state work.new list.new result }
 {
     let clicked = click_closed(work, rows, columns, list, state, index);
     let flagged = flag_around(work, rows, columns, list, clicked, index);

@@ -7,8 +7,8 @@ ghost use Rattle.area.specs.Numbers.{HasCell, HasCells, first_at};
 ghost use Rattle.game.specs.Lists.{bit};
 ghost use Rattle.game.specs.Grid.{Grid, mine, zero_cell};
 ghost use Rattle.game.specs.Openings.{first_label};
-ghost use Rattle.game.specs.Position.{Position, Tidy, closed as isClosed};
-ghost use Rattle.game.specs.Moves.{play, flag as flagMove};
+ghost use Rattle.game.specs.Position.{Position, Tidy, closed as is_closed};
+ghost use Rattle.game.specs.Moves.{play, flag as flag_move};
 ghost use Rattle.area.specs.Stages.{Shape, Stands};
 ghost use Rattle.play.specs.Walks.{opened_one, labelled_at, CellSwept, SweptOver, RunSwept, LeftSwept, RightSwept};
 ghost use Rattle.play.specs.Promises.{Revealing, Opens, Chording, MinesFlagged, together};
@@ -114,7 +114,7 @@ fn sweep_opening(work: &mut [i32], rows: usize, columns: usize, index: usize, la
     requires shape { Shape rows columns }
     requires has_cells { HasCells work.old (rows * columns) × (index < rows * columns) }
     ensures { (g : Grid) (s : Position) (old : List ℤ) → Stands rows columns g s old work.old
-        → T (zeroCell g index) → label ≡ firstLabel g index → SweptOver label 0 (rows * columns) work.old work.new }
+        → T (zero_cell g index) → label ≡ first_label g index → SweptOver label 0 (rows * columns) work.old work.new }
 {
     let column = index / rows;
     sweep_left(work, rows, columns, column, label);
@@ -170,7 +170,7 @@ pub fn flag(work: &mut [i32], rows: usize, columns: usize, index: usize)
     requires shape { Shape rows columns }
     requires has_cells { HasCells work.old (rows * columns) × (index < rows * columns) }
     ensures { (g : Grid) (s : Position) (old : List ℤ) → Stands rows columns g s old work.old
-        → T (mine g index) → T (isClosed s index) → Stands rows columns g (play g s (flagMove index)) old work.new }
+        → T (mine g index) → T (is_closed s index) → Stands rows columns g (play g s (flag_move index)) old work.new }
 {
     area::put_state(work, index, 2);
     area::shift_square(work, rows, columns, index, 1, 0);

@@ -22,7 +22,7 @@ pub fn alone(labels: usize, content: usize) -> usize
 pub fn lay(work: &mut [i32], cells: usize) -> usize
     requires { HasCells work.old cells }
     ensures { (work.new ≡ fold lay_cell work.old (range 0 cells))
-        × (result ≡ count (unlabelledAt work.old) (range 0 cells)) × (result ≤ cells) }
+        × (result ≡ count (unlabelled_at work.old) (range 0 cells)) × (result ≤ cells) }
 {
     let mut unlabelled: usize = 0;
     for index in 0..cells {

@@ -5,7 +5,7 @@ ghost use Rattle.std.specs.Prelude.{◌≡◌, cond, false, List, [], ℕ, ◌*�
 ghost use Rattle.area.specs.Numbers.{HasCells};
 ghost use Rattle.game.specs.Grid.{Grid, safe, zero_cell};
 ghost use Rattle.game.specs.Openings.{three_bv};
-ghost use Rattle.game.specs.Position.{Position, Tidy, closed as isClosed, closed_units, untouched};
+ghost use Rattle.game.specs.Position.{Position, Tidy, closed as is_closed, closed_units, untouched};
 ghost use Rattle.game.specs.Moves.{Move, after};
 ghost use Rattle.game.specs.Rounds.{choice, step_of, top_cells, width, random_round, random_search, search_from};
 ghost use Rattle.draws.specs.Answers.{mode_of};
@@ -63,8 +63,8 @@ fn take(
     requires shape { Shape rows columns }
     requires has_cells { HasCells work.old (rows * columns) × (index < rows * columns) × (state.moves ≤ 2 ^ 45) }
     ensures { (g : Grid) (s : Position) (old : List ℤ) → Stands rows columns g s old work.old → Tidy g s
-        → T (safe g index) → (top < 10 → T (isClosed s index) × (topCells false g s ≡ [])) → (10 ≤ top → T (zeroCell g index) → ⊥) → state.units ≡ closedUnits g s
-        → MadeKnown false rows columns g s old (takenMoves g s top index) list.old work.old tops.old state work.new list.new tops.new result }
+        → T (safe g index) → (top < 10 → T (is_closed s index) × (top_cells false g s ≡ [])) → (10 ≤ top → T (zero_cell g index) → ⊥) → state.units ≡ closed_units g s
+        → MadeKnown false rows columns g s old (taken_moves g s top index) list.old work.old tops.old state work.new list.new tops.new result }
 {
     if top < 10 {
         return steps::click_at(work, rows, columns, list, tops, state, index);
@@ -107,7 +107,7 @@ fn take_place(
     requires has_cells { HasCells work.old (rows * columns) × (state.moves ≤ 2 ^ 45) }
     requires tops_known { TopsKnown false work.old rows columns tops.old × UnitsKnown work.old rows columns units.old units.old }
     ensures { (g : Grid) (s : Position) (old : List ℤ) → Stands rows columns g s old work.old → Tidy g s → Tells g s work.old (rows * columns) top
-        → place < width (choice false g s) → state.units ≡ closedUnits g s
+        → place < width (choice false g s) → state.units ≡ closed_units g s
         → Made rows columns g s old (step_of g s (choice false g s) place).moves list.old state work.new list.new result
         × TopsKnown false work.new rows columns tops.new
         × UnitsKnown work.new rows columns tops.new units.new }
@@ -135,7 +135,7 @@ pub fn step(
     requires key_room { KeyRoom 256 supply }
     ensures step_grows { StepGrows supply result }
     ensures stepping { (g : Grid) (s : Position) (old : List ℤ) (origin : Origin) (at : ℕ) → Stands rows columns g s old work.old → Tidy g s
-        → 1 ≤ closedUnits g s → state.units ≡ closedUnits g s → Reads origin at supply
+        → 1 ≤ closed_units g s → state.units ≡ closed_units g s → Reads origin at supply
         → Stepping rows columns g s old origin (source_of (mode_of mode) draws.now origin at (width (choice false g s))) list.old state work.old work.new list.new result
         × TopsKnown false work.new rows columns tops.new
         × UnitsKnown work.new rows columns tops.new units.new }
@@ -174,7 +174,7 @@ fn roll_on(
     requires tops_known { TopsKnown false work.old rows columns tops.old × UnitsKnown work.old rows columns tops.old column_units.old }
     ensures round_grows { RoundGrows supply result }
     ensures rolling { (g : Grid) (old : List ℤ) (origin : Origin) (at : ℕ) → Stands rows columns g (untouched g) old work.old → units ≡ three_bv g → Reads origin at supply
-        → Rolling rows columns g old origin (randomRound g (source_of (mode_of mode) draws.now origin) at) list.old work.new list.new result }
+        → Rolling rows columns g old origin (random_round g (source_of (mode_of mode) draws.now origin) at) list.old work.new list.new result }
 {
     let mut state = State { moves: 0, units };
     let mut rest = supply;
@@ -217,7 +217,7 @@ pub fn round(
     requires key_room { KeyRoom (2 ^ 24) supply × Somewhere supply }
     ensures round_grows { RoundGrows supply result }
     ensures rolling { (g : Grid) (old : List ℤ) (origin : Origin) (at : ℕ) → Stands rows columns g (untouched g) old work.old → units ≡ three_bv g → Reads origin at supply
-        → Rolling rows columns g old origin (randomRound g (source_of (mode_of mode) draws.now origin) at) list.old work.new list.new result }
+        → Rolling rows columns g old origin (random_round g (source_of (mode_of mode) draws.now origin) at) list.old work.new list.new result }
 {
     let mut tops = [0u8; 255];
     let mut column_units = [0u8; 255];
@@ -251,7 +251,7 @@ fn unlisted(
     requires key_room { KeyRoom (2 ^ 24) supply × Somewhere supply }
     ensures round_grows { RoundGrows supply result }
     ensures searching { (g : Grid) (old : List ℤ) (origin : Origin) (at : ℕ) → Stands rows columns g (untouched g) old work.old → units ≡ three_bv g → Reads origin at supply
-        → Searching rows columns g old origin (once (randomRound g (source_of (mode_of mode) draws.now origin) at)) work.new result }
+        → Searching rows columns g old origin (once (random_round g (source_of (mode_of mode) draws.now origin) at)) work.new result }
 {
     let mut none = [0u32; 0];
     round(work, rows, columns, &mut none, draws, mode, units, supply)
@@ -273,7 +273,7 @@ fn again(
     requires key_room { KeyRoom (2 ^ 24) supply × Somewhere supply }
     ensures round_grows { RoundGrows supply result }
     ensures searching { (g : Grid) (s : Position) (old : List ℤ) (origin : Origin) (at : ℕ) → Stands rows columns g s old work.old → units ≡ three_bv g → Reads origin at supply
-        → Searching rows columns g old origin (once (randomRound g (source_of (mode_of mode) draws.now origin) at)) work.new result }
+        → Searching rows columns g old origin (once (random_round g (source_of (mode_of mode) draws.now origin) at)) work.new result }
 {
     start::begin::reset(work, rows, columns);
     unlisted(work, rows, columns, draws, mode, units, supply)
@@ -303,7 +303,7 @@ fn search_on(
     requires counts_units { CountsUnits rows columns work.old units }
     requires key_room { KeyRoom (2 ^ 24 * more) supply × Somewhere supply }
     ensures { (g : Grid) (old : List ℤ) (ms : List Move) (origin : Origin) (at : ℕ) → Stands rows columns g (after g (untouched g) ms) old work.old → units ≡ three_bv g → Reads origin at supply
-        → Searching rows columns g old origin (searchFrom more g (source_of (mode_of mode) draws.now origin) (record { least = clicks; next = at; moves = ms })) work.new result }
+        → Searching rows columns g old origin (search_from more g (source_of (mode_of mode) draws.now origin) (record { least = clicks; next = at; moves = ms })) work.new result }
 {
     let mut least = clicks;
     let mut rest = supply;
@@ -336,7 +336,7 @@ pub fn search(
     requires fresh { Fresh rows columns work.old units }
     requires key_room { KeyRoom (2 ^ 24 * rounds) supply × Somewhere supply }
     ensures { (g : Grid) (old : List ℤ) (origin : Origin) → Stands rows columns g (untouched g) old work.old → units ≡ three_bv g → Reads origin 0 supply
-        → Searching rows columns g old origin (randomSearch g (source_of (mode_of mode) draws.now origin) rounds) work.new result }
+        → Searching rows columns g old origin (random_search g (source_of (mode_of mode) draws.now origin) rounds) work.new result }
 {
     let rolled = unlisted(work, rows, columns, draws, mode, units, supply);
     let Finish::Ended(clicks, rest) = rolled else {

@@ -27,8 +27,8 @@ fn end_round(finish: Finish, rows: usize, columns: usize, work: &mut [i32], list
     requires shape { Shape rows columns }
     requires has_cells { HasCells work.old (rows * columns) × (rows * columns ≤ length list.old) }
     ensures { (g : Grid) (source : Source) (origin : Origin) (old : List ℤ) (before : List ℕ) → Places source → size g ≡ rows * columns → HasCells old (size g) → size g ≤ length before
-        → Rolling rows columns g old origin (randomRound g source 0) before work.old list.old finish
-        → KeepsList (roundBy source g old before) (finishAnswer finish) work.new list.new }
+        → Rolling rows columns g old origin (random_round g source 0) before work.old list.old finish
+        → KeepsList (round_by source g old before) (finish_answer finish) work.new list.new }
 {
     match finish {
         Finish::Ended(_, _) => start::begin::settle(work, rows * columns),
@@ -54,7 +54,7 @@ fn roll(
     requires grid_len { (length grid.now ≡ rows * columns) × HasCells work.old (rows * columns) × (rows * columns ≤ length list.old) }
     requires key_room { KeyRoom (2 ^ 24) supply × Somewhere supply }
     ensures { (origin : Origin) → Reads origin 0 supply → HandsOn origin result
-        × KeepsList (roundBy (source_of (mode_of mode) draws.now origin) (gridOf rows columns grid.now) work.old list.old) (finishAnswer result) work.new list.new }
+        × KeepsList (round_by (source_of (mode_of mode) draws.now origin) (grid_of rows columns grid.now) work.old list.old) (finish_answer result) work.new list.new }
 {
     let units = start::begin::set_up(grid, rows, columns, work);
     let finish = random::round(work, rows, columns, list, draws, mode, units, supply);

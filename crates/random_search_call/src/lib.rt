@@ -28,7 +28,7 @@ fn end_search(finish: Finish, rows: usize, columns: usize, work: &mut [i32])
     requires shape { Shape rows columns }
     requires has_cells { HasCells work.old (rows * columns) }
     ensures { (g : Grid) (origin : Origin) (o : Option Searched) (old : List ℤ) → size g ≡ rows * columns → HasCells old (size g)
-        → Searching rows columns g old origin o work.old finish → Keeps (drawnSearch g o old) (finishAnswer finish) work.new }
+        → Searching rows columns g old origin o work.old finish → Keeps (drawn_search g o old) (finish_answer finish) work.new }
 {
     match finish {
         Finish::Ended(_, _) => start::begin::settle(work, rows * columns),
@@ -51,7 +51,7 @@ fn search(
     requires grid_len { (length grid.now ≡ rows * columns) × HasCells work.old (rows * columns) × (1 ≤ rounds) }
     requires key_room { KeyRoom (2 ^ 24 * rounds) supply × Somewhere supply }
     ensures { (origin : Origin) → Reads origin 0 supply → HandsOn origin result
-        × Keeps (searchBy (source_of (mode_of mode) draws.now origin) rounds (gridOf rows columns grid.now) work.old) (finishAnswer result) work.new }
+        × Keeps (search_by (source_of (mode_of mode) draws.now origin) rounds (grid_of rows columns grid.now) work.old) (finish_answer result) work.new }
 {
     let units = start::begin::set_up(grid, rows, columns, work);
     let finish = random::search(work, rows, columns, draws, mode, units, supply, rounds);

@@ -5,7 +5,7 @@ ghost use Rattle.area.specs.Squares.{row_cells, square_of};
 ghost use Rattle.area.specs.Stages.{Moving, Shape};
 ghost use Rattle.game.specs.Grid.{Grid};
 ghost use Rattle.game.specs.Lists.{bit, count as count_of};
-ghost use Rattle.game.specs.Moves.{chordable as mayChord};
+ghost use Rattle.game.specs.Moves.{chordable as may_chord};
 ghost use Rattle.game.specs.Position.{Position, Sane};
 ghost use Rattle.replay.specs.Clicks.{flagged_at};
 
@@ -52,7 +52,7 @@ pub fn chordable(work: &[i32], rows: usize, columns: usize, index: usize) -> boo
     requires shape { Shape rows columns }
     requires has_cells { HasCells work.now (rows * columns) × (index < rows * columns) }
     ensures { (g : Grid) (s : Position) (old : List ℤ) → Moving rows columns g s old work.now → Sane g s
-        → result ≡ mayChord g s index }
+        → result ≡ may_chord g s index }
 {
     if area::state(work, index) != 1 {
         return false;

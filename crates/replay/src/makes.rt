@@ -4,8 +4,8 @@ ghost use Rattle.std.proofs.Math.Option.{some};
 ghost use Rattle.area.specs.Numbers.{HasCells};
 ghost use Rattle.area.specs.Stages.{Moving, Shape};
 ghost use Rattle.game.specs.Grid.{Grid};
-ghost use Rattle.game.specs.Moves.{allowed, legal_read, read_move, chord as chordMove, flag as flagMove, left as leftMove, unflag as unflagMove};
-ghost use Rattle.game.specs.Position.{Position, Sane, closed_safe, lost as isLost};
+ghost use Rattle.game.specs.Moves.{allowed, legal_read, read_move, chord as chord_move, flag as flag_move, left as left_move, unflag as unflag_move};
+ghost use Rattle.game.specs.Position.{Position, Sane, closed_safe, lost as is_lost};
 ghost use Rattle.replay.specs.Clicks.{Counts};
 ghost use Rattle.replay.specs.Replays.{Making, ending_by};
 
@@ -24,7 +24,7 @@ fn make_left(work: &mut [i32], rows: usize, columns: usize, index: usize, left: 
     requires shape { Shape rows columns }
     requires has_cells { HasCells work.old (rows * columns) × (index < rows * columns) }
     ensures { (g : Grid) (s : Position) (old : List ℤ) → Moving rows columns g s old work.old → Counts g s left
-        → Making rows columns g s old (allowed g s (leftMove index)) (some (leftMove index)) result work.old work.new }
+        → Making rows columns g s old (allowed g s (left_move index)) (some (left_move index)) result work.old work.new }
 {
     if area::state(work, index) != 0 {
         return Made::Illegal;
@@ -39,7 +39,7 @@ fn make_flag(work: &mut [i32], rows: usize, columns: usize, index: usize, left: 
     requires shape { Shape rows columns }
     requires has_cells { HasCells work.old (rows * columns) × (index < rows * columns) }
     ensures { (g : Grid) (s : Position) (old : List ℤ) → Moving rows columns g s old work.old → Counts g s left
-        → Making rows columns g s old (allowed g s (flagMove index)) (some (flagMove index)) result work.old work.new }
+        → Making rows columns g s old (allowed g s (flag_move index)) (some (flag_move index)) result work.old work.new }
 {
     let state = area::state(work, index);
     if state != 0 {
@@ -54,7 +54,7 @@ fn make_unflag(work: &mut [i32], rows: usize, columns: usize, index: usize, left
     requires shape { Shape rows columns }
     requires has_cells { HasCells work.old (rows * columns) × (index < rows * columns) }
     ensures { (g : Grid) (s : Position) (old : List ℤ) → Moving rows columns g s old work.old → Counts g s left
-        → Making rows columns g s old (allowed g s (unflagMove index)) (some (unflagMove index)) result work.old work.new }
+        → Making rows columns g s old (allowed g s (unflag_move index)) (some (unflag_move index)) result work.old work.new }
 {
     let state = area::state(work, index);
     if state != 2 {
@@ -69,7 +69,7 @@ fn make_chord(work: &mut [i32], rows: usize, columns: usize, index: usize, left:
     requires shape { Shape rows columns }
     requires has_cells { HasCells work.old (rows * columns) × (index < rows * columns) }
     ensures { (g : Grid) (s : Position) (old : List ℤ) → Moving rows columns g s old work.old → Sane g s → Counts g s left
-        → Making rows columns g s old (allowed g s (chordMove index)) (some (chordMove index)) result work.old work.new }
+        → Making rows columns g s old (allowed g s (chord_move index)) (some (chord_move index)) result work.old work.new }
 {
     if !chordable(work, rows, columns, index) {
         return Made::Illegal;
@@ -97,8 +97,8 @@ pub fn make(work: &mut [i32], rows: usize, columns: usize, word: u32, left: Rema
     requires shape { Shape rows columns }
     requires has_cells { HasCells work.old (rows * columns) }
     ensures { (g : Grid) (s : Position) (old : List ℤ) → Moving rows columns g s old work.old → Sane g s
-        → left.closed ≡ closedSafe g s → left.lost ≡ isLost g s
-        → Making rows columns g s old (legalRead g s (readMove word)) (readMove word) result work.old work.new }
+        → left.closed ≡ closed_safe g s → left.lost ≡ is_lost g s
+        → Making rows columns g s old (legal_read g s (read_move word)) (read_move word) result work.old work.new }
 {
     if ending_of(left.closed, left.lost) != 0 {
         return Made::Illegal;

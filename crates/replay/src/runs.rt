@@ -4,7 +4,7 @@ ghost use Rattle.area.specs.Numbers.{HasCells};
 ghost use Rattle.area.specs.Stages.{Moving, Shape};
 ghost use Rattle.game.specs.Grid.{Grid};
 ghost use Rattle.game.specs.Moves.{replay_from};
-ghost use Rattle.game.specs.Position.{Position, Sane, closed_safe, lost as isLost};
+ghost use Rattle.game.specs.Position.{Position, Sane, closed_safe, lost as is_lost};
 ghost use Rattle.replay.specs.Replays.{Replaying};
 
 use crate::clicks::Remains;
@@ -28,8 +28,8 @@ pub fn run(
 ) -> Replay
     requires shape { Shape rows columns }
     requires has_cells { HasCells work.old (rows * columns) × (count ≤ length list.now) }
-    ensures { (g : Grid) (s : Position) (old : List ℤ) → Moving rows columns g s old work.old → Sane g s → isLost g s ≡ false → safe ≡ closed_safe g s
-        → Replaying rows columns g old (replayFrom g 0 s (take count list.now)) result work.new }
+    ensures { (g : Grid) (s : Position) (old : List ℤ) → Moving rows columns g s old work.old → Sane g s → is_lost g s ≡ false → safe ≡ closed_safe g s
+        → Replaying rows columns g old (replay_from g 0 s (take count list.now)) result work.new }
 {
     let mut left = Remains {
         closed: safe,

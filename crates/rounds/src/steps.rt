@@ -2,7 +2,7 @@
 ghost use Rattle.std.specs.Prelude.{◌≡◌, Bool, List, [], ◌∷◌, ◌*◌, ◌^◌, ◌<◌, ◌≤◌, ℤ, length, get_or, T};
 ghost use Rattle.area.specs.Numbers.{HasCells};
 ghost use Rattle.game.specs.Grid.{Grid, column_of, safe, zero_cell};
-ghost use Rattle.game.specs.Position.{Position, Tidy, closed as isClosed, closed_units};
+ghost use Rattle.game.specs.Position.{Position, Tidy, closed as is_closed, closed_units};
 ghost use Rattle.game.specs.Moves.{left};
 ghost use Rattle.game.specs.Rounds.{moves_at, top_cells, unit_cells};
 ghost use Rattle.area.specs.Stages.{Shape, Stands, Standing};
@@ -27,7 +27,7 @@ pub fn click_at(
     requires shape { Shape rows columns }
     requires has_cells { HasCells work.old (rows * columns) × (index < rows * columns) × (state.moves ≤ 2 ^ 45) }
     ensures { (openedOnly : Bool) (g : Grid) (s : Position) (old : List ℤ) → Stands rows columns g s old work.old → Tidy g s
-        → T (safe g index) → T (isClosed s index) → topCells openedOnly g s ≡ [] → state.units ≡ closedUnits g s
+        → T (safe g index) → T (is_closed s index) → top_cells openedOnly g s ≡ [] → state.units ≡ closed_units g s
         → MadeKnown openedOnly rows columns g s old (left index ∷ []) list.old work.old tops.old state work.new list.new tops.new result }
 {
     marks::mark_click(work, rows, columns, tops, index);
@@ -47,8 +47,8 @@ pub fn act_at(
     requires shape { Shape rows columns }
     requires has_cells { HasCells work.old (rows * columns) × (index < rows * columns) × (state.moves ≤ 2 ^ 45) }
     ensures { (openedOnly : Bool) (g : Grid) (s : Position) (old : List ℤ) → Stands rows columns g s old work.old → Tidy g s
-        → T (safe g index) → (T (zeroCell g index) → ⊥) → state.units ≡ closedUnits g s
-        → MadeKnown openedOnly rows columns g s old (movesAt g s index) list.old work.old tops.old state work.new list.new tops.new result }
+        → T (safe g index) → (T (zero_cell g index) → ⊥) → state.units ≡ closed_units g s
+        → MadeKnown openedOnly rows columns g s old (moves_at g s index) list.old work.old tops.old state work.new list.new tops.new result }
 {
     marks::mark(work, rows, columns, tops, index);
     single::act(work, rows, columns, list, state, index)
@@ -68,9 +68,9 @@ pub fn click_lowest(
     requires has_cells { HasCells work.old (rows * columns) × (state.moves ≤ 2 ^ 45) × (from ≤ columns) × NoUnitBelow work.old (from * rows) }
     requires standing { Standing rows columns work.old }
     ensures { (openedOnly : Bool) (g : Grid) (s : Position) (old : List ℤ) → Stands rows columns g s old work.old → Tidy g s
-        → 1 ≤ length (unitCells g s) → topCells openedOnly g s ≡ [] → state.units ≡ closedUnits g s
-        → MadeKnown openedOnly rows columns g s old (left (get_or (unitCells g s) 0 0) ∷ []) list.old work.old tops.old state work.new list.new tops.new result.state
-        × (result.from ≡ columnOf g (get_or (unitCells g s) 0 0)) }
+        → 1 ≤ length (unit_cells g s) → top_cells openedOnly g s ≡ [] → state.units ≡ closed_units g s
+        → MadeKnown openedOnly rows columns g s old (left (get_or (unit_cells g s) 0 0) ∷ []) list.old work.old tops.old state work.new list.new tops.new result.state
+        × (result.from ≡ column_of g (get_or (unit_cells g s) 0 0)) }
 {
     let lowest = choices::units::lowest(work, rows, columns, from);
     let found = lowest.found;
@@ -102,7 +102,7 @@ pub fn step(
     requires tops_known { TopsKnown opened_only work.old rows columns tops.old }
     requires standing { Standing rows columns work.old }
     ensures { (g : Grid) (s : Position) (old : List ℤ) → Stands rows columns g s old work.old → Tidy g s
-        → 1 ≤ closedUnits g s → state.units ≡ closedUnits g s
+        → 1 ≤ closed_units g s → state.units ≡ closed_units g s
         → StepKnown opened_only rows columns g s old list.old state from work.new list.new tops.new result }
 {
     let found = choices::known::best(work, rows, columns, tops, opened_only);

@@ -28,8 +28,8 @@ pub fn play_on(
     requires going { Going rows columns work.old state }
     requires tops_known { TopsKnown opened_only work.old rows columns tops.old }
     ensures { (g : Grid) (s : Position) (old : List ℤ) (n : ℕ) → Stands rows columns g s old work.old → Tidy g s
-        → state.units ≡ closedUnits g s → closedUnits g s ≤ n
-        → Made rows columns g s old (moves_of (stepsFrom n opened_only g s)) list.old state work.new list.new result }
+        → state.units ≡ closed_units g s → closed_units g s ≤ n
+        → Made rows columns g s old (moves_of (steps_from n opened_only g s)) list.old state work.new list.new result }
 {
     let mut current = state;
     let mut from = 0;
@@ -54,7 +54,7 @@ pub fn begin(
     requires has_cells { HasCells work.old (rows * columns) × (state.moves ≤ 2 ^ 32) }
     ensures moves_bound { result.moves ≤ state.moves + rows * columns }
     ensures made { (g : Grid) (s : Position) (old : List ℤ) → Stands rows columns g s old work.old → Tidy g s → state.units ≡ closed_units g s
-        → Made rows columns g s old (moves_of (firstSteps openings_first g s)) list.old state work.new list.new result }
+        → Made rows columns g s old (moves_of (first_steps openings_first g s)) list.old state work.new list.new result }
 {
     if openings_first {
         return opening_clicks::hit_openings(work, rows, columns, list, state);
@@ -75,7 +75,7 @@ pub fn go_on(
     requires has_cells { HasCells work.old (rows * columns) × (state.moves ≤ 2 ^ 32) }
     requires going { Going rows columns work.old state }
     ensures { (g : Grid) (s : Position) (old : List ℤ) → Stands rows columns g s old work.old → Tidy g s → state.units ≡ closed_units g s
-        → Made rows columns g s old (moves_of (stepsOn openings_first g s)) list.old state work.new list.new result }
+        → Made rows columns g s old (moves_of (steps_on openings_first g s)) list.old state work.new list.new result }
 {
     let begun = begin(work, rows, columns, list, state, openings_first);
     let mut tops = [0u8; 255];
@@ -95,7 +95,7 @@ pub fn round(
     requires has_cells { HasCells work.old (rows * columns) }
     requires fresh { Fresh rows columns work.old units }
     ensures { (g : Grid) (old : List ℤ) → Stands rows columns g (untouched g) old work.old → units ≡ three_bv g → rows * columns ≤ length list.old
-        → RoundPlayed rows columns g old (moves_of (roundSteps openings_first g)) list.old result work.new list.new }
+        → RoundPlayed rows columns g old (moves_of (round_steps openings_first g)) list.old result work.new list.new }
 {
     let fresh = State { moves: 0, units };
     let done = go_on(work, rows, columns, list, fresh, openings_first);

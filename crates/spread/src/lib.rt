@@ -23,7 +23,7 @@ fn visit(work: &mut [i32], index: usize, progress: Progress) -> Progress
     requires has_cell { HasCell work.old index × (progress.waiting ≤ 65025) × (progress.opened ≤ 65025) }
     requires has_cell_2 { state_at work.old index ≡ 0 → HasCell work.old progress.waiting }
     ensures { now_spread work.new result.waiting result.opened
-        ≡ visited (now-spread work.old progress.waiting progress.opened) index }
+        ≡ visited (now_spread work.old progress.waiting progress.opened) index }
 {
     let waiting = progress.waiting;
     let opened = progress.opened;
@@ -59,7 +59,7 @@ fn visit_row(
     requires has_cells { HasCells work.old (rows * columns) × (row < rows) × (from ≤ to) × (to ≤ columns) }
     requires fits { Fits (rows * columns) (now_spread work.old progress.waiting progress.opened) }
     ensures { now_spread work.new result.waiting result.opened
-        ≡ fold visited (now-spread work.old progress.waiting progress.opened) (rowCells rows row from to) }
+        ≡ fold visited (now_spread work.old progress.waiting progress.opened) (row_cells rows row from to) }
 {
     let mut so = progress;
     for column in from..to {
@@ -80,7 +80,7 @@ fn visit_square(
     requires has_cells { HasCells work.old (rows * columns) × (index < rows * columns) }
     requires fits { Fits (rows * columns) (now_spread work.old progress.waiting progress.opened) }
     ensures { now_spread work.new result.waiting result.opened
-        ≡ fold visited (now-spread work.old progress.waiting progress.opened) (squareOf rows columns index) }
+        ≡ fold visited (now_spread work.old progress.waiting progress.opened) (square_of rows columns index) }
 {
     let sides = area::around(rows, columns, index);
     let first = sides.first;

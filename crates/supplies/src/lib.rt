@@ -62,7 +62,7 @@ fn first_of_key(supply: Supply, bound: usize, n: usize) -> Dealt
     requires { KeyRoom 256 supply × (supply.keyed ≡ true) × (1 ≤ n) }
     ensures draw_grows { DrawGrows supply result }
     ensures dealing { (k : Keys.Key) (at : ℕ) (mode : Game.Mode) → Reads (key_given k) at supply → Bounds mode n bound
-        → Dealing (key-given k) (firstTaken (λ a. keyWord k (a / 4)) mode n 64 at) result }
+        → Dealing (key_given k) (first_taken (λ a. key_word k (a / 4)) mode n 64 at) result }
 {
     let mut key = supply.key;
     let mut used = supply.used;
