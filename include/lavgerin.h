@@ -2,7 +2,7 @@
  * files. MIT, as the Rust module that it ports: LICENSE, and NOTICE for that module's own.
  *
  * Installed by tools/install PREFIX, a program is built by: cc yours.c $(pkg-config --cflags --libs lavgerin). From the
- * repository: -Iinclude and target/staticlib/liblavgerin.a (rt staticlib lavgerin).
+ * repository: -Iinclude and target/staticlib/liblavgerin.a (tools/build lavgerin).
  *
  * All memory is lent by the caller. The library has no data of its own, so it may be called from any number of threads
  * at once on separate memory: nobody else may use what a call is lent to write to, until it returns.

@@ -1,6 +1,6 @@
 #!/usr/bin/env python3
 """The early count once more (docs/RULES.md, 2.6), a second program beside the library: 3BV counted whole, opening by opening, and
-what is lent after the call. It runs target/bin/cases (rt check cases).
+what is lent after the call. It runs target/bin/cases (tools/build cases).
 
 early.py cases          holds each at-least case of crates/cases beside its own answer; strict ones are tests/strict.py's
 early.py random [N]     the same for N random cases (default 2000): boards up to 9 by 9, some of 60 to 140 columns, around 3BV"""

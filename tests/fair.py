@@ -1,6 +1,6 @@
 #!/usr/bin/env python3
 """Random rounds and searches once more (docs/RULES.md, 4, 5 and 8) in both modes of the draws, by lent bytes and by a key, a second program
-beside the library, by the rules as oracle/replays.py has them and the words of tests/xorwow.py. It runs target/bin/cases (rt check cases).
+beside the library, by the rules as oracle/replays.py has them and the words of tests/xorwow.py. It runs target/bin/cases (tools/build cases).
 
 fair.py cases         holds each random and keyed case of crates/cases, but the strict ones, beside its own answer
 fair.py random [N]    the same for N random cases (default 2000): boards up to 5 by 6, bytes of which many are FF, or keys, both modes

@@ -1,6 +1,6 @@
 #!/usr/bin/env python3
 """The strict calls once more (docs/RULES.md, 1.5 and 8), a second program beside the library: which cell is at fault, and that a
-strict call is otherwise the present one. It runs target/bin/cases (rt check cases).
+strict call is otherwise the present one. It runs target/bin/cases (tools/build cases).
 
 strict.py cases         holds each strict case of crates/cases beside its own answer
 strict.py random [N]    the same for N random cases (default 2000): boards up to 6 by 6 with right numbers, some of them damaged"""

@@ -1,6 +1,6 @@
 #!/usr/bin/env python3
 """Marsaglia's xorwow once more ("Xorshift RNGs", Journal of Statistical Software 8(14), 2003), written apart from the library:
-a second program for the words of a key, and for a single draw from one. It runs target/bin/cases (rt check cases).
+a second program for the words of a key, and for a single draw from one. It runs target/bin/cases (tools/build cases).
 
 xorwow.py words X,Y,Z,W,V,D [N]   prints N words of a key (default 5)
 xorwow.py lines                   prints cases for crates/cases/stdin: words of keys at the edges

@@ -10,7 +10,6 @@ use lib.Dec.{T, eqb, ltb}
 use lib.IntN.{pos, ℤ}
 use lib.ListN.{get_or, length}
 use Rattle.area.specs.Numbers.{HasCells, first_at, first_place, content_at, natural, waiting_place}
-use Rattle.game.specs.Calls.{shape}
 use Rattle.game.specs.Grid.{Grid, size, square}
 use Rattle.game.specs.Lists.{has}
 use Rattle.labels.specs.Labels.{Fresh, Ready, bordered, put_label}

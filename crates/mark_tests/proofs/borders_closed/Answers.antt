@@ -2,7 +2,7 @@
 use Prim.Native.Nat.{ℕ, ◌%◌, ◌+◌, ◌-◌, ◌/◌}
 use native.Mathlib.Omega.{arith}
 use mathlib.Core.Path.{◌∙◌, ◌≡◌, ap, ap₂, subst, sym}
-use mathlib.Core.Bool.{Bool, ◌||◌, false}
+use mathlib.Core.Bool.{Bool, ◌||◌}
 use mathlib.Core.List.{[]}
 use lib.Dec.{T}
 use Rattle.area.specs.Numbers.{grid_of}

@@ -1,7 +1,6 @@
 -- `marks::has_label`: no row passed has such a cell. Assumes nothing.
 use native.Mathlib.Omega.{arith}
 use mathlib.Core.Path.{◌∙◌, sym}
-use mathlib.Core.Bool.{false}
 use Rattle.mark_tests.specs.Tests.{shares_at}
 use Rattle.mark_tests.proofs.Sharing.{column_has, column_none, none_more}
 use Rattle.mark_tests.proofs.has_label.Goals as goal

@@ -6,13 +6,13 @@ use Rattle.mine_sums.proofs.Columns.{column_three}
 use Rattle.mine_sums.proofs.sum_of.Goals as goal
 
 pub overflow_add-result : goal.overflow_add-result
-overflow_add-result c = omega (arith, byte_le c.args.own_val)
+overflow_add-result c = omega (arith, byte_le c.args.own)
 
 pub overflow_add-result-2 : goal.overflow_add-result-2
-overflow_add-result-2 c = omega (arith, byte_le c.args.own_val)
+overflow_add-result-2 c = omega (arith, byte_le c.args.own)
 
 pub returns : goal.returns
 returns c =
     let a = c.args in
-    column_three (grid_of a.rows a.columns a.grid.now) a.row a.column c.mine_above-above.result c.mine_below-below.result a.own_val (omega arith)
-    c.mine_above-above.ensures.0 c.requires.columns_in_bounds.1 c.mine_below-below.ensures.0
+    column_three (grid_of a.rows a.columns a.grid.now) a.row a.column c.mine_above-above.result c.mine_below-below.result a.own (omega arith)
+    c.mine_above-above.ensures.0 c.requires.own_value c.mine_below-below.ensures.0

@@ -15,14 +15,14 @@ own : (c : Start) → c.args.sums.right ≡ column_mines (grid_of c.args.rows c.
 own c =
     let a = c.args in
     let e : min (a.column + 1) a.columns ≡ a.column + 1 = omega arith in
-    c.requires.columns_in_bounds.1.right_is ∙ ap (column_mines (grid_of a.rows a.columns a.grid.now) a.row a.column) e
+    c.requires.before.right_is ∙ ap (column_mines (grid_of a.rows a.columns a.grid.now) a.row a.column) e
 
 -- and its cell
 cell : (c : Start) → c.args.sums.next ≡ mine_in (grid_of c.args.rows c.args.columns c.args.grid.now) c.args.column c.args.row
 cell c =
     let a = c.args in
     let m = mine_in (grid_of a.rows a.columns a.grid.now) a.column a.row in
-    c.requires.columns_in_bounds.1.next_is ∙ ap (λ (b : Bool). b && m) (lt-ltb a.column a.columns (omega arith))
+    c.requires.before.next_is ∙ ap (λ (b : Bool). b && m) (lt-ltb a.column a.columns (omega arith))
 
 pub returns-then-column-columns : goal.returns-then-column-columns
 returns-then-column-columns c =
@@ -30,7 +30,7 @@ returns-then-column-columns c =
     let g = grid_of a.rows a.columns a.grid.now in
     let e : a.column + 1 ≡ min (a.column + 2) a.columns = omega arith in
     record {
-      left_is = c.requires.columns_in_bounds.1.here_is;
+      left_is = c.requires.before.here_is;
       here_is = own c.before;
       right_is = columns_none g a.row (a.column + 1) ∙ ap (column_mines g a.row (a.column + 1)) e;
       mine_is = cell c.before;
@@ -38,7 +38,7 @@ returns-then-column-columns c =
     }
 
 pub sum_of-right-requires : goal.sum_of-right-requires
-sum_of-right-requires c = (c.requires.shape, ((omega arith, omega arith, omega arith), c.mine_in-next.ensures))
+sum_of-right-requires c = record { shape = c.requires.shape; columns_in_bounds = (omega arith, omega arith, omega arith); own_value = c.mine_in-next.ensures }
 
 pub returns : goal.returns
 returns c =
@@ -46,7 +46,7 @@ returns c =
     let g = grid_of a.rows a.columns a.grid.now in
     let e : a.column + 1 + 1 ≡ min (a.column + 2) a.columns = omega arith in
     record {
-      left_is = c.requires.columns_in_bounds.1.here_is;
+      left_is = c.requires.before.here_is;
       here_is = own c.before.before.before;
       right_is = c.sum_of-right.ensures ∙ ap (column_mines g a.row (a.column + 1)) e;
       mine_is = cell c.before.before.before;

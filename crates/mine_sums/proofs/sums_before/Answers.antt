@@ -33,7 +33,7 @@ returns-then-column-eq0 c =
     (record { here_is = columns_none g a.row (a.column - 1) ∙ ap (column_mines g a.row (a.column - 1)) e; right_is = right c.before; next_is = next c.before }, refl, refl)
 
 pub sum_of-requires : goal.sum_of-requires
-sum_of-requires c = (c.requires.shape, ((omega arith, omega arith, omega arith), c.mine_in-before.ensures))
+sum_of-requires c = record { shape = c.requires.shape; columns_in_bounds = (omega arith, omega arith, omega arith); own_value = c.mine_in-before.ensures }
 
 pub returns : goal.returns
 returns c =

@@ -3,8 +3,6 @@ use Rattle.play.proofs.Reveals.{flag_stands}
 use Rattle.play.proofs.flag.Goals as goal
 
 pub returns : goal.returns
-returns c = let q = c.before in
-    let p = q.before.before.before in
-    let a = c.args in
+returns c = let a = c.args in
     λ g s old t m u. flag_stands a.rows a.columns g s old a.work.now a.index c.requires.has_cells.1 t c.put_state.new.work c.shift_square.new.work
     c.put_state.ensures c.shift_square.ensures m u

@@ -1,26 +1,17 @@
 -- `play::sweep_cell`: another opening's cell is left, a closed one opened, an opened one counts an opening less. Assumes nothing.
 use Rattle.play.proofs.Steps.{sweep_closed, sweep_opened, sweep_other}
-use borrow.Author.Tests.{not-false, not-true}
 use Rattle.play.proofs.sweep_cell.Goals as goal
 
 pub returns-then-not-labelled : goal.returns-then-not-labelled
 returns-then-not-labelled c = let a = c.args in
-    sweep_other a.label a.work.now a.index c.labelled.result c.labelled.ensures (not-true c.labelled.result c.if-not-labelled.true)
+    sweep_other a.label a.work.now a.index c.labelled.result c.labelled.ensures c.if-not-labelled.true
 
 pub returns-then-state-eq0 : goal.returns-then-state-eq0
-returns-then-state-eq0 c = let p = c.before in
-    let t = p.before.before in
-    let g = t.before in
-    let a = c.args in
+returns-then-state-eq0 c = let a = c.args in
     sweep_closed a.label a.work.now a.index c.labelled.result c.labelled.ensures c.state-state.result c.put_state.new.work
-    (not-false c.labelled.result c.if-not-labelled.false) c.state-state.ensures.0 c.if-state-eq0.true c.put_state.ensures
+    c.if-not-labelled.false c.state-state.ensures.0 c.if-state-eq0.true c.put_state.ensures
 
 pub returns : goal.returns
-returns c = let p = c.before in
-    let d = p.before in
-    let h = d.before.before in
-    let t = h.before.before in
-    let g = t.before in
-    let a = c.args in
+returns c = let a = c.args in
     sweep_opened a.label a.work.now a.index c.labelled.result c.labelled.ensures c.state-state.result c.premium-premium.result c.take_away.result c.put_premium.new.work
-    (not-false c.labelled.result c.if-not-labelled.false) c.state-state.ensures.0 c.if-state-eq0.false c.premium-premium.ensures.0 c.take_away.ensures c.put_premium.ensures
+    c.if-not-labelled.false c.state-state.ensures.0 c.if-state-eq0.false c.premium-premium.ensures.0 c.take_away.ensures c.put_premium.ensures

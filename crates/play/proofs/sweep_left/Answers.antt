@@ -1,10 +1,9 @@
 -- `play::sweep_left`: the columns passed are one run of cells; a column without the label ends the walk. Assumes nothing.
+use Prim.Native.Nat.{◌-◌}
 use native.Mathlib.Omega.{arith}
 use mathlib.Core.Path.{refl}
 use borrow.Author.Rules.{rules}
-use Rattle.play.proofs.Sweeps.{left_ends, left_more, left_none, left_whole}
-use Rattle.play.proofs.sweep_left.Invariants.{column}
-use Rattle.play.proofs.sweep_left.Goals.{In-loop-left}
+use Rattle.play.proofs.Sweeps.{column_on, left_ends, left_more, left_none, left_whole}
 use Rattle.play.proofs.sweep_left.Goals as goal
 
 pub overflow_add-left : goal.overflow_add-left
@@ -18,13 +17,13 @@ pub overflow_sub-left : goal.overflow_sub-left
 overflow_sub-left c = omega arith
 
 pub overflow_mul-first : goal.overflow_mul-first
-overflow_mul-first c = omega (arith, column c)
+overflow_mul-first c = omega (arith, column_on c.args.rows c.args.columns (c.loop-left.left - 1) (omega arith))
 
 pub overflow_add-first : goal.overflow_add-first
-overflow_add-first c = omega (arith, column c.before)
+overflow_add-first c = omega (arith, column_on c.args.rows c.args.columns (c.loop-left.left - 1) (omega arith))
 
 pub sweep-found-requires : goal.sweep-found-requires
-sweep-found-requires c = (omega arith, omega (arith, column c.before))
+sweep-found-requires c = (omega arith, omega (arith, column_on c.args.rows c.args.columns (c.loop-left.left - 1) (omega arith)))
 
 pub returns-then-found-eq0 : goal.returns-then-found-eq0
 returns-then-found-eq0 c = let a = c.args in

@@ -1,18 +1,9 @@
 -- `play::sweep_left`: the columns passed are one run of cells; a column without the label ends the walk. Assumes nothing.
-use Prim.Native.Nat.{◌≤◌, ◌+◌, ◌*◌, ◌-◌}
-use native.Mathlib.Omega.{arith}
+use Prim.Native.Nat.{◌≤◌, ◌+◌, ◌*◌}
 use mathlib.Core.Path.{◌≡◌}
 use lib.ListN.{length}
 use Rattle.play.specs.Walks.{SweptOver}
-use Rattle.play.proofs.Sweeps.{column_on}
 use Rattle.play.proofs.sweep_left.Given as goal
-
--- the column of this turn lies on the grid
-pub column : (c : In-loop-left)
-    → (c.loop-left.left - 1) * c.args.rows + c.args.rows ≤ c.args.rows * c.args.columns
-column c =
-    let a = c.args in
-    column_on a.rows a.columns (c.loop-left.left - 1) (omega arith)
 
 abbrev pub invariant-loop-left : goal.invariant-loop-left
 invariant-loop-left l =

@@ -3,9 +3,7 @@ use Prim.Native.Nat.{◌*◌}
 use native.Mathlib.Omega.{arith}
 use mathlib.Core.Path.{refl}
 use borrow.Author.Rules.{rules}
-use Rattle.play.proofs.Sweeps.{over_none, right_ends, right_more, right_whole}
-use Rattle.play.proofs.sweep_right.Invariants.{column}
-use Rattle.play.proofs.sweep_right.Goals.{In-loop-right}
+use Rattle.play.proofs.Sweeps.{column_on, over_none, right_ends, right_more, right_whole}
 use Rattle.play.proofs.sweep_right.Goals as goal
 
 pub loop-right-init : goal.loop-right-init
@@ -13,13 +11,13 @@ loop-right-init c = let a = c.args in
     (omega arith, omega arith, refl, over_none a.label (a.column * a.rows) a.work.now)
 
 pub overflow_mul-first : goal.overflow_mul-first
-overflow_mul-first c = omega (arith, column c)
+overflow_mul-first c = omega (arith, column_on c.args.rows c.args.columns c.loop-right.right (omega arith))
 
 pub overflow_add-first : goal.overflow_add-first
-overflow_add-first c = omega (arith, column c.before)
+overflow_add-first c = omega (arith, column_on c.args.rows c.args.columns c.loop-right.right (omega arith))
 
 pub sweep-found-requires : goal.sweep-found-requires
-sweep-found-requires c = (omega arith, omega (arith, column c.before))
+sweep-found-requires c = (omega arith, omega (arith, column_on c.args.rows c.args.columns c.loop-right.right (omega arith)))
 
 pub returns-then-found-eq0 : goal.returns-then-found-eq0
 returns-then-found-eq0 c = let a = c.args in

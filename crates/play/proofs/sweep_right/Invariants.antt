@@ -1,18 +1,9 @@
 -- `play::sweep_right`: the columns passed are one run of cells; a column without the label ends the walk. Assumes nothing.
-use Prim.Native.Nat.{◌≤◌, ◌+◌, ◌*◌, ◌-◌}
-use native.Mathlib.Omega.{arith}
+use Prim.Native.Nat.{◌≤◌, ◌*◌, ◌-◌}
 use mathlib.Core.Path.{◌≡◌}
 use lib.ListN.{length}
 use Rattle.play.specs.Walks.{SweptOver}
-use Rattle.play.proofs.Sweeps.{column_on}
 use Rattle.play.proofs.sweep_right.Given as goal
-
--- the column of this turn lies on the grid
-pub column : (c : In-loop-right)
-    → c.loop-right.right * c.args.rows + c.args.rows ≤ c.args.rows * c.args.columns
-column c =
-    let a = c.args in
-    column_on a.rows a.columns c.loop-right.right (omega arith)
 
 abbrev pub invariant-loop-right : goal.invariant-loop-right
 invariant-loop-right l =

@@ -7,36 +7,25 @@ use Rattle.play.proofs.Reveals.{by_mine, by_one, by_state, by_zero}
 use Rattle.play.proofs.uncover.Goals as goal
 
 pub returns-then-content-eq0 : goal.returns-then-content-eq0
-returns-then-content-eq0 c = let k = c.before in
-    let a = c.args in
+returns-then-content-eq0 c = let a = c.args in
     (omega arith, λ g s old t f. by_mine a.rows a.columns g s old a.work.now a.index c.requires.has_cells.1 t f c.content-content.result c.content-content.ensures.0 c.if-content-eq0.true)
 
 pub returns-then-state-ne0 : goal.returns-then-state-ne0
-returns-then-state-ne0 c = let m = c.before in
-    let a = c.args in
+returns-then-state-ne0 c = let a = c.args in
     (omega arith, λ g s old t f. by_state a.rows a.columns g s old a.work.now a.index c.requires.has_cells.1 t f c.state-state.result c.state-state.ensures.0 c.if-state-ne0.true)
 
 pub returns-then-content-eq1 : goal.returns-then-content-eq1
-returns-then-content-eq1 c = let q = c.before in
-    let l = q.before.before in
-    let z = l.before.before in
-    let m = z.before.before in
-    let k = m.before.before.before in
-    let a = c.args in (
-      omega arith,
-      λ g s old t f. by_zero a.rows a.columns g s old a.work.now a.index c.requires.has_cells.1 t f
-          c.content-content.result c.state-state.result c.content-content.ensures.0 c.if-content-eq0.false c.state-state.ensures.0 c.if-state-ne0.false
-          c.first_label-label.result c.sweep_opening.new.work c.if-content-eq1.true c.first_label-label.ensures.0 (c.sweep_opening.ensures g s old t),
-    )
+returns-then-content-eq1 c = let a = c.args in (
+  omega arith,
+  λ g s old t f. by_zero a.rows a.columns g s old a.work.now a.index c.requires.has_cells.1 t f
+      c.content-content.result c.state-state.result c.content-content.ensures.0 c.if-content-eq0.false c.state-state.ensures.0 c.if-state-ne0.false
+      c.first_label-label.result c.sweep_opening.new.work c.if-content-eq1.true c.first_label-label.ensures.0 (c.sweep_opening.ensures g s old t),
+)
 
 pub returns : goal.returns
-returns c = let q = c.before in
-    let z = q.before.before in
-    let m = z.before.before in
-    let k = m.before.before.before in
-    let a = c.args in (
-      omega (arith, c.open_one-units.ensures.1, bit_small (eqb (first_at a.work.now a.index) 0)),
-      λ g s old t f. by_one a.rows a.columns g s old a.work.now a.index c.requires.has_cells.1 t f
-          c.content-content.result c.state-state.result c.content-content.ensures.0 c.if-content-eq0.false c.state-state.ensures.0 c.if-state-ne0.false
-          c.open_one-units.result c.open_one-units.new.work c.if-content-eq1.false c.open_one-units.ensures.1 c.open_one-units.ensures.0,
-    )
+returns c = let a = c.args in (
+  omega (arith, c.open_one-units.ensures.1, bit_small (eqb (first_at a.work.now a.index) 0)),
+  λ g s old t f. by_one a.rows a.columns g s old a.work.now a.index c.requires.has_cells.1 t f
+      c.content-content.result c.state-state.result c.content-content.ensures.0 c.if-content-eq0.false c.state-state.ensures.0 c.if-state-ne0.false
+      c.open_one-units.result c.open_one-units.new.work c.if-content-eq1.false c.open_one-units.ensures.1 c.open_one-units.ensures.0,
+)

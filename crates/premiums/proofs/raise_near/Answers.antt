@@ -1,6 +1,5 @@
 -- `premiums::raise_near`: the square is raised; unless the cell is safe and unlabelled, nothing is. Assumes nothing.
 use native.Mathlib.Omega.{arith}
-use borrow.Author.Tests.{not-false, not-true}
 use mathlib.Core.Path.{ap, sym, ◌∙◌}
 use mathlib.Core.Bool.{Bool, cond}
 use Rattle.game.specs.Lists.{fold}
@@ -15,7 +14,7 @@ returns-then-not-unlabelled c =
     let a = c.args in
     let u = c.unlabelled in
     ap (λ (b : Bool). cond b (fold (shifted 1 0) a.work.now (square_of a.rows a.columns a.index)) a.work.now)
-    (sym (not-true u.result c.if-not-unlabelled.true) ∙ u.ensures)
+    (sym c.if-not-unlabelled.true ∙ u.ensures)
 
 pub returns : goal.returns
 returns c =
@@ -24,4 +23,4 @@ returns c =
     let a = c.args in
     s.ensures
     ∙ ap (λ (b : Bool). cond b (fold (shifted 1 0) a.work.now (square_of a.rows a.columns a.index)) a.work.now)
-    (sym (not-false u.result c.if-not-unlabelled.false) ∙ u.ensures)
+    (sym c.if-not-unlabelled.false ∙ u.ensures)

@@ -6,8 +6,7 @@ use mathlib.Core.Bool.{Bool, cond}
 use borrow.Author.Tests.{le-ltb, lt-ltb}
 use Rattle.choices.specs.Tops.{higher_of}
 use Rattle.choices.specs.declared.Best.{Best}
-use Rattle.choices.proofs.known.higher.Statement.{statement}
-use Rattle.choices.proofs.known.higher.Tie as tie
+use Rattle.choices.proofs.known.higher.Goals as goal
 
 module _ (b : Best) (top column : ℕ) where
   stays : top ≤ b.top → b ≡ higher_of b top column
@@ -16,11 +15,8 @@ module _ (b : Best) (top column : ℕ) where
   taken : b.top < top → record { top = top; at = column } ≡ higher_of b top column
   taken h = sym (ap (λ (c : Bool). cond c (record { top = top; at = column }) b) (lt-ltb b.top top h))
 
-returns : tie.Need-returns
-returns c = let a = c.before.before.args in stays a.best a.top a.column (omega arith)
+pub returns-then-top-best : goal.returns-then-top-best
+returns-then-top-best c = let a = c.args in stays a.best a.top a.column (omega arith)
 
-returns-2 : tie.Need-returns-2
-returns-2 c = let a = c.before.before.args in taken a.best a.top a.column (omega arith)
-
-pub higher_spec : {M : Type 1} → statement M
-higher_spec = tie.close (tie.spec returns returns-2)
+pub returns : goal.returns
+returns c = let a = c.args in taken a.best a.top a.column (omega arith)
