@@ -41,7 +41,7 @@ rand_draw bytes i limit h l = go (leb limit 1) refl (length bytes) refl (leb (i 
     go false e zero q true d = absurd (omega (arith, leb→le (i + 4) (length bytes) (rw d tt)))
     go false e zero q false d = refl
     go false e (suc n) q c d =
-        ap₂ (λ a b. elim a as (λ x. Option Drawn) [
+        ap₂ {B = Bool} {C = Option Drawn} (λ a b. elim a as (λ x. Option Drawn) [
           | true ↦ elim b [ true ↦ some (record { place = four_bytes bytes i % limit; next = i + 4 }) | false ↦ rand_loop n bytes (i + 4) limit ]
           | false ↦ none
         ]) d (passes (four_bytes bytes i) limit (four_below bytes i h) (omega (arith, nleb→lt limit 1 (rw e tt))) l)

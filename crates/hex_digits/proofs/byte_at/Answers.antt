@@ -7,6 +7,6 @@ pub returns : goal.returns
 returns c =
     let a = c.args in
     let e = byte_here a.line.now a.at (omega arith) in
-    let h = c.value_of_lem.ensures in
+    let h = c.value_of-high.ensures in
     let l = c.value_of-low.ensures in
     (omega arith, omega arith)
