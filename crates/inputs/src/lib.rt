@@ -6,10 +6,12 @@ ghost use Rattle.game.specs.Lists.{has};
 ghost use Rattle.inputs.specs.Beginnings.{Begun, ReadOn, line_ends, room_for, standing_by, standing_of};
 ghost use Rattle.inputs.specs.Reads.{bytes_in, failed_by, got_of};
 
-use libc::STDIN_FILENO;
+use std::env::{Env, FillError};
+use std::io;
+use std::io::{Print, Read};
 
 // What a read came to: so many bytes, the end of input, an interruption, or a failure.
-#[derive(Drop)]
+#[derive(Clone, Copy)]
 pub enum Got {
     Bytes(usize),
     End,
@@ -18,18 +20,86 @@ pub enum Got {
 }
 
 // What reading the beginning of an input came to: so many bytes stand at the start of the lent run, or a read failed.
-#[derive(Drop)]
+#[derive(Clone, Copy)]
 pub enum Beginning {
     Bytes(usize),
     Unread,
 }
 
 // How it stands after a read: so many bytes stand and more are wanted, so many are the beginning, or it cannot be read.
-#[derive(Drop)]
+#[derive(Clone, Copy)]
 pub enum Standing {
     More(usize),
     All(usize),
     Unread,
+}
+
+// Standard input and output, and why the last call failed that did.
+#[derive(Clone, Copy)]
+pub struct Streams {
+    rt: HostRuntime,
+    failure: Option<io::Error>,
+}
+
+impl Streams {
+    // Those of a program.
+    pub fn new(rt: HostRuntime) -> Streams {
+        Streams { rt, failure: None }
+    }
+
+    // Reads standard input into a block, and answers how many bytes came; -1 where that failed, with `error` as errno.
+    pub fn read(&mut self, block: &mut [u8]) -> isize {
+        match self.rt.stdin().read(block) {
+            Ok(count) => count.min(isize::MAX as usize) as isize,
+            Err(error) => {
+                self.failure = Some(error);
+                -1
+            }
+        }
+    }
+
+    // Writes all of a run on standard output, and answers whether that was done.
+    pub fn write_all(&mut self, run: &[u8]) -> bool {
+        match self.rt.write_all(run) {
+            Ok(()) => true,
+            Err(error) => {
+                self.failure = Some(error);
+                false
+            }
+        }
+    }
+
+    // The number of the last failure, as errno; 0 where the system gave none.
+    pub fn error(&self) -> i32 {
+        match self.failure {
+            Some(error) => match error.raw_os_error() {
+                Some(number) => number,
+                None => 0,
+            },
+            None => 0,
+        }
+    }
+
+    // Says on standard error what failed, and why.
+    pub fn tell(&self, what: &str) {
+        let said = match self.failure {
+            Some(error) => eprintln!(self.rt; "{what}: {error}"),
+            None => eprintln!(self.rt; "{what}"),
+        };
+        // Where standard error cannot be written either, there is nobody to tell.
+        let _ = said;
+    }
+}
+
+// How many words a program was started with, its own name first; more than two count as two.
+pub fn word_count(rt: &impl Env) -> usize
+    ensures { result ≤ 2 }
+{
+    let mut word = [0u8; 1];
+    match rt.arg(1, &mut word) {
+        Err(FillError::NotPresent) => 1,
+        _ => 2,
+    }
 }
 
 // Whether a program was started with more than its own name.
@@ -39,11 +109,14 @@ pub fn has_arguments(count: usize) -> bool
     1 < count
 }
 
+// errno of a call that was interrupted: EINTR.
+const INTERRUPTED: i32 = 4;
+
 // What a read that failed came to, with `error` as errno.
 fn failed(error: i32) -> Got
     ensures { result ≡ failed_by error }
 {
-    if error == libc::EINTR {
+    if error == INTERRUPTED {
         return Got::Interrupted;
     }
     Got::Failed
@@ -56,7 +129,7 @@ pub fn taken(got: isize, error: i32, block: &[u8]) -> Got
     if got < 0 {
         return failed(error);
     }
-    let count = io::count(got, block);
+    let count = (got as usize).min(block.len());
     if count == 0 {
         return Got::End;
     }
@@ -75,14 +148,14 @@ fn end_of(count: usize, length: usize) -> usize
 }
 
 // Reads once, behind the first `count` bytes of a run.
-fn read_some(held: &mut [u8], count: usize) -> Got
+fn read_some(streams: &mut Streams, held: &mut [u8], count: usize) -> Got
     requires { count ≤ length held.old }
     ensures { ReadOn count held.old held.new result }
 {
     let end = end_of(count, held.len());
     let part = &mut held[count..end];
-    let got = libc::read(STDIN_FILENO, part);
-    let error = os::errno();
+    let got = streams.read(part);
+    let error = streams.error();
     taken(got, error, part)
 }
 
@@ -134,13 +207,13 @@ fn standing_of(held: &[u8], count: usize, came: Got, line: bool) -> Standing
 }
 
 // Reads standard input into a lent run, at most 512 bytes at a time, until the run is full, the input has ended or, where `line` says so, a line feed has come. A proved loop has to end, so it counts its turns down, from a number that no run uses up.
-pub fn read_beginning(held: &mut [u8], line: bool) -> Beginning
+pub fn read_beginning(streams: &mut Streams, held: &mut [u8], line: bool) -> Beginning
     ensures { Begun «line» held.new result }
 {
     let mut count = 0;
     let mut turns = u64::MAX;
     while turns > 0 {
-        let came = read_some(held, count);
+        let came = read_some(streams, held, count);
         let standing = standing_of(held, count, came, line);
         match standing {
             Standing::All(n) => {

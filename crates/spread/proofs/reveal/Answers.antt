@@ -21,8 +21,7 @@ pub visit-so-requires : goal.visit-so-requires
 visit-so-requires c = record { has_cell = (omega (arith, c.requires.has_cells), omega arith, omega arith); has_cell_2 = λ e. omega (arith, c.requires.has_cells) }
 
 pub loop-so-init : goal.loop-so-init
-loop-so-init c = let s = c.before.before.before.before.before.before in
-    let a = c.args in
+loop-so-init c = let a = c.args in
     let v = c.visit-so in
     let o = visit_onward (a.rows * a.columns) (cells_few a.rows a.columns c.requires.shape) (now_spread a.work.now 0 0) c.requires.has_cells.0 (fits_first (a.rows * a.columns) a.work.now) a.index c.requires.has_cells.1 in
     (subst (Fits (a.rows * a.columns)) (sym v.ensures) o.fits, refl, λ g s old p. p)
@@ -38,7 +37,7 @@ fits c =
     subst (λ (t : ℕ). Fits (c.args.rows * c.args.columns) (now_spread l.work t l.so.opened)) e l.invariant.0
 
 room : (c : After-struct_known-in-loop-so-1) → HasCells c.loop-so.work (c.args.rows * c.args.columns)
-room c = omega (arith, c.loop-so.invariant.1, c.visit-so.auto.0, c.requires.has_cells.0)
+room c = omega (arith, c.loop-so.invariant.1, c.visit-so.auto.work, c.requires.has_cells.0)
 
 pub waiting-at-requires : goal.waiting-at-requires
 waiting-at-requires c = omega (arith, (fits c).places, room c)
@@ -51,16 +50,14 @@ visit_square-so-requires c = let a = c.args in
     let l = c.loop-so in
     let top = l.so.waiting - 1 in
     let p = c.put_waiting in
-    let w = c.waiting-at in (
-      c.requires.shape,
-      (
-        (
-          omega (arith, room c.before.before.before.before.before, p.auto.0),
-          taken_inside a.rows a.columns c.requires.shape l.work top l.so.opened w.result p.new.work (room c.before.before.before.before.before) (fits c.before.before.before.before.before) w.ensures.0 p.ensures,
-        ),
-        taken_fits a.rows a.columns c.requires.shape l.work top l.so.opened w.result p.new.work (room c.before.before.before.before.before) (fits c.before.before.before.before.before) w.ensures.0 p.ensures,
-      ),
-    )
+    let w = c.waiting-at in record {
+      shape = c.requires.shape;
+      has_cells = (
+        omega (arith, room c.before.before.before.before.before, p.auto.work),
+        taken_inside a.rows a.columns c.requires.shape l.work top l.so.opened w.result p.new.work (room c.before.before.before.before.before) (fits c.before.before.before.before.before) w.ensures.0 p.ensures,
+      );
+      fits = taken_fits a.rows a.columns c.requires.shape l.work top l.so.opened w.result p.new.work (room c.before.before.before.before.before) (fits c.before.before.before.before.before) w.ensures.0 p.ensures;
+    }
 
 pub loop-so-smaller : goal.loop-so-smaller
 loop-so-smaller c = let a = c.args in
@@ -86,13 +83,13 @@ loop-so-preserved c = let a = c.args in
     let e : l.so.waiting ≡ top + 1 = omega arith in
     let o = taken_onward a.rows a.columns c.requires.shape l.work top l.so.opened w.result p.new.work (room c.before.before.before.before.before.before.before) (fits c.before.before.before.before.before.before.before) w.ensures.0 p.ensures r v.ensures in (
       o.fits,
-      o.long ∙ p.auto.0 ∙ l.invariant.1,
+      o.long ∙ p.auto.work ∙ l.invariant.1,
       λ g t old q. spreads_more a.rows a.columns g t old a.index l.work top l.so.opened w.result p.new.work w.ensures.0 p.ensures r (fits c.before.before.before.before.before.before.before) v.ensures
           (subst (λ (k : ℕ). Spreads a.rows a.columns g t old a.index (now_spread l.work k l.so.opened)) e (l.invariant.2 g t old q)),
     )
 
 pub shape_of-work : goal.shape_of-work
-shape_of-work c = c.loop-so.invariant.1 ∙ c.visit-so.auto.0
+shape_of-work c = c.loop-so.invariant.1 ∙ c.visit-so.auto.work
 
 pub returns : goal.returns
 returns c = let a = c.args in

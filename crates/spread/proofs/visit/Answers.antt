@@ -19,7 +19,7 @@ pub put_waiting-requires : goal.put_waiting-requires
 put_waiting-requires c =
     let q = c.state in
     let closed : q.result ≡ 0 = omega arith in
-    omega (arith, c.requires.has_cell_2 (sym q.ensures.0 ∙ closed), c.put_state.auto.0)
+    omega (arith, c.requires.has_cell_2 (sym q.ensures.0 ∙ closed), c.put_state.auto.work)
 
 pub returns : goal.returns
 returns c =

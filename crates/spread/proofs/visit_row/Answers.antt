@@ -11,7 +11,7 @@ use Rattle.spread.proofs.visit_row.Goals as goal
 
 pub loop-column-init : goal.loop-column-init
 loop-column-init c = let a = c.args in
-    (omega arith, omega arith, onward_none (a.rows * a.columns) (now_spread a.work.now a.progress.waiting a.progress.opened) c.requires.has_cells.1, row_begin _ _ _ _ _)
+    (omega arith, omega arith, onward_none (a.rows * a.columns) (now_spread a.work.now a.progress.waiting a.progress.opened) c.requires.fits, row_begin _ _ _ _ _)
 
 -- the cell of this turn lies on the grid
 cell : (c : In-loop-column) → c.loop-column.column * c.args.rows + c.args.row < c.args.rows * c.args.columns
@@ -27,8 +27,8 @@ overflow_add-column c = omega (arith, cell c.before, cells_few c.args.rows c.arg
 pub visit-so-requires : goal.visit-so-requires
 visit-so-requires c = let a = c.args in
     let l = c.loop-column in
-    visit_ready a.rows a.columns c.requires.shape (now_spread a.work.now a.progress.waiting a.progress.opened) l.work l.so.waiting l.so.opened c.requires.has_cells.0.0 l.invariant.2
-    (l.column * a.rows + a.row) (cell c.before)
+    let r = visit_ready a.rows a.columns c.requires.shape (now_spread a.work.now a.progress.waiting a.progress.opened) l.work l.so.waiting l.so.opened c.requires.has_cells.0 l.invariant.2
+    (l.column * a.rows + a.row) (cell c.before) in record { has_cell = r.0; has_cell_2 = r.1 }
 
 pub overflow_step-column : goal.overflow_step-column
 overflow_step-column c = omega arith
@@ -45,7 +45,7 @@ loop-column-preserved c = let a = c.args in
     let r = now_spread v.new.work v.result.waiting v.result.opened in (
       omega arith,
       omega arith,
-      onward_one a.rows a.columns c.requires.shape p q r c.requires.has_cells.0.0 l.invariant.2 (l.column * a.rows + a.row) (cell c.before.before.before) v.ensures,
+      onward_one a.rows a.columns c.requires.shape p q r c.requires.has_cells.0 l.invariant.2 (l.column * a.rows + a.row) (cell c.before.before.before) v.ensures,
       row_on visited p q r a.rows a.row a.from l.column l.invariant.0 l.invariant.3 v.ensures,
     )
 

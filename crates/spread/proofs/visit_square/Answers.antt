@@ -12,11 +12,11 @@ around-sides-requires c = omega arith
 
 pub loop-row-init : goal.loop-row-init
 loop-row-init c = let a = c.args in
-    (omega arith, omega arith, onward_none (a.rows * a.columns) (now_spread a.work.now a.progress.waiting a.progress.opened) c.requires.has_cells.1, block_begin _ _ _ _ _ _)
+    (omega arith, omega arith, onward_none (a.rows * a.columns) (now_spread a.work.now a.progress.waiting a.progress.opened) c.requires.fits, block_begin _ _ _ _ _ _)
 
 pub visit_row-so-requires : goal.visit_row-so-requires
 visit_row-so-requires c = let l = c.loop-row in
-    (c.requires.shape, (omega (arith, l.invariant.2.long), l.invariant.2.fits))
+    record { shape = c.requires.shape; has_cells = omega (arith, l.invariant.2.long); fits = l.invariant.2.fits }
 
 pub overflow_step-row : goal.overflow_step-row
 overflow_step-row c = omega arith
@@ -34,7 +34,7 @@ loop-row-preserved c = let a = c.args in
     let r = now_spread v.new.work v.result.waiting v.result.opened in (
       omega arith,
       omega arith,
-      onward_row a.rows a.columns c.requires.shape p q r c.requires.has_cells.0.0 l.invariant.2 l.row k.from k.to (omega arith) (omega arith) v.ensures,
+      onward_row a.rows a.columns c.requires.shape p q r c.requires.has_cells.0 l.invariant.2 l.row k.from k.to (omega arith) (omega arith) v.ensures,
       block_on visited p q r a.rows k.first l.row k.from k.to l.invariant.0 l.invariant.3 v.ensures,
     )
 

@@ -1,0 +1,44 @@
+-- `choices::known::best`: the first column of highest premium has the lowest of the cells that have it, if there is one. Assumes nothing.
+use Prim.Native.Nat.{ℕ, ◌*◌, ◌+◌, ◌<◌, ◌≤◌}
+use mathlib.Core.Path.{◌∙◌, ◌≡◌, ap, subst}
+use mathlib.Core.Bool.{Bool}
+use mathlib.Core.List.{List}
+use lib.IntN.{ℤ}
+use lib.ListN.{get_or}
+use Rattle.area.specs.Stages.{Stands}
+use Rattle.game.specs.Grid.{Grid}
+use Rattle.game.specs.Lists.{keep, range}
+use Rattle.game.specs.Position.{Position}
+use Rattle.game.specs.Rounds.{top_cells}
+use Rattle.choices.specs.Picks.{found_first}
+use Rattle.choices.specs.Tests.{top_at}
+use Rattle.choices.specs.Tops.{first_of}
+use Rattle.choices.specs.declared.Best.{Best}
+use Rattle.choices.specs.declared.Found.TheVariants.{At, Nothing}
+use Rattle.choices.proofs.Tops.{best_found, best_none}
+use Rattle.choices.proofs.known.best.Goals as goal
+
+module _ (openedOnly : Bool) (w : List ℤ) (rows columns : ℕ) (first : Best) (e : first ≡ first_of openedOnly w rows columns columns)
+    (g : Grid) (s : Position) (old : List ℤ) (t : Stands rows columns g s old w) where
+  no_column : columns ≤ first.at → Nothing ≡ found_first (top_cells openedOnly g s)
+  no_column h = best_none openedOnly rows columns g s old w t (subst (λ (b : Best). columns ≤ b.at) e h)
+
+  in-column : (found : ℕ) → first.at < columns → found ≡ get_or (keep (top_at openedOnly first.top w) (range (first.at * rows) (first.at * rows + rows))) 0 0
+      → At found ≡ found_first (top_cells openedOnly g s)
+  in-column found h q =
+      ap At (q ∙ ap (λ (b : Best). get_or (keep (top_at openedOnly b.top w) (range (b.at * rows) (b.at * rows + rows))) 0 0) e)
+      ∙ best_found openedOnly rows columns g s old w t (subst (λ (b : Best). b.at < columns) e h)
+
+pub returns-then-column-columns : goal.returns-then-column-columns
+returns-then-column-columns c =
+    let a = c.args in
+    record { tops_len_unchanged = c.first_column-first.ensures.tops_len_unchanged; value = λ g s old t. no_column a.opened_only a.work.now a.rows a.columns c.first_column-first.result c.first_column-first.ensures.value g s old t c.if-column-columns.true }
+
+pub returns : goal.returns
+returns c =
+    let x = c.before in
+    let a = c.args in record {
+      tops_len_unchanged = c.first_column-first.ensures.tops_len_unchanged;
+      value = λ g s old t.
+          in-column a.opened_only a.work.now a.rows a.columns c.first_column-first.result c.first_column-first.ensures.value g s old t c.first_row.result c.if-column-columns.false c.first_row.ensures;
+    }
