@@ -1,3 +1,2 @@
--- There is only one answer, and a local reader lent to a call.
-pub mod Lent
+-- There is only one answer.
 pub mod OneAnswer

@@ -7,14 +7,14 @@ ghost use Rattle.game.specs.Draws.{draw, first_taken, four_bytes};
 ghost use Rattle.draws.specs.Answers.{Bounds, drawn_of, mode_of};
 
 // The modes of a draw: the old one takes every word, the fair one spends some, so that the places have even chances.
-#[derive(Drop)]
+#[derive(Clone, Copy)]
 pub enum Mode {
     Old,
     Fair,
 }
 
 // The place that is taken and where the next draw reads on, or too few bytes.
-#[derive(Drop)]
+#[derive(Clone, Copy)]
 pub enum Drawn {
     Place(usize, usize),
     Short,

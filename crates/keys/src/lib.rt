@@ -6,7 +6,7 @@ ghost use Rattle.game.specs.Keys.{blank, given_by, mix_left, mix_right, next_key
 ghost use Rattle.keys.specs.Stands.{key_of};
 
 // Five words and a counter.
-#[derive(Drop)]
+#[derive(Clone, Copy)]
 pub struct Key {
     pub x: u32,
     pub y: u32,

@@ -1,7 +1,8 @@
 -- A run with new entries written from its start: one entry more, the copy cut at the least length, and what stands where. Assumes nothing.
 use mathlib.Core.Path.{◌≡◌, refl, ap}
 use mathlib.Core.Logic.{◌⊎◌, inl, inr}
-use Prim.Native.Nat.{ℕ, zero, suc, ◌<◌, ◌≤◌}
+use Prim.Native.Nat.{ℕ, zero, suc, ◌+◌, ◌<◌, ◌≤◌}
+use native.Mathlib.Numerals.{add-one}
 use native.Mathlib.Nat.{le_of_suc-le-suc, not-suc-le-zero}
 use mathlib.Core.List.{List, [], ◌∷◌, map}
 use lib.ListN.{length, take, set, get_or}
@@ -41,6 +42,10 @@ module _ {A B : Type 0} (f : A → B) (d : A) where
   over_more zero (x ∷ xs) (y ∷ ys) h = refl
   over_more (suc k) (x ∷ xs) [] h = refl
   over_more (suc k) (x ∷ xs) (y ∷ ys) h = ap (λ (l : List B). f x ∷ l) (over_more k xs ys (le_of_suc-le-suc h))
+
+  -- the same where the run so far and the entry are given by equations
+  pub over_next : (k : ℕ) (xs : List A) (ys zs : List B) (y : B) → k < length xs → zs ≡ over (firsts k xs) ys → y ≡ f (get_or xs k d) → set zs k y ≡ over (firsts (k + 1) xs) ys
+  over_next k xs ys zs y h e e' = rw (add-one, e, e') (over_more k xs ys h)
 
   -- a copy that reaches the count, or the end of either, is the whole copy
   over_reached : (n count : ℕ) (xs : List A) (ys : List B) → n ≤ count → (count ≤ n) ⊎ ((length xs ≤ n) ⊎ (length ys ≤ n)) → over (firsts n xs) ys ≡ over (firsts count xs) ys

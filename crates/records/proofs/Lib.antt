@@ -1,4 +1,3 @@
--- Records and words are equal, what a copy leaves, and a slice lent again.
-pub mod Again
+-- Records and words are equal, and what a copy leaves.
 pub mod Copies
 pub mod Words

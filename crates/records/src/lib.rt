@@ -5,7 +5,7 @@ ghost use Rattle.std.specs.Prelude.{◌≡◌, map, ◌<◌, length, get_or, set
 ghost use Rattle.records.specs.Records.{no_move, record_of, move_word, Least, over};
 
 // A move: its kind, and the row and column of its cell.
-#[derive(Drop)]
+#[derive(Clone, Copy)]
 pub struct MoveRecord {
     pub kind: u32,
     pub row: u32,

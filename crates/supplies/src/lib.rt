@@ -14,7 +14,7 @@ use draws::{Drawn, Mode};
 use keys::Key;
 
 // Whether draws come from a key, the bytes used so far (four for each word of a key), and the key after those.
-#[derive(Drop)]
+#[derive(Clone, Copy)]
 pub struct Supply {
     pub keyed: bool,
     pub used: usize,
@@ -22,7 +22,7 @@ pub struct Supply {
 }
 
 // What a draw deals: the place that is taken and the supply after it, or the draws ran dry.
-#[derive(Drop)]
+#[derive(Clone, Copy)]
 pub enum Dealt {
     Place(usize, Supply),
     Dry,

@@ -11,7 +11,7 @@ pub overflow_sub-result : goal.overflow_sub-result
 overflow_sub-result c = omega (arith, mod-le 4294967296 c.args.n)
 
 pub returns-in-Old : goal.returns-in-Old
-returns-in-Old c = rw c.enum_told-1.given.1 (record { tells = λ word h. T→true (ltb word all_words) (lt→ltb word all_words h) })
+returns-in-Old c = rw c.in-Old.is (record { tells = λ word h. T→true (ltb word all_words) (lt→ltb word all_words h) })
 
 pub returns-in-Fair : goal.returns-in-Fair
-returns-in-Fair c = rw c.enum_told-in-Fair-1.given.1 (record { tells = λ word h. refl })
+returns-in-Fair c = rw c.in-Fair.is (record { tells = λ word h. refl })

@@ -11,4 +11,4 @@ unfolding next_key
 moved k last counter e f = ap₂ (λ (a b : ℕ). record { x = k.y; y = k.z; z = k.w; w = k.v; v = a; counter = b }) e f
 
 pub returns : goal.returns
-returns c = moved _ _ _ c.mixed.ensures c.wrapping_add_u32.ensures
+returns c = moved _ _ _ c.mixed.ensures c.wrapping_add_u32.ensures.value

@@ -10,9 +10,7 @@ use Rattle.draws.specs.Answers.{mode_of}
 use Rattle.supplies.specs.declared.Supply.{Supply}
 use Rattle.supplies.specs.declared.Dealt.{Dealt}
 use Rattle.supplies.specs.Origins.{Dealing, Origin, Reads, bytes_lent, key_given, source_of}
-use borrow.Author.Rules.{rules}
-use Rattle.supplies.proofs.draw.Statement.{statement}
-use Rattle.supplies.proofs.draw.Tie as tie
+use Rattle.supplies.proofs.draw.Goals as goal
 
 -- a supply that draws from a key stands in one
 by_key : (mode : Mode) (bytes : List ℕ) (s : Supply) (n : ℕ) (r : Dealt) → s.keyed ≡ true → ((k : Key) (at : ℕ) → Reads (key_given k) at s → Dealing (key_given k) (keyed mode k at n) r)
@@ -26,25 +24,14 @@ by_bytes : (mode : Mode) (bytes : List ℕ) (s : Supply) (n : ℕ) (r : Dealt) �
 by_bytes mode bytes s n r e d bytes_lent at q = d at q
 by_bytes mode bytes s n r e d (key_given k) at q = let z : ◌≡◌ {A = ℕ} 0 1 = cc (e, q.from.0) in absurd (omega arith)
 
-draw-of-key-requires : tie.Need-draw-of-key-requires
-draw-of-key-requires c κs = search rules
+pub returns-then-supply : goal.returns-then-supply
+returns-then-supply c =
+    let x = c.draw_of_key in
+    let a = c.args in
+    record { draw_grows = x.ensures.draw_grows; dealing = by_key (mode_of a.mode) a.draws.now a.supply a.n x.result c.if-supply.true x.ensures.dealing }
 
-returns : tie.Need-returns
+pub returns : goal.returns
 returns c =
-    let x = c.draw-of-key in
-    let l = c.before in
-    let a = l.before.before.args in
-    (x.ensures.0, by_key (mode_of a.mode) a.draws.now a.supply a.n x.result l.if1.true x.ensures.1)
-
-draw-of-bytes-requires : tie.Need-draw-of-bytes-requires
-draw-of-bytes-requires c κs = search rules
-
-returns-2 : tie.Need-returns-2
-returns-2 c =
-    let x = c.draw-of-bytes in
-    let l = c.before in
-    let a = l.before.before.args in
-    (x.ensures.0, by_bytes (mode_of a.mode) a.draws.now a.supply a.n x.result l.if1.false x.ensures.1)
-
-pub draw_spec : {M : Type 1} → statement M
-draw_spec = tie.close (tie.spec draw-of-key-requires returns draw-of-bytes-requires returns-2)
+    let x = c.draw_of_bytes in
+    let a = c.args in
+    record { draw_grows = x.ensures.draw_grows; dealing = by_bytes (mode_of a.mode) a.draws.now a.supply a.n x.result c.if-supply.false x.ensures.by_index }
