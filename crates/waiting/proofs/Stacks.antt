@@ -13,9 +13,7 @@ use lib.Seq.{get_or-set_other, get_or-set_same}
 use Rattle.area.specs.Numbers.{HasCells, first_at, first_place, content_at, content_place, natural, second_place, state_place, waiting_at, waiting_place}
 use Rattle.game.specs.Grid.{Grid, column_of, index, row_of, size, square}
 use Rattle.game.specs.Lists.{has}
-use Rattle.game.specs.Moves.{after}
 use Rattle.game.specs.Openings.{places}
-use Rattle.game.specs.Rounds.{before}
 use Rattle.labels.specs.Labels.{Fresh, bordered, free_of, fresh_cell, put_label}
 use Rattle.labels.specs.Spread.{Change, Reach, Side, here, next}
 use Rattle.waiting.specs.Waits.{BeforeRow, InRow, InRowBefore, InSquare, Newly, Pushed, Visitable, Waited}

@@ -11,8 +11,6 @@ use lib.ListN.{get_or, set}
 use lib.Seq.{get_or-set_other, get_or-set_same}
 use Rattle.area.specs.Numbers.{HasCells, first_at, first_place, content_at, natural, waiting_at, waiting_place}
 use Rattle.game.specs.Grid.{Grid, size}
-use Rattle.game.specs.Moves.{after}
-use Rattle.game.specs.Rounds.{before}
 use Rattle.labels.specs.Labels.{free_of, fresh_cell}
 use Rattle.labels.specs.Spread.{Change, ClearFrom, OpeningLabelled, Reach, Shut, here}
 use Rattle.waiting.specs.Waits.{InSquare, Newly, Pushed, Visitable, Waited, Waiting}
