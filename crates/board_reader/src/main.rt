@@ -4,19 +4,18 @@
 ghost use Rattle.std.specs.Prelude.{◌*◌, ◌≤◌, ◌≡◌, false, true, length};
 ghost use Rattle.board_reader.specs.Turns.{AnsweredBlock, Handed, Sofar, Turns, answers_to, goes_on, nothing_kept, went_by};
 
-use inputs::Got;
-use libc::{STDERR_FILENO, STDIN_FILENO, STDOUT_FILENO};
+use inputs::{Got, Streams};
 use line_prices::Answered;
 
 // What is kept of the line that goes on: its first bytes, and how many they are.
-#[derive(Drop)]
+#[derive(Clone, Copy)]
 struct PartLine {
     bytes: [u8; 517],
     count: usize,
 }
 
 // How a turn went: the input goes on, it has ended, it cannot be read, or the answers cannot be written.
-#[derive(Drop)]
+#[derive(Clone, Copy)]
 enum Went {
     On,
     Ended,
@@ -25,7 +24,7 @@ enum Went {
 }
 
 // What a turn came to: what is kept then, and how it went.
-#[derive(Drop)]
+#[derive(Clone, Copy)]
 struct Turn {
     kept: PartLine,
     went: Went,
@@ -45,15 +44,15 @@ fn went_by(written: bool, ends: bool) -> Went
 }
 
 // Hands answers to the write, and tells how that went. What was kept before the block, the block, and whether the input ends say which answers they have to be.
-fn print(answers: &[u8], kept: PartLine, block: &[u8], ends: bool) -> Went
+fn print(streams: &mut Streams, answers: &[u8], kept: PartLine, block: &[u8], ends: bool) -> Went
     requires { answers.now ≡ answers_to kept block.now «ends» }
     ensures { Handed «ends» result }
 {
-    went_by(io::write_all(STDOUT_FILENO, answers), ends)
+    went_by(streams.write_all(answers), ends)
 }
 
 // Answers the lines that end in a block, read on from what is kept, and prints the answers.
-fn answer_some(block: &[u8], kept: PartLine, out: &mut [u8]) -> Turn
+fn answer_some(streams: &mut Streams, block: &[u8], kept: PartLine, out: &mut [u8]) -> Turn
     requires sofar { Sofar kept }
     requires block_in_bounds { 15 * length block.now ≤ length out.old }
     ensures { AnsweredBlock kept block.now result }
@@ -66,7 +65,7 @@ fn answer_some(block: &[u8], kept: PartLine, out: &mut [u8]) -> Turn
             went: Went::Unwritten,
         },
         Answered::Kept(count, written) => {
-            let went = print(&out[..written], kept, block, false);
+            let went = print(streams, &out[..written], kept, block, false);
             Turn {
                 kept: PartLine { bytes, count },
                 went,
@@ -76,16 +75,16 @@ fn answer_some(block: &[u8], kept: PartLine, out: &mut [u8]) -> Turn
 }
 
 // Reads once, and answers what came at once.
-fn read_some(block: &mut [u8], kept: PartLine, out: &mut [u8]) -> Turn
+fn read_some(streams: &mut Streams, block: &mut [u8], kept: PartLine, out: &mut [u8]) -> Turn
     requires sofar { Sofar kept }
     requires block_in_bounds { 15 * length block.old ≤ length out.old }
     ensures { Turns kept block.new result }
 {
-    let got = libc::read(STDIN_FILENO, block);
-    let error = os::errno();
+    let got = streams.read(block);
+    let error = streams.error();
     let came = inputs::taken(got, error, block);
     match came {
-        Got::Bytes(n) => answer_some(&block[..n], kept, out),
+        Got::Bytes(n) => answer_some(streams, &block[..n], kept, out),
         Got::End => Turn {
             kept,
             went: Went::Ended,
@@ -102,7 +101,7 @@ fn read_some(block: &mut [u8], kept: PartLine, out: &mut [u8]) -> Turn
 }
 
 // Prints the answer to a line without its line feed, if there is one.
-fn print_last(kept: PartLine, out: &mut [u8]) -> Went
+fn print_last(streams: &mut Streams, kept: PartLine, out: &mut [u8]) -> Went
     requires sofar { Sofar kept }
     requires in_bounds { 15 ≤ length out.old }
     ensures { Handed true result }
@@ -111,7 +110,7 @@ fn print_last(kept: PartLine, out: &mut [u8]) -> Went
     let answered = line_prices::block::answer_end(&bytes, kept.count, out);
     match answered {
         Answered::Refused(_) => Went::Unwritten,
-        Answered::Kept(_, written) => print(&out[..written], kept, &[0u8; 0], true),
+        Answered::Kept(_, written) => print(streams, &out[..written], kept, &[0u8; 0], true),
     }
 }
 
@@ -126,7 +125,7 @@ fn nothing_kept() -> PartLine
 }
 
 // Reads to the end of input, and tells how that went. A proved loop has to end, so it counts its turns down, from a number that no run uses up.
-fn read_all(block: &mut [u8], out: &mut [u8]) -> Went
+fn read_all(streams: &mut Streams, block: &mut [u8], out: &mut [u8]) -> Went
     requires block_in_bounds { 15 * length block.old ≤ length out.old }
     requires in_bounds { 15 ≤ length out.old }
     ensures { goes_on result ≡ false }
@@ -138,7 +137,7 @@ fn read_all(block: &mut [u8], out: &mut [u8]) -> Went
     let mut turns = u64::MAX;
     while turns > 0 {
         let kept = turn.kept;
-        turn = read_some(block, kept, out);
+        turn = read_some(streams, block, kept, out);
         let went = turn.went;
         match went {
             Went::Unread => {
@@ -148,7 +147,7 @@ fn read_all(block: &mut [u8], out: &mut [u8]) -> Went
                 return Went::Unwritten;
             }
             Went::Ended => {
-                return print_last(kept, out);
+                return print_last(streams, kept, out);
             }
             Went::On => {
                 turns -= 1;
@@ -159,28 +158,28 @@ fn read_all(block: &mut [u8], out: &mut [u8]) -> Went
 }
 
 // Says on standard error what failed, if something did.
-fn tell(went: Went) {
+fn tell(streams: &Streams, went: Went) {
     match went {
-        Went::Unread => os::fail(b"board_reader: reading standard input"),
-        Went::Unwritten => os::fail(b"board_reader: writing standard output"),
+        Went::Unread => streams.tell("board_reader: reading standard input"),
+        Went::Unwritten => streams.tell("board_reader: writing standard output"),
         Went::Ended | Went::On => (),
     }
 }
 
 // Reads and answers, with the memory that takes.
-fn answer_input() {
+fn answer_input(streams: &mut Streams) {
     let mut block = [0u8; 4096];
     let mut out = [0u8; 61440];
-    tell(read_all(&mut block, &mut out));
+    let went = read_all(streams, &mut block, &mut out);
+    tell(streams, went);
 }
 
-fn main() {
-    if inputs::has_arguments(os::arg_count()) {
-        io::write_all(
-            STDERR_FILENO,
+fn main(rt: HostRuntime) {
+    if inputs::has_arguments(inputs::word_count(&rt)) {
+        let _ = rt.stderr().write_all(
             b"usage: board_reader < FILE\nboard lines on standard input, a price line on standard output for each; it takes no arguments\n",
         );
         return;
     }
-    answer_input();
+    answer_input(&mut Streams::new(rt));
 }

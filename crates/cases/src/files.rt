@@ -33,16 +33,16 @@ fn of_written(answer: FileWritten) -> Plain {
 }
 
 // Prints bytes whole.
-fn print_whole(run: &[u8]) {
+fn print_whole(rt: HostRuntime, run: &[u8]) {
     let mut k = 0;
     while k < run.len() {
-        trials::print_number(run[k] as u64);
+        trials::print_number(rt, run[k] as u64);
         k += 1;
     }
 }
 
 // Prints what bytes come to, and what the sums up to each come to, which tells their order.
-fn print_sums(run: &[u8]) {
+fn print_sums(rt: HostRuntime, run: &[u8]) {
     let mut sum: u64 = 0;
     let mut sums: u64 = 0;
     let mut k = 0;
@@ -51,18 +51,18 @@ fn print_sums(run: &[u8]) {
         sums = std::num::wrapping_add_u64(sums, sum);
         k += 1;
     }
-    trials::print_number(sum);
-    trials::print_number(sums);
+    trials::print_number(rt, sum);
+    trials::print_number(rt, sums);
 }
 
 // Prints a run of bytes: whole, or the sums of more than 255.
-fn print_bytes(run: &[u8]) {
+fn print_bytes(rt: HostRuntime, run: &[u8]) {
     if 255 < run.len() {
-        print_sums(run);
+        print_sums(rt, run);
     } else {
-        print_whole(run);
+        print_whole(rt, run);
     }
-    io::write_all(1, b"\n");
+    trials::print(rt, b"\n");
 }
 
 // The cell that is listed as number k where the first so many cells are listed in index order, and then the last of them again.
@@ -141,25 +141,25 @@ fn file_length(text: &[u8], most: usize) -> usize
 }
 
 // Fills what is lent to a case, reads its file into its grid, and prints the answer and the grid.
-fn read_on(text: &[u8], file: &mut [u8], grid: &mut [i32]) {
+fn read_on(rt: HostRuntime, text: &[u8], file: &mut [u8], grid: &mut [i32]) {
     lay_file(text, file);
     fields::lay_values(text, b"board=", grid);
-    trials::print_answer(of_read(mbf::read(file, grid)));
-    trials::print_area(grid);
+    trials::print_answer(rt, of_read(mbf::read(file, grid)));
+    trials::print_area(rt, grid);
 }
 
 // Reads a case's file in the first bytes and values of what there is to lend.
-fn read_in(text: &[u8], file: &mut [u8], grid: &mut [i32]) {
+fn read_in(rt: HostRuntime, text: &[u8], file: &mut [u8], grid: &mut [i32]) {
     let bytes = file_length(text, file.len());
     let cells = fields::values(text, b"board=", grid.len());
-    read_on(text, &mut file[0..bytes], &mut grid[0..cells]);
+    read_on(rt, text, &mut file[0..bytes], &mut grid[0..cells]);
 }
 
 // Reads a case's file, with the memory that takes.
-fn read_case(text: &[u8]) {
+fn read_case(rt: HostRuntime, text: &[u8]) {
     let mut file = [0u8; 131074];
     let mut grid = [0i32; 65026];
-    read_in(text, &mut file, &mut grid);
+    read_in(rt, text, &mut file, &mut grid);
 }
 
 // Writes a case's grid, strictly where the case says so.
@@ -173,32 +173,32 @@ fn write(text: &[u8], grid: &[i32], file: &mut [u8]) -> FileWritten {
 }
 
 // Fills what is lent to a case, writes its grid into its run of bytes, and prints the answer and the run.
-fn write_on(text: &[u8], grid: &mut [i32], file: &mut [u8]) {
+fn write_on(rt: HostRuntime, text: &[u8], grid: &mut [i32], file: &mut [u8]) {
     fields::lay_values(text, b"board=", grid);
     fields::lay_bytes(text, b"file=", file);
-    trials::print_answer(of_written(write(text, grid, file)));
-    print_bytes(file);
+    trials::print_answer(rt, of_written(write(text, grid, file)));
+    print_bytes(rt, file);
 }
 
 // Writes a case's grid in the first values and bytes of what there is to lend.
-fn write_in(text: &[u8], grid: &mut [i32], file: &mut [u8]) {
+fn write_in(rt: HostRuntime, text: &[u8], grid: &mut [i32], file: &mut [u8]) {
     let cells = fields::values(text, b"board=", grid.len());
     let bytes = fields::bytes(text, b"file=", file.len());
-    write_on(text, &mut grid[0..cells], &mut file[0..bytes]);
+    write_on(rt, text, &mut grid[0..cells], &mut file[0..bytes]);
 }
 
 // Writes a case's grid, with the memory that takes.
-fn write_case(text: &[u8]) {
+fn write_case(rt: HostRuntime, text: &[u8]) {
     let mut grid = [0i32; 65026];
     let mut file = [0u8; 131074];
-    write_in(text, &mut grid, &mut file);
+    write_in(rt, text, &mut grid, &mut file);
 }
 
 // Runs a case of a file.
-pub fn run_case(text: &[u8]) {
+pub fn run_case(rt: HostRuntime, text: &[u8]) {
     if fields::is(text, 2, b"read-mbf ") {
-        read_case(text);
+        read_case(rt, text);
         return;
     }
-    write_case(text);
+    write_case(rt, text);
 }

@@ -14,15 +14,15 @@ pub fn is_case(text: &[u8]) -> bool {
 }
 
 // Prints so many words of a key.
-fn print_words(key: Key, count: usize) {
+fn print_words(rt: HostRuntime, key: Key, count: usize) {
     let mut at = key;
     let mut left = count;
     while 0 < left {
         at = keys::next_key(at);
-        trials::print_number(keys::given_by(at) as u64);
+        trials::print_number(rt, keys::given_by(at) as u64);
         left -= 1;
     }
-    io::write_all(1, b"\n");
+    trials::print(rt, b"\n");
 }
 
 // A draw's place and the bytes of the key used, or DRAWS.
@@ -48,11 +48,11 @@ fn draw(text: &[u8], key: Key) -> Plain {
 }
 
 // Runs a case of a key alone, and prints what it gives.
-pub fn run_case(text: &[u8]) {
+pub fn run_case(rt: HostRuntime, text: &[u8]) {
     let key = drawn::key_of(text);
     if fields::is(text, 2, b"key-words ") {
-        print_words(key, fields::number(text, b"count="));
+        print_words(rt, key, fields::number(text, b"count="));
         return;
     }
-    trials::print_answer(draw(text, key));
+    trials::print_answer(rt, draw(text, key));
 }

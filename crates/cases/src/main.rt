@@ -36,6 +36,7 @@ use zini::{count, prices, replays, strict};
 
 // Runs a case's call in its strict form on what is lent to it.
 fn strict_call(
+    rt: HostRuntime,
     text: &[u8],
     grid: &[i32],
     work: &mut [i32],
@@ -73,14 +74,21 @@ fn strict_call(
         let moves = fields::number(text, b"count=");
         return plain::of_replayed(strict::replay(rows, columns, grid, work, list, moves));
     }
-    io::write_all(1, b" no such call");
+    trials::print(rt, b" no such call");
     plain::numbers(0, 0, 0)
 }
 
 // Runs a case's call on what is lent to it.
-fn call(text: &[u8], grid: &[i32], work: &mut [i32], list: &mut [u32], draws: &[u8]) -> Plain {
+fn call(
+    rt: HostRuntime,
+    text: &[u8],
+    grid: &[i32],
+    work: &mut [i32],
+    list: &mut [u32],
+    draws: &[u8],
+) -> Plain {
     if fields::is(text, 2, b"strict ") {
-        return strict_call(text, grid, work, list, draws);
+        return strict_call(rt, text, grid, work, list, draws);
     }
     let rows = fields::number(text, b"rows=");
     let columns = fields::number(text, b"columns=");
@@ -113,14 +121,14 @@ fn call(text: &[u8], grid: &[i32], work: &mut [i32], list: &mut [u32], draws: &[
         let moves = fields::number(text, b"count=");
         return plain::of_replayed(replays::replay(rows, columns, grid, work, list, moves));
     }
-    io::write_all(1, b" no such call");
+    trials::print(rt, b" no such call");
     plain::numbers(0, 0, 0)
 }
 
 // Prints a case's list, if it has one.
-fn print_list(list: &[u32]) {
+fn print_list(rt: HostRuntime, list: &[u32]) {
     if 0 < list.len() {
-        trials::print_list(list);
+        trials::print_list(rt, list);
     }
 }
 
@@ -131,29 +139,51 @@ fn lay_board(text: &[u8], grid: &mut [i32]) {
 }
 
 // Runs a case's call on what was filled for it, and prints what was lent.
-fn run_laid(text: &[u8], grid: &[i32], work: &mut [i32], list: &mut [u32], draws: &[u8]) {
-    let answer = call(text, grid, work, list, draws);
-    trials::print_answer(answer);
-    print_list(list);
-    trials::print_area(work);
+fn run_laid(
+    rt: HostRuntime,
+    text: &[u8],
+    grid: &[i32],
+    work: &mut [i32],
+    list: &mut [u32],
+    draws: &[u8],
+) {
+    let answer = call(rt, text, grid, work, list, draws);
+    trials::print_answer(rt, answer);
+    print_list(rt, list);
+    trials::print_area(rt, work);
 }
 
 // Fills what is lent to a case, and runs its call.
-fn run_on(text: &[u8], grid: &mut [i32], work: &mut [i32], list: &mut [u32], draws: &mut [u8]) {
+fn run_on(
+    rt: HostRuntime,
+    text: &[u8],
+    grid: &mut [i32],
+    work: &mut [i32],
+    list: &mut [u32],
+    draws: &mut [u8],
+) {
     lay_board(text, grid);
     fields::lay_values(text, b"work=", work);
     fields::lay_words(text, b"list=", list);
     fields::lay_bytes(text, b"draws=", draws);
-    run_laid(text, grid, work, list, draws);
+    run_laid(rt, text, grid, work, list, draws);
 }
 
 // Runs a case on the first numbers of what there is to lend.
-fn run_in(text: &[u8], grid: &mut [i32], work: &mut [i32], list: &mut [u32], draws: &mut [u8]) {
+fn run_in(
+    rt: HostRuntime,
+    text: &[u8],
+    grid: &mut [i32],
+    work: &mut [i32],
+    list: &mut [u32],
+    draws: &mut [u8],
+) {
     let cells = fields::values(text, b"board=", grid.len());
     let numbers = fields::values(text, b"work=", work.len());
     let words = fields::values(text, b"list=", list.len());
     let bytes = fields::bytes(text, b"draws=", draws.len());
     run_on(
+        rt,
         text,
         &mut grid[0..cells],
         &mut work[0..numbers],
@@ -163,12 +193,12 @@ fn run_in(text: &[u8], grid: &mut [i32], work: &mut [i32], list: &mut [u32], dra
 }
 
 // Runs a case, with the memory that takes.
-fn run_case(text: &[u8]) {
+fn run_case(rt: HostRuntime, text: &[u8]) {
     let mut grid = [0i32; 65025];
     let mut work = [0i32; 325126];
     let mut list = [0u32; 65026];
     let mut draws = [0u8; 65535];
-    run_in(text, &mut grid, &mut work, &mut list, &mut draws);
+    run_in(rt, text, &mut grid, &mut work, &mut list, &mut draws);
 }
 
 // Whether a line is a comment or empty.
@@ -180,43 +210,43 @@ fn is_comment(line: &[u8]) -> bool {
 }
 
 // Prints the version of the library.
-fn print_version() {
-    trials::print_number(version::number() as u64);
-    io::write_all(1, b"\n");
+fn print_version(rt: HostRuntime) {
+    trials::print_number(rt, version::number() as u64);
+    trials::print(rt, b"\n");
 }
 
 // A line: a comment is printed as it is, a case is run.
-fn run_line(line: &[u8]) {
+fn run_line(rt: HostRuntime, line: &[u8]) {
     if is_comment(line) {
-        io::write_all(1, line);
-        io::write_all(1, b"\n");
+        trials::print(rt, line);
+        trials::print(rt, b"\n");
         return;
     }
     let colon = fields::until(line, 0, 58);
-    io::write_all(1, &line[0..colon]);
+    trials::print(rt, &line[0..colon]);
     if files::is_case(&line[colon..]) {
-        files::run_case(&line[colon..]);
+        files::run_case(rt, &line[colon..]);
         return;
     }
     if key_words::is_case(&line[colon..]) {
-        key_words::run_case(&line[colon..]);
+        key_words::run_case(rt, &line[colon..]);
         return;
     }
     if fields::is(&line[colon..], 2, b"version") {
-        print_version();
+        print_version(rt);
         return;
     }
-    run_case(&line[colon..]);
+    run_case(rt, &line[colon..]);
 }
 
 // Runs the lines that end in a text, and answers how many bytes they are.
-fn run_lines(text: &[u8]) -> usize
+fn run_lines(rt: HostRuntime, text: &[u8]) -> usize
     ensures { result ≤ length text.now }
 {
     let mut from = 0;
     let mut end = fields::until(text, 0, 10);
     while end < text.len() {
-        run_line(&text[from..end]);
+        run_line(rt, &text[from..end]);
         from = end + 1;
         end = fields::until(text, from, 10);
     }
@@ -235,57 +265,58 @@ fn keep(held: &mut [u8], from: usize, count: usize)
 }
 
 // Reads on behind the first so many bytes, and answers how many there are then.
-fn read_on(held: &mut [u8], kept: usize) -> usize
+fn read_on(rt: HostRuntime, held: &mut [u8], kept: usize) -> usize
     requires { kept ≤ length held.old }
     ensures { (kept ≤ result) × (result ≤ length held.old) }
 {
-    kept + io::read_full(0, &mut held[kept..])
+    kept + trials::read_full(rt, &mut held[kept..])
 }
 
 // Runs the lines that end in the first so many bytes; what is left moves to the front, and its length is answered.
-fn run_some(held: &mut [u8], count: usize) -> usize
+fn run_some(rt: HostRuntime, held: &mut [u8], count: usize) -> usize
     requires { count ≤ length held.old }
     ensures { result ≤ count }
 {
-    let from = run_lines(&held[0..count]);
+    let from = run_lines(rt, &held[0..count]);
     keep(held, from, count);
     count - from
 }
 
 // Runs a last line without a line feed, if there is one in the first so many bytes.
-fn run_last(held: &[u8], kept: usize)
+fn run_last(rt: HostRuntime, held: &[u8], kept: usize)
     requires { kept ≤ length held.now }
 {
     if kept == held.len() {
-        io::write_all(1, b"a line that is too long\n");
+        trials::print(rt, b"a line that is too long\n");
         return;
     }
     if 0 < kept {
-        run_line(&held[0..kept]);
+        run_line(rt, &held[0..kept]);
     }
 }
 
 // Reads to the end of input, in blocks. A proved loop has to end, so it counts its turns down, from a number that no run uses up.
-fn run_all(held: &mut [u8]) {
+fn run_all(rt: HostRuntime, held: &mut [u8]) {
     let mut kept = 0;
     let mut turns = u64::MAX;
     while turns > 0 {
-        let count = read_on(held, kept);
+        let count = read_on(rt, held, kept);
         if count == kept {
-            run_last(held, kept);
+            run_last(rt, held, kept);
             return;
         }
-        kept = run_some(held, count);
+        kept = run_some(rt, held, count);
         turns -= 1;
     }
 }
 
-fn main() {
+fn main(rt: HostRuntime) {
     if trials::usage(
+        rt,
         b"usage: cases < CASES  runs a call for each line NAME: CALL FIELD=VALUE .. of standard input, prints what it answers and what was lent to it, and takes no argument\n",
     ) {
         return;
     }
     let mut held = [0u8; 65536];
-    run_all(&mut held);
+    run_all(rt, &mut held);
 }

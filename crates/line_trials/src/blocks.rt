@@ -33,13 +33,20 @@ fn add_bytes(start: u64, out: &[u8]) -> u64 {
 }
 
 // The bytes to be printed are added, and printed where they are to be shown.
-fn tell(out: &[u8], kept: usize, written: usize, state: State, shown: bool) -> State {
+fn tell(
+    rt: HostRuntime,
+    out: &[u8],
+    kept: usize,
+    written: usize,
+    state: State,
+    shown: bool,
+) -> State {
     if out.len() < written {
         return state;
     }
     let total = add_bytes(state.total, &out[..written]);
     if shown {
-        io::write_all(1, &out[..written]);
+        trials::print(rt, &out[..written]);
     }
     State {
         count: kept,
@@ -49,21 +56,28 @@ fn tell(out: &[u8], kept: usize, written: usize, state: State, shown: bool) -> S
 }
 
 // What an answer came to.
-fn told(answered: Answered, out: &[u8], state: State, shown: bool) -> State {
+fn told(rt: HostRuntime, answered: Answered, out: &[u8], state: State, shown: bool) -> State {
     match answered {
         Answered::Refused(_) => {
-            io::write_all(1, b"REFUSED\n");
+            trials::print(rt, b"REFUSED\n");
             state
         }
-        Answered::Kept(kept, written) => tell(out, kept, written, state, shown),
+        Answered::Kept(kept, written) => tell(rt, out, kept, written, state, shown),
     }
 }
 
 // One block answered.
-fn answer_part(block: &[u8], held: &mut [u8], out: &mut [u8], state: State, shown: bool) -> State {
+fn answer_part(
+    rt: HostRuntime,
+    block: &[u8],
+    held: &mut [u8],
+    out: &mut [u8],
+    state: State,
+    shown: bool,
+) -> State {
     let count = state.count;
     let answered = line_prices::block::answer_block(block, held, count, out);
-    told(answered, out, state, shown)
+    told(rt, answered, out, state, shown)
 }
 
 // Where the next block ends.
@@ -81,7 +95,14 @@ fn next_end(at: usize, size: usize, len: usize) -> usize
 }
 
 // An input answered in blocks of a size.
-fn read_parts(input: &[u8], size: usize, held: &mut [u8], out: &mut [u8], shown: bool) -> State {
+fn read_parts(
+    rt: HostRuntime,
+    input: &[u8],
+    size: usize,
+    held: &mut [u8],
+    out: &mut [u8],
+    shown: bool,
+) -> State {
     let mut state = State {
         count: 0,
         bytes: 0,
@@ -90,43 +111,43 @@ fn read_parts(input: &[u8], size: usize, held: &mut [u8], out: &mut [u8], shown:
     let mut at = 0;
     while at < input.len() {
         let end = next_end(at, size, input.len());
-        state = answer_part(&input[at..end], held, out, state, shown);
+        state = answer_part(rt, &input[at..end], held, out, state, shown);
         at = end;
     }
     state
 }
 
 // The end of an input answered.
-fn read_end(held: &[u8], out: &mut [u8], state: State, shown: bool) -> State {
+fn read_end(rt: HostRuntime, held: &[u8], out: &mut [u8], state: State, shown: bool) -> State {
     let count = state.count;
     let answered = line_prices::block::answer_end(held, count, out);
-    told(answered, out, state, shown)
+    told(rt, answered, out, state, shown)
 }
 
 // An input answered in blocks of a size, to its end.
-fn run(input: &[u8], size: usize, shown: bool) -> State {
+fn run(rt: HostRuntime, input: &[u8], size: usize, shown: bool) -> State {
     let mut held = [0u8; 517];
     let mut out = [0u8; 61440];
-    let state = read_parts(input, size, &mut held, &mut out, shown);
-    read_end(&held, &mut out, state, shown)
+    let state = read_parts(rt, input, size, &mut held, &mut out, shown);
+    read_end(rt, &held, &mut out, state, shown)
 }
 
 // The count of bytes to be printed and their sum, for blocks of a size.
-fn report(input: &[u8], size: usize) {
-    let state = run(input, size, false);
-    trials::print_number(size as u64);
-    trials::print_number(state.bytes);
-    trials::print_number(state.total);
-    io::write_all(1, b"\n");
+fn report(rt: HostRuntime, input: &[u8], size: usize) {
+    let state = run(rt, input, size, false);
+    trials::print_number(rt, size as u64);
+    trials::print_number(rt, state.bytes);
+    trials::print_number(rt, state.total);
+    trials::print(rt, b"\n");
 }
 
 // The answers, then what they come to in blocks of each size.
-pub fn run_all(input: &[u8]) {
-    run(input, 4096, true);
-    report(input, 1);
-    report(input, 2);
-    report(input, 7);
-    report(input, 15);
-    report(input, 517);
-    report(input, 4096);
+pub fn run_all(rt: HostRuntime, input: &[u8]) {
+    run(rt, input, 4096, true);
+    report(rt, input, 1);
+    report(rt, input, 2);
+    report(rt, input, 7);
+    report(rt, input, 15);
+    report(rt, input, 517);
+    report(rt, input, 4096);
 }

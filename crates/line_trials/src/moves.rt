@@ -29,66 +29,67 @@ fn read_of(answer: MovesRead) -> Read {
 }
 
 // A line read into a list: the answer, then the list.
-fn read_into(line: &[u8], list: &mut [u32]) {
+fn read_into(rt: HostRuntime, line: &[u8], list: &mut [u32]) {
     let read = read_of(stored::read_moves(line, list));
-    trials::print_number(read.number as u64);
-    trials::print_number(read.rows as u64);
-    trials::print_number(read.columns as u64);
-    trials::print_number(read.count as u64);
-    trials::print_list(list);
+    trials::print_number(rt, read.number as u64);
+    trials::print_number(rt, read.rows as u64);
+    trials::print_number(rt, read.columns as u64);
+    trials::print_number(rt, read.count as u64);
+    trials::print_list(rt, list);
 }
 
 // A line read into a list of so many words, four at most, which held 9 each.
-fn read_line(line: &[u8], room: usize) {
+fn read_line(rt: HostRuntime, line: &[u8], room: usize) {
     if 4 < room {
         return;
     }
     let mut list = [9u32; 4];
-    read_into(line, &mut list[..room]);
+    read_into(rt, line, &mut list[..room]);
 }
 
 // A line cut at every place.
-fn read_cuts(line: &[u8]) {
+fn read_cuts(rt: HostRuntime, line: &[u8]) {
     let mut n = 0;
     while n < line.len() {
-        read_line(&line[..n], 4);
+        read_line(rt, &line[..n], 4);
         n += 1;
     }
 }
 
 // Lines read: P7's cut at every place and whole, with too little room and just enough, the sides' edges, and no rows with a wrong byte count.
-pub fn read_all() {
+pub fn read_all(rt: HostRuntime) {
     let stored = b"0202000100010002000000030001";
-    read_cuts(stored);
-    read_line(stored, 4);
-    read_line(stored, 2);
-    read_line(stored, 3);
-    read_line(b"0002", 4);
-    read_line(b"0200", 4);
-    read_line(b"00FF00010001", 4);
-    read_line(b"FFFF", 4);
-    read_line(b"FFFFFFFFFFFF00000000", 4);
-    read_line(b"0101\n", 4);
-    read_line(b"010100000a00", 4);
-    read_line(b"000100", 4);
+    read_cuts(rt, stored);
+    read_line(rt, stored, 4);
+    read_line(rt, stored, 2);
+    read_line(rt, stored, 3);
+    read_line(rt, b"0002", 4);
+    read_line(rt, b"0200", 4);
+    read_line(rt, b"00FF00010001", 4);
+    read_line(rt, b"FFFF", 4);
+    read_line(rt, b"FFFFFFFFFFFF00000000", 4);
+    read_line(rt, b"0101\n", 4);
+    read_line(rt, b"010100000a00", 4);
+    read_line(rt, b"000100", 4);
 }
 
 // Prints a number, how many digits, and the run.
-fn print_written(number: usize, digits: usize, line: &[u8]) {
-    trials::print_number(number as u64);
-    trials::print_number(digits as u64);
-    io::write_all(1, b" ");
-    io::write_all(1, line);
-    io::write_all(1, b"\n");
+fn print_written(rt: HostRuntime, number: usize, digits: usize, line: &[u8]) {
+    trials::print_number(rt, number as u64);
+    trials::print_number(rt, digits as u64);
+    trials::print(rt, b" ");
+    trials::print(rt, line);
+    trials::print(rt, b"\n");
 }
 
 // Moves written into a run: the answer, then the run.
-fn write_into(rows: usize, columns: usize, count: usize, line: &mut [u8]) {
+fn write_into(rt: HostRuntime, rows: usize, columns: usize, count: usize, line: &mut [u8]) {
     let list = [65537u32, 131072, 196609, 4294967295];
     let written = stored::write_moves(rows, columns, &list, count, line);
     match written {
-        MovesWritten::Digits(digits) => print_written(0, digits, line),
+        MovesWritten::Digits(digits) => print_written(rt, 0, digits, line),
         MovesWritten::Refused(refusal) => print_written(
+            rt,
             refusals::number_of(refusal) as usize,
             0,
             line,
@@ -97,28 +98,28 @@ fn write_into(rows: usize, columns: usize, count: usize, line: &mut [u8]) {
 }
 
 // Moves written into a run of so many bytes, a hundred at most, which held points.
-fn write_line(rows: usize, columns: usize, count: usize, room: usize) {
+fn write_line(rt: HostRuntime, rows: usize, columns: usize, count: usize, room: usize) {
     if 100 < room {
         return;
     }
     let mut line = [46u8; 100];
-    write_into(rows, columns, count, &mut line[..room]);
+    write_into(rt, rows, columns, count, &mut line[..room]);
 }
 
 // Lines written: P7's, with a byte too few and two to spare, and the edges of sides, counts and room.
-pub fn write_all() {
-    write_line(2, 2, 3, 28);
-    write_line(2, 2, 3, 27);
-    write_line(2, 2, 3, 30);
-    write_line(255, 255, 4, 36);
-    write_line(2, 2, 5, 100);
-    write_line(0, 2, 3, 28);
-    write_line(2, 0, 3, 28);
-    write_line(256, 2, 3, 28);
-    write_line(2, 256, 3, 28);
-    write_line(1, 1, 0, 4);
-    write_line(1, 1, 0, 3);
-    write_line(1, 1, 18446744073709551615, 40);
+pub fn write_all(rt: HostRuntime) {
+    write_line(rt, 2, 2, 3, 28);
+    write_line(rt, 2, 2, 3, 27);
+    write_line(rt, 2, 2, 3, 30);
+    write_line(rt, 255, 255, 4, 36);
+    write_line(rt, 2, 2, 5, 100);
+    write_line(rt, 0, 2, 3, 28);
+    write_line(rt, 2, 0, 3, 28);
+    write_line(rt, 256, 2, 3, 28);
+    write_line(rt, 2, 256, 3, 28);
+    write_line(rt, 1, 1, 0, 4);
+    write_line(rt, 1, 1, 0, 3);
+    write_line(rt, 1, 1, 18446744073709551615, 40);
 }
 
 // The number that a line is answered with.
@@ -149,16 +150,16 @@ fn count_of(place: usize, number: usize) -> u64 {
 }
 
 // How many lines are read, refused for their shape and refused as malformed, at a place.
-fn vary(place: usize) {
-    trials::print_number(count_of(place, 0));
-    trials::print_number(count_of(place, 1));
-    trials::print_number(count_of(place, 8));
-    io::write_all(1, b"\n");
+fn vary(rt: HostRuntime, place: usize) {
+    trials::print_number(rt, count_of(place, 0));
+    trials::print_number(rt, count_of(place, 1));
+    trials::print_number(rt, count_of(place, 8));
+    trials::print(rt, b"\n");
 }
 
 // All 256 byte values at each place of a short stored line.
-pub fn vary_all() {
+pub fn vary_all(rt: HostRuntime) {
     for place in 0..12 {
-        vary(place);
+        vary(rt, place);
     }
 }

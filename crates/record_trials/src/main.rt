@@ -286,12 +286,12 @@ fn strict_read_twice(
 }
 
 // Prints a case's name, with its form, and its answer.
-fn report(strict: bool, name: &[u8], answer: Plain) {
-    io::write_all(1, name);
+fn report(rt: HostRuntime, strict: bool, name: &[u8], answer: Plain) {
+    trials::print(rt, name);
     if strict {
-        io::write_all(1, b", strictly");
+        trials::print(rt, b", strictly");
     }
-    trials::print_answer(answer);
+    trials::print_answer(rt, answer);
 }
 
 // A record of so many numbers.
@@ -305,26 +305,26 @@ fn unwritten() -> [MoveRecord; 9] {
 }
 
 // A record: kind, row and column.
-fn print_record(played: MoveRecord) {
-    trials::print_number(played.kind as u64);
-    trials::print_number(played.row as u64);
-    trials::print_number(played.column as u64);
+fn print_record(rt: HostRuntime, played: MoveRecord) {
+    trials::print_number(rt, played.kind as u64);
+    trials::print_number(rt, played.row as u64);
+    trials::print_number(rt, played.column as u64);
 }
 
 // What was lent, at exit: the run, the list and the work area.
-fn print_lent(run: [MoveRecord; 9], list: &[u32], work: &[i32]) {
-    print_record(run[0]);
-    print_record(run[1]);
-    print_record(run[2]);
-    print_record(run[3]);
-    print_record(run[4]);
-    print_record(run[5]);
-    print_record(run[6]);
-    print_record(run[7]);
-    print_record(run[8]);
-    io::write_all(1, b"\n");
-    trials::print_list(list);
-    trials::print_area(work);
+fn print_lent(rt: HostRuntime, run: [MoveRecord; 9], list: &[u32], work: &[i32]) {
+    print_record(rt, run[0]);
+    print_record(rt, run[1]);
+    print_record(rt, run[2]);
+    print_record(rt, run[3]);
+    print_record(rt, run[4]);
+    print_record(rt, run[5]);
+    print_record(rt, run[6]);
+    print_record(rt, run[7]);
+    print_record(rt, run[8]);
+    trials::print(rt, b"\n");
+    trials::print_list(rt, list);
+    trials::print_area(rt, work);
 }
 
 // Greedy over a run that nothing was written into, in the strict form or as it is.
@@ -459,6 +459,7 @@ fn search_in_form(
 
 // Greedy over a run: its answer, and what was lent.
 fn greedy(
+    rt: HostRuntime,
     strict: bool,
     name: &[u8],
     rows: usize,
@@ -470,12 +471,13 @@ fn greedy(
     let priced = greedy_in_form(strict, rows, columns, grid, work, list);
     let answer = priced.answer;
     let run = priced.run;
-    report(strict, name, plain::of_priced(answer));
-    print_lent(run, list, work);
+    report(rt, strict, name, plain::of_priced(answer));
+    print_lent(rt, run, list, work);
 }
 
 // Openings-first over a run: its answer, and what was lent.
 fn openings_first(
+    rt: HostRuntime,
     strict: bool,
     name: &[u8],
     rows: usize,
@@ -487,12 +489,13 @@ fn openings_first(
     let priced = openings_first_in_form(strict, rows, columns, grid, work, list);
     let answer = priced.answer;
     let run = priced.run;
-    report(strict, name, plain::of_priced(answer));
-    print_lent(run, list, work);
+    report(rt, strict, name, plain::of_priced(answer));
+    print_lent(rt, run, list, work);
 }
 
 // A random round over a run: its answer, and what was lent.
 fn rolls(
+    rt: HostRuntime,
     strict: bool,
     name: &[u8],
     rows: usize,
@@ -506,12 +509,13 @@ fn rolls(
     let rolled = random_in_form(strict, rows, columns, grid, work, list, draws, mode);
     let answer = rolled.answer;
     let run = rolled.run;
-    report(strict, name, plain::of_rolled(answer));
-    print_lent(run, list, work);
+    report(rt, strict, name, plain::of_rolled(answer));
+    print_lent(rt, run, list, work);
 }
 
 // A keyed round over a run: its answer with the key after it, and what was lent.
 fn key_rolls(
+    rt: HostRuntime,
     strict: bool,
     name: &[u8],
     rows: usize,
@@ -525,12 +529,13 @@ fn key_rolls(
     let rolled = keyed_in_form(strict, rows, columns, grid, work, list, key, mode);
     let answer = rolled.answer;
     let run = rolled.run;
-    report(strict, name, plain::of_key_rolled(answer, key));
-    print_lent(run, list, work);
+    report(rt, strict, name, plain::of_key_rolled(answer, key));
+    print_lent(rt, run, list, work);
 }
 
 // The first records of a run are replayed: the answer, and what was lent.
 fn replays(
+    rt: HostRuntime,
     strict: bool,
     name: &[u8],
     rows: usize,
@@ -542,8 +547,8 @@ fn replays(
     count: usize,
 ) {
     let answer = replay_in_form(strict, rows, columns, grid, work, list, run, count);
-    report(strict, name, plain::of_replayed(answer));
-    print_lent(run, list, work);
+    report(rt, strict, name, plain::of_replayed(answer));
+    print_lent(rt, run, list, work);
 }
 
 // P7, for the strict form with its numbers.
@@ -563,18 +568,28 @@ fn p11(strict: bool) -> [i32; 9] {
 }
 
 // P7: greedy, openings-first, and a random round.
-fn seven(strict: bool) {
+fn seven(rt: HostRuntime, strict: bool) {
     let grid = p7(strict);
     let mut w = [7i32; 21];
     let mut l = [4294967295u32; 5];
-    greedy(strict, b"P7", 2, 2, &grid, &mut w, &mut l);
+    greedy(rt, strict, b"P7", 2, 2, &grid, &mut w, &mut l);
     let mut w2 = [7i32; 21];
     let mut l2 = [4294967295u32; 5];
-    openings_first(strict, b"P7 openings-first", 2, 2, &grid, &mut w2, &mut l2);
+    openings_first(
+        rt,
+        strict,
+        b"P7 openings-first",
+        2,
+        2,
+        &grid,
+        &mut w2,
+        &mut l2,
+    );
     let mut w3 = [7i32; 21];
     let mut l3 = [4294967295u32; 5];
     let draws = [5u8, 0, 0, 0];
     rolls(
+        rt,
         strict,
         b"P7, 05 00 00 00",
         2,
@@ -588,7 +603,7 @@ fn seven(strict: bool) {
 }
 
 // P7's records replayed: its three moves, and then one that is no move.
-fn replayed_7(strict: bool) {
+fn replayed_7(rt: HostRuntime, strict: bool) {
     let grid = p7(strict);
     let mut run = unwritten();
     run[0] = record(1, 1, 0);
@@ -596,10 +611,22 @@ fn replayed_7(strict: bool) {
     run[2] = record(3, 1, 0);
     let mut w = [7i32; 21];
     let mut l = [4294967295u32; 5];
-    replays(strict, b"P7 replayed", 2, 2, &grid, &mut w, &mut l, run, 3);
+    replays(
+        rt,
+        strict,
+        b"P7 replayed",
+        2,
+        2,
+        &grid,
+        &mut w,
+        &mut l,
+        run,
+        3,
+    );
     let mut w2 = [7i32; 21];
     let mut l2 = [4294967295u32; 5];
     replays(
+        rt,
         strict,
         b"P7, a record more",
         2,
@@ -613,39 +640,51 @@ fn replayed_7(strict: bool) {
 }
 
 // P11: greedy and openings-first.
-fn eleven(strict: bool) {
+fn eleven(rt: HostRuntime, strict: bool) {
     let grid = p11(strict);
     let mut w = [7i32; 46];
     let mut l = [4294967295u32; 10];
-    greedy(strict, b"P11", 3, 3, &grid, &mut w, &mut l);
+    greedy(rt, strict, b"P11", 3, 3, &grid, &mut w, &mut l);
     let mut w2 = [7i32; 46];
     let mut l2 = [4294967295u32; 10];
-    openings_first(strict, b"P11 openings-first", 3, 3, &grid, &mut w2, &mut l2);
+    openings_first(
+        rt,
+        strict,
+        b"P11 openings-first",
+        3,
+        3,
+        &grid,
+        &mut w2,
+        &mut l2,
+    );
 }
 
 // A random round on P11 over a run.
-fn round_11(strict: bool, name: &[u8], draws: &[u8], mode: Mode) {
+fn round_11(rt: HostRuntime, strict: bool, name: &[u8], draws: &[u8], mode: Mode) {
     let grid = p11(strict);
     let mut work = [7i32; 46];
     let mut list = [4294967295u32; 10];
-    rolls(strict, name, 3, 3, &grid, &mut work, &mut list, draws, mode);
+    rolls(
+        rt, strict, name, 3, 3, &grid, &mut work, &mut list, draws, mode,
+    );
 }
 
 // The random rounds of RULES 11.3 on P11, and DRAWS.
-fn rounds_11(strict: bool) {
-    round_11(strict, b"P11, 12 zero bytes", &[0u8; 12], Mode::Old);
-    round_11(strict, b"P11, 11 zero bytes", &[0u8; 11], Mode::Old);
+fn rounds_11(rt: HostRuntime, strict: bool) {
+    round_11(rt, strict, b"P11, 12 zero bytes", &[0u8; 12], Mode::Old);
+    round_11(rt, strict, b"P11, 11 zero bytes", &[0u8; 11], Mode::Old);
     let bytes = [7u8, 0, 0, 0, 0, 0, 0, 0];
-    round_11(strict, b"P11, 07 and seven 00", &bytes, Mode::Old);
+    round_11(rt, strict, b"P11, 07 and seven 00", &bytes, Mode::Old);
 }
 
 // Nine records for ten cells: TRACE, or NUMBER where a value is wrong.
-fn short_run(strict: bool, name: &[u8], grid: &[i32]) {
+fn short_run(rt: HostRuntime, strict: bool, name: &[u8], grid: &[i32]) {
     let mut w = [7i32; 50];
     let mut l = [4294967295u32; 10];
-    greedy(strict, name, 2, 5, grid, &mut w, &mut l);
-    openings_first(strict, b" openings-first", 2, 5, grid, &mut w, &mut l);
+    greedy(rt, strict, name, 2, 5, grid, &mut w, &mut l);
+    openings_first(rt, strict, b" openings-first", 2, 5, grid, &mut w, &mut l);
     rolls(
+        rt,
         strict,
         b" random",
         2,
@@ -659,13 +698,14 @@ fn short_run(strict: bool, name: &[u8], grid: &[i32]) {
 }
 
 // TRACE: a list of eight words for nine cells.
-fn short_list(strict: bool) {
+fn short_list(rt: HostRuntime, strict: bool) {
     let grid = p11(strict);
     let mut w = [7i32; 46];
     let mut l = [4294967295u32; 8];
-    greedy(strict, b"P11, eight words", 3, 3, &grid, &mut w, &mut l);
-    openings_first(strict, b" openings-first", 3, 3, &grid, &mut w, &mut l);
+    greedy(rt, strict, b"P11, eight words", 3, 3, &grid, &mut w, &mut l);
+    openings_first(rt, strict, b" openings-first", 3, 3, &grid, &mut w, &mut l);
     rolls(
+        rt,
         strict,
         b" random",
         3,
@@ -690,35 +730,43 @@ fn moves_11() -> [MoveRecord; 9] {
 }
 
 // The first records of a run are replayed on P11.
-fn replays_11(strict: bool, name: &[u8], run: [MoveRecord; 9], count: usize, list: &mut [u32]) {
+fn replays_11(
+    rt: HostRuntime,
+    strict: bool,
+    name: &[u8],
+    run: [MoveRecord; 9],
+    count: usize,
+    list: &mut [u32],
+) {
     let grid = p11(strict);
     let mut work = [7i32; 46];
-    replays(strict, name, 3, 3, &grid, &mut work, list, run, count);
+    replays(rt, strict, name, 3, 3, &grid, &mut work, list, run, count);
 }
 
 // P11's records replayed: whole, none, with a bad move, with a record of no cell, and TRACE.
-fn replayed_11(strict: bool) {
+fn replayed_11(rt: HostRuntime, strict: bool) {
     let run = moves_11();
     let mut list = [4294967295u32; 10];
-    replays_11(strict, b"P11 replayed", run, 5, &mut list);
+    replays_11(rt, strict, b"P11 replayed", run, 5, &mut list);
     let mut none = [4294967295u32; 10];
-    replays_11(strict, b"P11, no record", run, 0, &mut none);
+    replays_11(rt, strict, b"P11, no record", run, 0, &mut none);
     let mut bad = run;
     bad[2] = record(3, 0, 1);
     let mut bad_list = [4294967295u32; 10];
-    replays_11(strict, b"P11, a closed cell", bad, 5, &mut bad_list);
+    replays_11(rt, strict, b"P11, a closed cell", bad, 5, &mut bad_list);
     let mut off = run;
     off[3] = record(3, 3, 0);
     let mut off_list = [4294967295u32; 10];
-    replays_11(strict, b"P11, a fourth row", off, 5, &mut off_list);
+    replays_11(rt, strict, b"P11, a fourth row", off, 5, &mut off_list);
     let mut over = [4294967295u32; 10];
-    replays_11(strict, b"P11, ten of nine", run, 10, &mut over);
+    replays_11(rt, strict, b"P11, ten of nine", run, 10, &mut over);
     let mut few = [4294967295u32; 4];
-    replays_11(strict, b"P11, a list of four", run, 5, &mut few);
+    replays_11(rt, strict, b"P11, a list of four", run, 5, &mut few);
 }
 
 // A random round and then a search by one reader: both answers, where it stands, and what was lent.
 fn reads(
+    rt: HostRuntime,
     strict: bool,
     name: &[u8],
     grid: &[i32],
@@ -732,37 +780,46 @@ fn reads(
     let both = twice_in_form(strict, grid, work, list, bytes, place, mode, rounds);
     let first = both.round;
     let second = both.search;
-    report(strict, name, plain::of_rolled(first));
-    report(strict, b" then a search", plain::of_rolled(second));
-    io::write_all(1, b" stands at");
-    trials::print_number(both.place as u64);
-    io::write_all(1, b"\n");
-    trials::print_list(list);
-    trials::print_area(work);
+    report(rt, strict, name, plain::of_rolled(first));
+    report(rt, strict, b" then a search", plain::of_rolled(second));
+    trials::print(rt, b" stands at");
+    trials::print_number(rt, both.place as u64);
+    trials::print(rt, b"\n");
+    trials::print_list(rt, list);
+    trials::print_area(rt, work);
 }
 
 // Two calls on P11 by one reader.
-fn reads_11(strict: bool, name: &[u8], bytes: &[u8], place: usize, mode: Mode, rounds: usize) {
+fn reads_11(
+    rt: HostRuntime,
+    strict: bool,
+    name: &[u8],
+    bytes: &[u8],
+    place: usize,
+    mode: Mode,
+    rounds: usize,
+) {
     let grid = p11(strict);
     let mut work = [7i32; 46];
     let mut list = [4294967295u32; 10];
     reads(
-        strict, name, &grid, &mut work, &mut list, bytes, place, mode, rounds,
+        rt, strict, name, &grid, &mut work, &mut list, bytes, place, mode, rounds,
     );
 }
 
 // A reader goes on over two calls, stays where it is after ROUNDS and DRAWS, and may stand past its bytes.
-fn readers(strict: bool) {
+fn readers(rt: HostRuntime, strict: bool) {
     let bytes = [7u8, 0, 0, 0, 0, 0, 0, 0, 0, 0, 0, 0, 0, 0, 0, 0, 0, 0, 0, 0];
-    reads_11(strict, b"20 bytes", &bytes, 0, Mode::Old, 1);
-    reads_11(strict, b"no rounds", &bytes, 0, Mode::Old, 0);
-    reads_11(strict, b"two rounds", &bytes, 0, Mode::Old, 2);
-    reads_11(strict, b"from 8", &bytes, 8, Mode::Old, 1);
-    reads_11(strict, b"from 21", &bytes, 21, Mode::Old, 1);
+    reads_11(rt, strict, b"20 bytes", &bytes, 0, Mode::Old, 1);
+    reads_11(rt, strict, b"no rounds", &bytes, 0, Mode::Old, 0);
+    reads_11(rt, strict, b"two rounds", &bytes, 0, Mode::Old, 2);
+    reads_11(rt, strict, b"from 8", &bytes, 8, Mode::Old, 1);
+    reads_11(rt, strict, b"from 21", &bytes, 21, Mode::Old, 1);
 }
 
 // The random calls by the bytes from a place on.
 fn reads_from(
+    rt: HostRuntime,
     strict: bool,
     name: &[u8],
     grid: &[i32],
@@ -774,29 +831,29 @@ fn reads_from(
     rounds: usize,
 ) {
     let rolled = round_in_form(strict, grid, work, list, bytes, place, mode);
-    report(strict, name, plain::of_rolled(rolled));
-    trials::print_list(list);
-    trials::print_area(work);
+    report(rt, strict, name, plain::of_rolled(rolled));
+    trials::print_list(rt, list);
+    trials::print_area(rt, work);
     let searched = search_in_form(strict, grid, work, bytes, place, mode, rounds);
-    report(strict, b" a search", plain::of_rolled(searched));
-    trials::print_area(work);
+    report(rt, strict, b" a search", plain::of_rolled(searched));
+    trials::print_area(rt, work);
 }
 
 // The random calls on P11 by the bytes from a place on.
-fn from_11(strict: bool, name: &[u8], bytes: &[u8], place: usize, mode: Mode) {
+fn from_11(rt: HostRuntime, strict: bool, name: &[u8], bytes: &[u8], place: usize, mode: Mode) {
     let grid = p11(strict);
     let mut work = [7i32; 46];
     let mut list = [4294967295u32; 10];
     reads_from(
-        strict, name, &grid, &mut work, &mut list, bytes, place, mode, 1,
+        rt, strict, name, &grid, &mut work, &mut list, bytes, place, mode, 1,
     );
 }
 
 // The bytes from 4 and from past their end on.
-fn froms(strict: bool) {
+fn froms(rt: HostRuntime, strict: bool) {
     let bytes = [9u8, 9, 9, 9, 7, 0, 0, 0, 0, 0, 0, 0];
-    from_11(strict, b"from 4", &bytes, 4, Mode::Old);
-    from_11(strict, b"from 13", &bytes, 13, Mode::Old);
+    from_11(rt, strict, b"from 4", &bytes, 4, Mode::Old);
+    from_11(rt, strict, b"from 13", &bytes, 13, Mode::Old);
 }
 
 // Eight words, each 0 but the third, which a fair draw among 3 spends.
@@ -810,31 +867,54 @@ fn third_spent() -> [u8; 32] {
 }
 
 // P11 in the fair mode, whose draws are among 4, 3 and 2: no word is spent, one is, the draws run dry by it; a reader goes on over one, and stays before one that leaves too few.
-fn fair_11(strict: bool) {
+fn fair_11(rt: HostRuntime, strict: bool) {
     let bytes = third_spent();
-    round_11(strict, b"P11, fair, 12 zero bytes", &[0u8; 12], Mode::Fair);
     round_11(
+        rt,
+        strict,
+        b"P11, fair, 12 zero bytes",
+        &[0u8; 12],
+        Mode::Fair,
+    );
+    round_11(
+        rt,
         strict,
         b"P11, fair, a word spent",
         &bytes[4..20],
         Mode::Fair,
     );
-    round_11(strict, b"P11, fair, then dry", &bytes[4..16], Mode::Fair);
-    reads_11(strict, b"fair, from 4", &bytes, 4, Mode::Fair, 1);
-    reads_11(strict, b"fair, 15 bytes", &bytes[0..15], 4, Mode::Fair, 1);
-    from_11(strict, b"fair, the bytes from 4", &bytes, 4, Mode::Fair);
+    round_11(
+        rt,
+        strict,
+        b"P11, fair, then dry",
+        &bytes[4..16],
+        Mode::Fair,
+    );
+    reads_11(rt, strict, b"fair, from 4", &bytes, 4, Mode::Fair, 1);
+    reads_11(
+        rt,
+        strict,
+        b"fair, 15 bytes",
+        &bytes[0..15],
+        4,
+        Mode::Fair,
+        1,
+    );
+    from_11(rt, strict, b"fair, the bytes from 4", &bytes, 4, Mode::Fair);
 }
 
 // A keyed round on P11 over a run.
-fn key_11(strict: bool, name: &[u8], key: Key, mode: Mode) {
+fn key_11(rt: HostRuntime, strict: bool, name: &[u8], key: Key, mode: Mode) {
     let grid = p11(strict);
     let mut work = [7i32; 46];
     let mut list = [4294967295u32; 10];
-    key_rolls(strict, name, 3, 3, &grid, &mut work, &mut list, key, mode);
+    key_rolls(
+        rt, strict, name, 3, 3, &grid, &mut work, &mut list, key, mode,
+    );
 }
 
 // P11 by Marsaglia's key in both modes, and KEY by a key of zeros.
-fn keyed_11(strict: bool) {
+fn keyed_11(rt: HostRuntime, strict: bool) {
     let key = Key {
         x: 123456789,
         y: 362436069,
@@ -843,8 +923,8 @@ fn keyed_11(strict: bool) {
         v: 5783321,
         counter: 6615241,
     };
-    key_11(strict, b"P11, keyed", key, Mode::Old);
-    key_11(strict, b"P11, keyed, fair", key, Mode::Fair);
+    key_11(rt, strict, b"P11, keyed", key, Mode::Old);
+    key_11(rt, strict, b"P11, keyed, fair", key, Mode::Fair);
     let zeros = Key {
         x: 0,
         y: 0,
@@ -853,29 +933,37 @@ fn keyed_11(strict: bool) {
         v: 0,
         counter: 0,
     };
-    key_11(strict, b"P11, a key of zeros", zeros, Mode::Old);
+    key_11(rt, strict, b"P11, a key of zeros", zeros, Mode::Old);
 }
 
 // The calls over P7 and P11, each in the strict form or as it is.
-fn calls(strict: bool) {
-    seven(strict);
-    replayed_7(strict);
-    eleven(strict);
-    rounds_11(strict);
-    short_run(strict, b"2 by 5, nine records", &[0i32; 10]);
-    short_list(strict);
-    replayed_11(strict);
-    readers(strict);
-    froms(strict);
-    fair_11(strict);
-    keyed_11(strict);
+fn calls(rt: HostRuntime, strict: bool) {
+    seven(rt, strict);
+    replayed_7(rt, strict);
+    eleven(rt, strict);
+    rounds_11(rt, strict);
+    short_run(rt, strict, b"2 by 5, nine records", &[0i32; 10]);
+    short_list(rt, strict);
+    replayed_11(rt, strict);
+    readers(rt, strict);
+    froms(rt, strict);
+    fair_11(rt, strict);
+    keyed_11(rt, strict);
 }
 
 // NUMBER: each strict call over a run, on three rows of three.
-fn wrong_runs(name: &[u8], grid: &[i32], work: &mut [i32], list: &mut [u32], count: usize) {
-    greedy(true, name, 3, 3, grid, work, list);
-    openings_first(true, b" openings-first", 3, 3, grid, work, list);
+fn wrong_runs(
+    rt: HostRuntime,
+    name: &[u8],
+    grid: &[i32],
+    work: &mut [i32],
+    list: &mut [u32],
+    count: usize,
+) {
+    greedy(rt, true, name, 3, 3, grid, work, list);
+    openings_first(rt, true, b" openings-first", 3, 3, grid, work, list);
     rolls(
+        rt,
         true,
         b" random",
         3,
@@ -887,6 +975,7 @@ fn wrong_runs(name: &[u8], grid: &[i32], work: &mut [i32], list: &mut [u32], cou
         Mode::Old,
     );
     replays(
+        rt,
         true,
         b" replayed",
         3,
@@ -900,9 +989,10 @@ fn wrong_runs(name: &[u8], grid: &[i32], work: &mut [i32], list: &mut [u32], cou
 }
 
 // NUMBER: each strict call by a reader that stands at 4, and by the bytes from 4 on.
-fn wrong_reads(grid: &[i32], work: &mut [i32], list: &mut [u32], rounds: usize) {
+fn wrong_reads(rt: HostRuntime, grid: &[i32], work: &mut [i32], list: &mut [u32], rounds: usize) {
     let bytes = [0u8; 24];
     reads(
+        rt,
         true,
         b" by a reader",
         grid,
@@ -914,6 +1004,7 @@ fn wrong_reads(grid: &[i32], work: &mut [i32], list: &mut [u32], rounds: usize) 
         rounds,
     );
     reads_from(
+        rt,
         true,
         b" from 4",
         grid,
@@ -927,18 +1018,26 @@ fn wrong_reads(grid: &[i32], work: &mut [i32], list: &mut [u32], rounds: usize) 
 }
 
 // P11 with its numbers, but a 2 at row 0, column 1, and one at row 2, column 0: that is cell 2, the lower.
-fn wrong_11(name: &[u8], work: &mut [i32], list: &mut [u32], count: usize, rounds: usize) {
+fn wrong_11(
+    rt: HostRuntime,
+    name: &[u8],
+    work: &mut [i32],
+    list: &mut [u32],
+    count: usize,
+    rounds: usize,
+) {
     let grid = [1i32, 2, 1, 1, -1, 1, 2, 1, 1];
-    wrong_runs(name, &grid, work, list, count);
-    wrong_reads(&grid, work, list, rounds);
+    wrong_runs(rt, name, &grid, work, list, count);
+    wrong_reads(rt, &grid, work, list, rounds);
 }
 
 // A wrong value is refused before a list, a run or a work area that is too short, 0 rounds, and a count above the run.
-fn wrong() {
+fn wrong(rt: HostRuntime) {
     let mut w = [7i32; 46];
     let mut l = [4294967295u32; 10];
-    wrong_11(b"P11, two wrong", &mut w, &mut l, 5, 1);
+    wrong_11(rt, b"P11, two wrong", &mut w, &mut l, 5, 1);
     wrong_11(
+        rt,
         b"P11, two wrong, ten of nine, no rounds",
         &mut w,
         &mut l,
@@ -946,9 +1045,17 @@ fn wrong() {
         0,
     );
     let mut few = [4294967295u32; 4];
-    wrong_11(b"P11, two wrong, a list of four", &mut w, &mut few, 5, 1);
+    wrong_11(
+        rt,
+        b"P11, two wrong, a list of four",
+        &mut w,
+        &mut few,
+        5,
+        1,
+    );
     let mut short = [7i32; 44];
     wrong_11(
+        rt,
         b"P11, two wrong, a work area of 44",
         &mut short,
         &mut l,
@@ -956,99 +1063,100 @@ fn wrong() {
         1,
     );
     let grid = [0i32, 0, 0, 0, 1, 0, 0, 0, 1, 0];
-    short_run(true, b"2 by 5, two wrong, nine records", &grid);
+    short_run(rt, true, b"2 by 5, two wrong, nine records", &grid);
 }
 
 // A draw among n by a reader at a place: what is taken, and where the next draw reads.
-fn drawn(bytes: &[u8], place: usize, mode: Mode, n: usize) {
+fn drawn(rt: HostRuntime, bytes: &[u8], place: usize, mode: Mode, n: usize) {
     let draw = draw_reader::draw_from(bytes, place, mode, n);
-    trials::print_number(place as u64);
+    trials::print_number(rt, place as u64);
     match draw {
         Drawn::Place(taken, _) => {
-            io::write_all(1, b": takes");
-            trials::print_number(taken as u64);
+            trials::print(rt, b": takes");
+            trials::print_number(rt, taken as u64);
         }
         Drawn::Short => {
-            io::write_all(1, b": short");
+            trials::print(rt, b": short");
         }
     }
-    io::write_all(1, b", then at");
-    trials::print_number(draw_reader::place_after(draw, place) as u64);
-    io::write_all(1, b"\n");
+    trials::print(rt, b", then at");
+    trials::print_number(rt, draw_reader::place_after(draw, place) as u64);
+    trials::print(rt, b"\n");
 }
 
 // The draws of a reader among 8 from three places.
-fn draws_of(name: &[u8], bytes: &[u8]) {
-    io::write_all(1, name);
-    io::write_all(1, b"\n");
-    drawn(bytes, 0, Mode::Old, 8);
-    drawn(bytes, 4, Mode::Old, 8);
-    drawn(bytes, 8, Mode::Old, 8);
+fn draws_of(rt: HostRuntime, name: &[u8], bytes: &[u8]) {
+    trials::print(rt, name);
+    trials::print(rt, b"\n");
+    drawn(rt, bytes, 0, Mode::Old, 8);
+    drawn(rt, bytes, 4, Mode::Old, 8);
+    drawn(rt, bytes, 8, Mode::Old, 8);
 }
 
 // A draw among n in the old mode and in the fair one, of a word at the top with this low byte, and then one of 1.
-fn both_modes(low: u8, n: usize) {
+fn both_modes(rt: HostRuntime, low: u8, n: usize) {
     let bytes = [low, 255, 255, 255, 1, 0, 0, 0];
-    io::write_all(1, b"among");
-    trials::print_number(n as u64);
-    io::write_all(1, b", low byte");
-    trials::print_number(low as u64);
-    io::write_all(1, b"\n");
-    drawn(&bytes, 0, Mode::Old, n);
-    drawn(&bytes, 0, Mode::Fair, n);
-    drawn(&bytes[0..7], 0, Mode::Fair, n);
+    trials::print(rt, b"among");
+    trials::print_number(rt, n as u64);
+    trials::print(rt, b", low byte");
+    trials::print_number(rt, low as u64);
+    trials::print(rt, b"\n");
+    drawn(rt, &bytes, 0, Mode::Old, n);
+    drawn(rt, &bytes, 0, Mode::Fair, n);
+    drawn(rt, &bytes[0..7], 0, Mode::Fair, n);
 }
 
 // The highest word among 1 to 8; the bound itself among 6 and 7, and one below it among 3, 5, 6 and 7.
-fn fair_draws() {
-    io::write_all(1, b"old, fair, and fair with a byte less\n");
-    both_modes(255, 1);
-    both_modes(255, 2);
-    both_modes(255, 3);
-    both_modes(255, 4);
-    both_modes(255, 5);
-    both_modes(255, 6);
-    both_modes(255, 7);
-    both_modes(255, 8);
-    both_modes(252, 6);
-    both_modes(252, 7);
-    both_modes(254, 3);
-    both_modes(254, 5);
-    both_modes(251, 6);
-    both_modes(251, 7);
+fn fair_draws(rt: HostRuntime) {
+    trials::print(rt, b"old, fair, and fair with a byte less\n");
+    both_modes(rt, 255, 1);
+    both_modes(rt, 255, 2);
+    both_modes(rt, 255, 3);
+    both_modes(rt, 255, 4);
+    both_modes(rt, 255, 5);
+    both_modes(rt, 255, 6);
+    both_modes(rt, 255, 7);
+    both_modes(rt, 255, 8);
+    both_modes(rt, 252, 6);
+    both_modes(rt, 252, 7);
+    both_modes(rt, 254, 3);
+    both_modes(rt, 254, 5);
+    both_modes(rt, 251, 6);
+    both_modes(rt, 251, 7);
 }
 
 // A word's record, and the word that it is replayed as: kind and index.
-fn there_and_back(word: u32, rows: usize) {
+fn there_and_back(rt: HostRuntime, word: u32, rows: usize) {
     let played = records::record_of(word, rows);
-    print_record(played);
-    io::write_all(1, b" =");
-    trials::print_list(&[records::word_of(played, rows)]);
+    print_record(rt, played);
+    trials::print(rt, b" =");
+    trials::print_list(rt, &[records::word_of(played, rows)]);
 }
 
 // Words of P11, one of no kind, one past every grid, and one on no rows.
-fn words() {
-    io::write_all(1, b"words\n");
-    there_and_back(65536 + 1, 3);
-    there_and_back(131072 + 4, 3);
-    there_and_back(196608 + 5, 3);
-    there_and_back(8, 3);
-    there_and_back(65536 + 765, 3);
-    there_and_back(65536 + 1, 0);
+fn words(rt: HostRuntime) {
+    trials::print(rt, b"words\n");
+    there_and_back(rt, 65536 + 1, 3);
+    there_and_back(rt, 131072 + 4, 3);
+    there_and_back(rt, 196608 + 5, 3);
+    there_and_back(rt, 8, 3);
+    there_and_back(rt, 65536 + 765, 3);
+    there_and_back(rt, 65536 + 1, 0);
 }
 
-fn main() {
+fn main(rt: HostRuntime) {
     if trials::usage(
+        rt,
         b"usage: record_trials  runs the calls over move records and by a draw reader on boards of its own, prints the answers, and takes no argument\n",
     ) {
         return;
     }
-    calls(false);
-    draws_of(b"12 zero bytes", &[0u8; 12]);
-    draws_of(b"11 zero bytes", &[0u8; 11]);
-    draws_of(b"07 and seven 00", &[7u8, 0, 0, 0, 0, 0, 0, 0]);
-    fair_draws();
-    words();
-    calls(true);
-    wrong();
+    calls(rt, false);
+    draws_of(rt, b"12 zero bytes", &[0u8; 12]);
+    draws_of(rt, b"11 zero bytes", &[0u8; 11]);
+    draws_of(rt, b"07 and seven 00", &[7u8, 0, 0, 0, 0, 0, 0, 0]);
+    fair_draws(rt);
+    words(rt);
+    calls(rt, true);
+    wrong(rt);
 }

@@ -10,7 +10,6 @@ use lib.ListN.{get_or, length}
 use Rattle.area.specs.Numbers.{HasCells, first_at}
 use Rattle.area.specs.Stages.{Shape, Stands, held, content, labelled_five, moving_five}
 use Rattle.game.specs.Area.{laid}
-use Rattle.game.specs.Calls.{work}
 use Rattle.game.specs.Grid.{Grid, cells, safe, size}
 use Rattle.game.specs.Lists.{count, fold, range}
 use Rattle.game.specs.Openings.{first_label, openings, second_label, three_bv, unlabelled}

@@ -96,19 +96,19 @@ fn take_draws(line: &[u8], from: usize, draws: &mut [u8]) {
 }
 
 // A figure beside the Rust's: 1 and a line printed where they differ.
-fn differs(number: u64, name: &[u8], ours: u64, rust: usize) -> u64
+fn differs(rt: HostRuntime, number: u64, name: &[u8], ours: u64, rust: usize) -> u64
     ensures { result ≤ 1 }
 {
     if ours == rust as u64 {
         return 0;
     }
-    io::write_all(1, b"line ");
-    io::print_decimal(1, number);
-    io::write_all(1, name);
-    io::print_decimal(1, ours);
-    io::write_all(1, b", the Rust ");
-    io::print_decimal(1, rust as u64);
-    io::write_all(1, b"\n");
+    trials::print(rt, b"line ");
+    trials::print_decimal(rt, number);
+    trials::print(rt, name);
+    trials::print_decimal(rt, ours);
+    trials::print(rt, b", the Rust ");
+    trials::print_decimal(rt, rust as u64);
+    trials::print(rt, b"\n");
     1
 }
 
@@ -121,7 +121,7 @@ fn clicks_of(answer: Priced) -> u64 {
 }
 
 // Greedy beside the Rust.
-fn greedy(number: u64, line: &[u8], grid: &[i32]) -> u64
+fn greedy(rt: HostRuntime, number: u64, line: &[u8], grid: &[i32]) -> u64
     ensures { result ≤ 1 }
 {
     let mut work = [0i32; 10240];
@@ -133,11 +133,17 @@ fn greedy(number: u64, line: &[u8], grid: &[i32]) -> u64
         &mut work,
         &mut list,
     );
-    differs(number, b": greedy ", clicks_of(answer), pair_at(line, 3))
+    differs(
+        rt,
+        number,
+        b": greedy ",
+        clicks_of(answer),
+        pair_at(line, 3),
+    )
 }
 
 // Openings-first beside the Rust.
-fn openings_first(number: u64, line: &[u8], grid: &[i32]) -> u64
+fn openings_first(rt: HostRuntime, number: u64, line: &[u8], grid: &[i32]) -> u64
     ensures { result ≤ 1 }
 {
     let mut work = [0i32; 10240];
@@ -150,6 +156,7 @@ fn openings_first(number: u64, line: &[u8], grid: &[i32]) -> u64
         &mut list,
     );
     differs(
+        rt,
         number,
         b": openings-first ",
         clicks_of(answer),
@@ -158,16 +165,32 @@ fn openings_first(number: u64, line: &[u8], grid: &[i32]) -> u64
 }
 
 // A random search's three figures beside the Rust's.
-fn search_differs(number: u64, line: &[u8], search: Plain) -> u64
+fn search_differs(rt: HostRuntime, number: u64, line: &[u8], search: Plain) -> u64
     ensures { result ≤ 3 }
 {
-    differs(number, b": search answer ", search.number, byte_at(line, 7))
-        + differs(number, b": search clicks ", search.first, pair_at(line, 8))
-        + differs(number, b": search bytes ", search.second, pair_at(line, 10))
+    differs(
+        rt,
+        number,
+        b": search answer ",
+        search.number,
+        byte_at(line, 7),
+    ) + differs(
+        rt,
+        number,
+        b": search clicks ",
+        search.first,
+        pair_at(line, 8),
+    ) + differs(
+        rt,
+        number,
+        b": search bytes ",
+        search.second,
+        pair_at(line, 10),
+    )
 }
 
 // Random search beside the Rust, which has the old mode alone.
-fn random_search(number: u64, line: &[u8], grid: &[i32], draws: &mut [u8]) -> u64
+fn random_search(rt: HostRuntime, number: u64, line: &[u8], grid: &[i32], draws: &mut [u8]) -> u64
     ensures { result ≤ 3 }
 {
     let mut work = [0i32; 10240];
@@ -181,42 +204,44 @@ fn random_search(number: u64, line: &[u8], grid: &[i32], draws: &mut [u8]) -> u6
         Mode::Old,
         byte_at(line, 2),
     );
-    search_differs(number, line, plain::of_rolled(answer))
+    search_differs(rt, number, line, plain::of_rolled(answer))
 }
 
 // Random search with the draws of a line.
-fn with_draws(number: u64, line: &[u8], grid: &[i32]) -> u64
+fn with_draws(rt: HostRuntime, number: u64, line: &[u8], grid: &[i32]) -> u64
     ensures { result ≤ 3 }
 {
     let mut draws = [0u8; 4096];
     let count = draws_in(line, grid.len());
-    random_search(number, line, grid, &mut draws[..count])
+    random_search(rt, number, line, grid, &mut draws[..count])
 }
 
 // The three ways on a line's board: how many figures differ.
-fn price(number: u64, line: &[u8], grid: &mut [i32]) -> u64
+fn price(rt: HostRuntime, number: u64, line: &[u8], grid: &mut [i32]) -> u64
     ensures { result ≤ 5 }
 {
     lay_mines(line, grid);
-    greedy(number, line, grid) + openings_first(number, line, grid) + with_draws(number, line, grid)
+    greedy(rt, number, line, grid)
+        + openings_first(rt, number, line, grid)
+        + with_draws(rt, number, line, grid)
 }
 
 // A line that holds no board.
-fn malformed(number: u64) -> Seen {
-    io::write_all(1, b"line ");
-    io::print_decimal(1, number);
-    io::write_all(1, b": no board\n");
+fn malformed(rt: HostRuntime, number: u64) -> Seen {
+    trials::print(rt, b"line ");
+    trials::print_decimal(rt, number);
+    trials::print(rt, b": no board\n");
     Seen::Wrong
 }
 
 // A line's board, priced.
-fn replay_board(number: u64, line: &[u8]) -> Seen {
+fn replay_board(rt: HostRuntime, number: u64, line: &[u8]) -> Seen {
     let cells = byte_at(line, 0) * byte_at(line, 1);
     if 2048 < cells {
-        return malformed(number);
+        return malformed(rt, number);
     }
     let mut grid = [0i32; 2048];
-    let wrong = price(number, line, &mut grid[..cells]);
+    let wrong = price(rt, number, line, &mut grid[..cells]);
     if wrong == 0 { Seen::Right } else { Seen::Wrong }
 }
 
@@ -229,42 +254,42 @@ fn is_ended(line: &[u8]) -> bool {
 }
 
 // Reads the rest of a line, and prices its board.
-fn replay_rest(number: u64, line: &mut [u8]) -> Seen {
-    let got = io::read_full(0, line);
+fn replay_rest(rt: HostRuntime, number: u64, line: &mut [u8]) -> Seen {
+    let got = trials::read_full(rt, line);
     if got < line.len() {
-        return malformed(number);
+        return malformed(rt, number);
     }
     if !is_ended(line) {
-        return malformed(number);
+        return malformed(rt, number);
     }
-    replay_board(number, line)
+    replay_board(rt, number, line)
 }
 
 // A line whose length was read: two digits a byte, and the line feed.
-fn replay_line(number: u64, bytes: usize) -> Seen {
+fn replay_line(rt: HostRuntime, number: u64, bytes: usize) -> Seen {
     if 4095 < bytes {
-        return malformed(number);
+        return malformed(rt, number);
     }
     let mut line = [0u8; 8192];
-    replay_rest(number, &mut line[..2 * bytes + 1])
+    replay_rest(rt, number, &mut line[..2 * bytes + 1])
 }
 
 // The next line, if there is one.
-fn replay_next(number: u64) -> Seen {
+fn replay_next(rt: HostRuntime, number: u64) -> Seen {
     let mut head = [0u8; 4];
-    let got = io::read_full(0, &mut head);
+    let got = trials::read_full(rt, &mut head);
     if got < 4 {
         return Seen::End;
     }
-    replay_line(number, pair_at(&head, 0))
+    replay_line(rt, number, pair_at(&head, 0))
 }
 
 // How many boards there were, and how many differ.
-fn report(boards: u64, wrong: u64) {
-    io::print_decimal(1, boards);
-    io::write_all(1, b" boards, ");
-    io::print_decimal(1, wrong);
-    io::write_all(1, b" wrong\n");
+fn report(rt: HostRuntime, boards: u64, wrong: u64) {
+    trials::print_decimal(rt, boards);
+    trials::print(rt, b" boards, ");
+    trials::print_decimal(rt, wrong);
+    trials::print(rt, b" wrong\n");
 }
 
 // 1 for a line with a wrong figure.
@@ -286,25 +311,26 @@ fn is_end(seen: Seen) -> bool {
 }
 
 // Every line: no input has a million of them.
-fn replay_all() {
+fn replay_all(rt: HostRuntime) {
     let mut boards: u64 = 0;
     let mut wrong: u64 = 0;
     while boards < 1000000 {
-        let seen = replay_next(boards + 1);
+        let seen = replay_next(rt, boards + 1);
         if is_end(seen) {
             break;
         }
         wrong += wrong_in(seen);
         boards += 1;
     }
-    report(boards, wrong);
+    report(rt, boards, wrong);
 }
 
-fn main() {
+fn main(rt: HostRuntime) {
     if trials::usage(
+        rt,
         b"usage: vectors < ANSWERS  compares the Rust's stored answers from standard input with ours, and takes no argument\n",
     ) {
         return;
     }
-    replay_all();
+    replay_all(rt);
 }
