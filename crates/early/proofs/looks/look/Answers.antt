@@ -4,7 +4,6 @@ use native.Mathlib.Omega.{arith}
 use mathlib.Core.Path.{◌∙◌, ◌≡◌, refl, subst, sym}
 use mathlib.Core.Bool.{Bool, false, true}
 use mathlib.Core.List.{List}
-use borrow.Author.Rules.{rules}
 use lib.Dec.{T, ltb, lt→ltb}
 use lib.IntN.{ℤ}
 use mir.Val.{bool_byte}
@@ -14,8 +13,7 @@ use Rattle.game.proofs.Truth.{and_both, and_yes}
 use Rattle.labels.specs.Labels.{fresh_cell, fresh_of}
 use Rattle.early.specs.Looks.{LooksAt, Meets, lone_at}
 use Rattle.early.specs.declared.looks.Tally.{Tally}
-use Rattle.early.proofs.looks.look.Statement.{statement}
-use Rattle.early.proofs.looks.look.Tie as tie
+use Rattle.early.proofs.looks.look.Goals as goal
 
 -- a test takes one away where it passes
 taken_back : (n : ℕ) (b : Bool) → 1 ≤ n → n - bool_byte b + bit b ≡ n
@@ -35,57 +33,19 @@ module _ (rows columns : ℕ) (w : List ℤ) (t : Tally) (i : ℕ) (r : Bool) (e
     long = refl;
   }
 
-mul-fresh : tie.Need-overflow-mul-fresh
-mul-fresh c = search rules
+pub returns-then-fresh : goal.returns-then-fresh
+returns-then-fresh c =
+    let a = c.args in
+    let m = c.meet in
+    looks_opening a.rows a.columns a.work.now a.tally a.index c.fresh.result c.fresh.ensures c.if-fresh.true m.result m.new.work m.ensures
 
-fresh-requires : tie.Need-fresh-requires
-fresh-requires c κs = search rules
+pub overflow_sub-result : goal.overflow_sub-result
+overflow_sub-result c = omega (arith, byte_le c.lone-lone.result)
 
-meet-requires : tie.Need-meet-requires
-meet-requires c κs = search rules
-
-same_length : tie.Need-same-length
-same_length c = search rules
-
-returns : tie.Need-returns
+pub returns : goal.returns
 returns c =
-    let f = c.before.before.before.before in
-    let a = c.before.before.before.before.before.before.args in
-    let m = c.before.meet in
-    looks_opening a.rows a.columns a.work.now a.tally a.index f.fresh.result f.fresh.ensures c.before.before.before.if1.true m.result m.new.0 m.ensures
-
-lone-requires : tie.Need-lone-requires
-lone-requires c κs = search rules
-
-cast-t10 : tie.Need-overflow-cast-t10
-cast-t10 c = search rules
-
-sub-t15 : tie.Need-overflow-sub-t15
-sub-t15 c = omega (arith, byte_le c.before.lone.result)
-
-same-length-2 : tie.Need-same-length-2
-same-length-2 c = search rules
-
-returns-2 : tie.Need-returns-2
-returns-2 c =
     let l = c.before in
     let n = l.before.before in
     let f = n.before in
-    let s = f.before.before in
-    let a = s.args in
-    looks_other a.rows a.columns a.work.now a.tally a.index f.fresh.result f.fresh.ensures n.if1.false s.requires.0.1 s.requires.0.2 l.lone.result l.lone.ensures
-
-pub look_spec : {M : Type 1} → statement M
-look_spec =
-    tie.close
-    (tie.spec
-    mul-fresh
-    fresh-requires
-    meet-requires
-    same_length
-    returns
-    lone-requires
-    cast-t10
-    sub-t15
-    same-length-2
-    returns-2)
+    let a = c.args in
+    looks_other a.rows a.columns a.work.now a.tally a.index c.fresh.result c.fresh.ensures c.if-fresh.false c.requires.has_cells.1 c.requires.has_cells.2 c.lone-lone.result c.lone-lone.ensures

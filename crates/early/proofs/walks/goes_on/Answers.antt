@@ -1,14 +1,12 @@
 -- `early::walks::goes-on`: the first test that fails answers, else the last one. Assumes nothing.
 use Prim.Native.Nat.{ℕ, ◌-◌, ◌<◌, ◌≤◌}
 use native.Mathlib.Omega.{arith}
-use borrow.Author.Rules.{rules}
 use borrow.Author.Tests.{le-ltb, lt-ltb}
 use mathlib.Core.Path.{◌∙◌, ◌≡◌, ap, ap₂, sym}
 use mathlib.Core.Bool.{Bool, ◌&&◌, false}
 use lib.Dec.{leb, ltb}
 use Rattle.game.proofs.Truth.{and_false}
-use Rattle.early.proofs.walks.goes-on.Statement.{statement}
-use Rattle.early.proofs.walks.goes-on.Tie as tie
+use Rattle.early.proofs.walks.goes_on.Goals as goal
 
 module _ (lacking i limit : ℕ) (last : Bool) where
   at_limit : limit ≤ i → false ≡ (ltb i limit && ltb 0 lacking && last)
@@ -20,19 +18,13 @@ module _ (lacking i limit : ℕ) (last : Bool) where
   by_last : i < limit → (lacking ≡ 0 → ⊥) → last ≡ (ltb i limit && ltb 0 lacking && last)
   by_last h n = sym (ap₂ (λ (a b : Bool). a && b && last) (lt-ltb i limit h) (lt-ltb 0 lacking (omega arith)))
 
-returns : tie.Need-returns
-returns c = let a = c.before.args in at_limit a.lacking a.index a.limit (leb a.lacking (a.cells - a.index)) c.if1.true
+pub returns-then-index-limit : goal.returns-then-index-limit
+returns-then-index-limit c = let a = c.args in at_limit a.lacking a.index a.limit (leb a.lacking (a.cells - a.index)) c.if-index-limit.true
 
-returns-2 : tie.Need-returns-2
-returns-2 c = let a = c.before.before.args in none_lacks a.lacking a.index a.limit (leb a.lacking (a.cells - a.index)) c.if2.true
+pub returns-then-lacking-eq0 : goal.returns-then-lacking-eq0
+returns-then-lacking-eq0 c = let a = c.args in none_lacks a.lacking a.index a.limit (leb a.lacking (a.cells - a.index)) c.if-lacking-eq0.true
 
-sub-result : tie.Need-overflow-sub-result
-sub-result c = search rules
-
-returns-3 : tie.Need-returns-3
-returns-3 c =
-    let a = c.before.before.args in
-    by_last a.lacking a.index a.limit (leb a.lacking (a.cells - a.index)) c.before.if1.false c.if2.false
-
-pub goes_on_spec : {M : Type 1} → statement M
-goes_on_spec = tie.close (tie.spec returns returns-2 sub-result returns-3)
+pub returns : goal.returns
+returns c =
+    let a = c.args in
+    by_last a.lacking a.index a.limit (leb a.lacking (a.cells - a.index)) c.if-index-limit.false c.if-lacking-eq0.false
