@@ -23,6 +23,7 @@ use Rattle.mbf_checks.specs.Marks.{BitsOf, MarkedAll, MarkedOne, no_bits}
 
 -- one that is there already is there twice
 twice_new : (xs : List ℕ) (x : ℕ) (ys : List ℕ) → T (has x xs) → T (twice (xs ++ x ∷ ys))
+twice_new [] x ys t = elim t [ ]
 twice_new (z ∷ xs) x ys t =
     ⊎_elim
     (λ u. or_left (has z (xs ++ x ∷ ys)) (twice (xs ++ x ∷ ys)) (has_append_right z xs (x ∷ ys) (has_head z x ys (sym (eqb→eq x z u)))))

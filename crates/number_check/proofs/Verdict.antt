@@ -1,7 +1,7 @@
 -- The strict checks where the board passes: the lowest cell at fault decides. Assumes nothing.
 use Prim.Native.Nat.{ℕ, ◌<◌, ◌≤◌}
 use native.Mathlib.Omega.{arith}
-use mathlib.Core.Path.{◌≡◌, subst, sym, ◌∙◌}
+use mathlib.Core.Path.{◌≡◌, sym, ◌∙◌}
 use mathlib.Core.List.{map}
 use mathlib.Core.Option.{none, some}
 use Rattle.game.specs.Grid.{Grid, cells, size}
