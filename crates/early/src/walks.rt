@@ -9,7 +9,7 @@ use crate::looks;
 use crate::looks::Tally;
 
 // Where a walk stopped: the cell that it did not look at any more, and the units then lacking.
-#[derive(Drop)]
+#[derive(Clone, Copy)]
 pub struct Stop {
     pub cell: usize,
     pub lacking: usize,

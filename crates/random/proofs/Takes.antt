@@ -83,7 +83,7 @@ takes g s top i k tidy = go (top_cells false g s) refl (top→ false g s)
         }
     go (x ∷ xs) z f l e q =
         let n : 10 ≤ top = nltb→le top 10 (rw e tt) in
-        let v = f i (rw q (get_d_has (x ∷ xs) k l)) in
+        let v = f i (subst (λ (j : ℕ). T (has j (x ∷ xs))) (sym q) (get_d_has (x ∷ xs) k l)) in
         let a = looked→ false g s i v.is_looked in
         record {
           is_safe = a.1;

@@ -43,7 +43,7 @@ pub enum DrawnStep {
 }
 
 // How a round or a search ends: its clicks and the supply after the last draw, or the draws ran dry.
-#[derive(Drop)]
+#[derive(Clone, Copy)]
 pub enum Finish {
     Ended(usize, Supply),
     Dry,

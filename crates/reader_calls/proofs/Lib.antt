@@ -1,6 +1,3 @@
--- What bounds the place of a reader, that there is only one answer, and the walks of the calls with a reader.
-pub mod Within
+-- What bounds the place of a reader, and that there is only one answer.
 pub mod OneAnswer
-mod ReaderWalks
-mod RoundWalk
-mod SearchWalk
+pub mod Within

@@ -6,7 +6,7 @@ ghost use Rattle.game.specs.Calls.{number_of};
 ghost use Rattle.refusals.specs.Names.{named};
 
 // A refusal by its name; NUMBER names the lowest cell at fault.
-#[derive(Drop)]
+#[derive(Clone, Copy)]
 pub enum Refusal {
     Shape,
     Board,
@@ -23,7 +23,7 @@ pub enum Refusal {
 }
 
 // What checks say.
-#[derive(Drop)]
+#[derive(Clone, Copy)]
 pub enum Checked {
     Fine,
     Refused(Refusal),

@@ -12,6 +12,7 @@ use contract.Lifetimes.{Lfts}
 use denote.RattleType.{RattleType}
 use denote.Laws.{Copy, Is, Tells, Typed}
 use denote.Builtin.{u8}
+use denote.Plain.{uint_row_laws}
 use denote.Slice.{ShrSlice, slice_ty, slice_val, shr_slice_copy, shr_slice_Lawful, shr_slice_Tells}
 use denote.Exit.{Exit, Last, left, unchanged, yes}
 
@@ -48,6 +49,6 @@ bytes_at ℓ = record {
   val = λ κs x. slice_val x.ref_ptr (length x.now);
   tells = λ κs. shr_slice_Tells (named ℓ) κs.0 u8;
   typed = λ κs M 𝓤 𝓛. (shr_slice_Lawful 𝓛 (named ℓ) κs.0 u8).typed;
-  copies = λ 𝓛 κs. shr_slice_copy 𝓛 (named ℓ) κs.0 u8;
+  copies = λ 𝓛 κs. shr_slice_copy 𝓛 (named ℓ) κs.0 u8 (uint_row_laws w8);
   still = λ κs. refl;
 }

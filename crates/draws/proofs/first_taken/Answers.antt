@@ -31,7 +31,7 @@ returns-then-word-bound c =
 
 pub overflow_add-place : goal.overflow_add-place
 overflow_add-place c =
-    let here : c.loop-left.place + 4 ≤ length c.args.bytes.now = omega (arith, c.loop-left.invariant.room) in
+    let room : c.loop-left.place + 4 ≤ length c.args.bytes.now = omega (arith, c.loop-left.invariant.room) in
     search rules
 
 pub loop-left-preserved : goal.loop-left-preserved

@@ -1,0 +1,34 @@
+-- `rounds::steps::click_lowest`: the search finds the first closed unit, and its column. Assumes nothing.
+use Prim.Native.Nat.{ℕ}
+use native.Mathlib.Omega.{arith}
+use mathlib.Core.Path.{◌∙◌, ◌≡◌, ap}
+use mathlib.Core.List.{List}
+use Rattle.choices.specs.Picks.{found_column}
+use Rattle.game.specs.Moves.{Move}
+use Rattle.rounds.specs.Promises.{MadeKnown}
+use Rattle.rounds.proofs.Takes.{unit_inside, unit_missing, unit_taken}
+use Rattle.rounds.proofs.steps.click_lowest.Goals as goal
+
+pub click_at-clicked-requires : goal.click_at-clicked-requires
+click_at-clicked-requires c =
+    let a = c.args in
+    let i = unit_inside a.rows a.columns a.work.now c.lowest-lowest.result.found c.in-At.index c.requires.standing (λ g s old st. (c.lowest-lowest.ensures g s old st).0) c.in-At.is in
+    record { shape = c.requires.shape; has_cells = (omega arith, i, omega arith) }
+
+pub returns-in-At : goal.returns-in-At
+returns-in-At c =
+    let a = c.args in
+    let y = c.click_at-clicked in
+    λ o g s old st p n q e. let f = c.lowest-lowest.ensures g s old st in
+    unit_taken a.rows a.columns a.work.now c.lowest-lowest.result.found g s
+    (λ (ms : List Move) (column : ℕ). MadeKnown o a.rows a.columns g s old ms a.list.now a.work.now a.tops.now a.state y.new.work y.new.list y.new.tops y.result
+    × (c.lowest-lowest.result.column ≡ column))
+    c.in-At.index c.in-At.is f.0 (λ t u. (y.ensures o g s old st p t u q e, f.1 ∙ ap (found_column g) c.in-At.is))
+
+pub returns-in-Nothing : goal.returns-in-Nothing
+returns-in-Nothing c =
+    let a = c.args in
+    λ o g s old st p n q e. unit_missing a.rows a.columns a.work.now c.lowest-lowest.result.found g s
+    (λ (ms : List Move) (column : ℕ). MadeKnown o a.rows a.columns g s old ms a.list.now a.work.now a.tops.now a.state a.work.now a.list.now a.tops.now a.state
+    × (a.from ≡ column))
+    c.in-Nothing.is (c.lowest-lowest.ensures g s old st).0 n

@@ -1,0 +1,39 @@
+-- `rounds::steps::step`: the first cell of highest premium is found; where none reaches 0, the step is one L. Assumes nothing.
+use Prim.Native.Nat.{ℕ}
+use native.Mathlib.Omega.{arith}
+use mathlib.Core.Path.{◌≡◌, refl}
+use mathlib.Core.List.{List}
+use Rattle.game.specs.Moves.{Move}
+use Rattle.rounds.specs.Promises.{MadeKnown}
+use Rattle.rounds.proofs.Columns.{step_kept}
+use Rattle.rounds.proofs.Takes.{click_taken, top_inside, top_taken}
+use Rattle.rounds.proofs.steps.step.Goals as goal
+
+pub act_at-chorded-requires : goal.act_at-chorded-requires
+act_at-chorded-requires c =
+    let a = c.args in
+    record { shape = c.requires.shape; has_cells = (omega arith, top_inside a.rows a.columns a.work.now c.best-found.result a.opened_only c.in-At.index c.requires.standing c.best-found.ensures.value c.in-At.is, omega arith) }
+
+pub returns-in-At : goal.returns-in-At
+returns-in-At c =
+    let a = c.args in
+    let tops = c.best-found.new.tops in
+    let y = c.act_at-chorded in
+    λ g s old st p n e. step_kept a.opened_only a.rows a.columns g s old a.list.now a.work.now tops a.state a.from y.new.work y.new.list y.new.tops (record { state = y.result; from = a.from })
+    (top_taken a.rows a.columns a.work.now c.best-found.result g s
+    (λ (ms : List Move) (column : ℕ). MadeKnown a.opened_only a.rows a.columns g s old ms a.list.now a.work.now tops a.state y.new.work y.new.list y.new.tops y.result
+    × (a.from ≡ column))
+    a.opened_only a.from (c.best-found.ensures.value g s old st) c.in-At.index p c.in-At.is (λ t z. (y.ensures a.opened_only g s old st p t z e, refl)))
+    c.best-found.ensures.tops_len_unchanged.1
+
+pub returns-in-Nothing : goal.returns-in-Nothing
+returns-in-Nothing c =
+    let a = c.args in
+    let tops = c.best-found.new.tops in
+    let y = c.click_lowest in
+    λ g s old st p n e. step_kept a.opened_only a.rows a.columns g s old a.list.now a.work.now tops a.state a.from y.new.work y.new.list y.new.tops y.result
+    (click_taken a.rows a.columns a.work.now c.best-found.result g s
+    (λ (ms : List Move) (column : ℕ). MadeKnown a.opened_only a.rows a.columns g s old ms a.list.now a.work.now tops a.state y.new.work y.new.list y.new.tops y.result.state
+    × (y.result.from ≡ column))
+    a.opened_only a.from (c.best-found.ensures.value g s old st) p n c.in-Nothing.is (λ l q. y.ensures a.opened_only g s old st p l q e))
+    c.best-found.ensures.tops_len_unchanged.1
