@@ -6,7 +6,7 @@ use native.Mathlib.Nat.{mod-eq_of_lt}
 use native.Mathlib.Numerals.{add-one}
 use mathlib.Core.Path.{◌≡◌, ap, ap₂, refl, sym, ◌∙◌}
 use mathlib.Core.Bool.{Bool, cond, false, true}
-use mathlib.Core.List.{List, ◌∷◌, map}
+use mathlib.Core.List.{List, [], ◌∷◌, map}
 use lib.Arith.{digits_div, digits_lt, digits_mod}
 use lib.Dec.{T}
 use lib.IntN.{ℤ, negsuc, pos}
@@ -54,6 +54,7 @@ module _ (g : Grid) where
 
   -- what stood at a place that is put is lost
   pub put_over : (w : List ℤ) (p : ℕ) (v : ℤ) (ps : List ℕ) → T (has p ps) → fold (put_right g) (set w p v) ps ≡ fold (put_right g) w ps
+  put_over w p v [] t = elim t [ ]
   put_over w p v (q ∷ ps) t =
       elim (ℕ_discrete p q) [
         | yes e ↦ ap (λ (x : List ℤ). fold (put_right g) x ps) (ap (λ (k : ℕ). set (set w k v) q (right_value g (cell_at g q))) e ∙ set-set w q v (right_value g (cell_at g q)))

@@ -32,7 +32,8 @@ search_on-requires c =
       has_cells = search rules;
       counts_units = t.0;
       key_room = (
-        rounds_room a.rounds c.rounds_left-more.result a.supply _ c.requires.key_room.0 (c.unlisted-rolled.ensures.round_grows.ended _ _ c.in-Ended.is) (omega (arith, c.rounds_left-more.ensures.1)),
+        rounds_room a.rounds c.rounds_left-more.result a.supply _ c.requires.key_room.0
+            (c.unlisted-rolled.ensures.round_grows.ended _ _ c.in-Ended.is) (omega (arith, c.rounds_left-more.ensures.1)),
         t.1,
       );
     }

@@ -1,0 +1,15 @@
+-- `record_calls::greedy_records`: the flat call as it is, and its words copied into the run. Assumes nothing.
+use mathlib.Core.Bool.{false, true}
+use lib.ListN.{length}
+use Rattle.game.specs.Calls.{price_call}
+use Rattle.area.specs.Numbers.{grid_of}
+use Rattle.answers.specs.Answers.{priced_answer}
+use Rattle.record_checks.specs.Promises.{within}
+use Rattle.record_checks.proofs.Keeping.{keeps_form}
+use Rattle.record_calls.proofs.greedy_records.Goals as goal
+
+pub returns : goal.returns
+returns c =
+    let a = c.args in
+    let g = grid_of a.rows a.columns a.grid.now in
+    keeps_form false g a.work.now a.list.now (within g a.work.now a.list.now (length a.run.now) (price_call false g a.work.now a.list.now)) a.run.now _ _ _ _ _ c.price_in_form-priced.ensures c.written_by-count.ensures c.records_of.ensures
