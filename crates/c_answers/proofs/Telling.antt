@@ -2,25 +2,18 @@
 use Prim.Native.Nat.{ℕ, ◌+◌}
 use native.Mathlib.Omega.{arith}
 use mathlib.Core.Path.{◌≡◌, ap, refl, subst, sym}
-use mathlib.Core.List.{List, [], ◌∷◌}
+use mathlib.Core.List.{List, []}
 use lib.ListN.{get_or-eq_default, get_or}
-use types.Run.{OneOf, miss}
-use denote.Enum.Declared.{tag_of}
 use Rattle.game.specs.Calls.{Answer, named_by, refuses}
 use Rattle.game.specs.Calls as Game
 use Rattle.refusals.specs.Names.{named}
 use Rattle.refusals.specs.declared.Refusal.{Refusal}
 use Rattle.refusals.specs.declared.Refusal.TheVariants.{Shape, Board, Work, Trace, Rounds, Draws, Move, Frame, Size, File, Number, Key}
-use Rattle.refusals.specs.contracts.Refusal as R
 use Rattle.refusals.proofs.ReadBack.{names_one}
 use Rattle.c_answers.specs.Names.{Tells, TellsThree, TellsTwo, told}
 
--- the places of the refusals but NUMBER in their enum
-abbrev pub others : List ℕ
-others = 0 ∷ 1 ∷ 2 ∷ 3 ∷ 4 ∷ 5 ∷ 6 ∷ 7 ∷ 8 ∷ 9 ∷ 11 ∷ []
-
--- they name nothing
-names_nothing : (f : Refusal) → OneOf others (tag_of R.the_type f) → named_by (named f) ≡ []
+-- the refusals but NUMBER name nothing
+names_nothing : (f : Refusal) → ((cell : ℕ) → f ≡ Number cell → ⊥) → named_by (named f) ≡ []
 names_nothing Shape h = refl
 names_nothing Board h = refl
 names_nothing Work h = refl
@@ -31,11 +24,11 @@ names_nothing Move h = refl
 names_nothing Frame h = refl
 names_nothing Size h = refl
 names_nothing File h = refl
-names_nothing (Number cell) h = absurd (miss others 10 tt h)
+names_nothing (Number cell) h = absurd (h cell refl)
 names_nothing Key h = refl
 
 -- so what stands behind the pointer is left alone
-pub other_told : (f : Refusal) (before : ℕ) → OneOf others (tag_of R.the_type f) → before ≡ told (refuses (named f)) 0 before
+pub other_told : (f : Refusal) (before : ℕ) → ((cell : ℕ) → f ≡ Number cell → ⊥) → before ≡ told (refuses (named f)) 0 before
 other_told f before h = sym (ap (λ (vs : List ℕ). get_or vs 0 before) (names_nothing f h))
 
 -- the second and third values are left alone by every refusal
