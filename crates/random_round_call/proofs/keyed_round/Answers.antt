@@ -1,0 +1,50 @@
+-- `random_round_call::keyed_round`: refused as the checks say, else played. Assumes nothing.
+use mathlib.Core.Path.{ap, sym, ◌∙◌}
+use mathlib.Core.List.{List, [], ◌++◌, ◌∷◌}
+use mathlib.Core.Option.{Option}
+use Prim.Native.Nat.{ℕ, ◌*◌}
+use lib.IntN.{ℤ}
+use Rattle.keys.specs.declared.Key.{Key}
+use Rattle.draws.specs.declared.Mode.{Mode}
+use lib.ListN.{length}
+use Rattle.area.specs.Numbers.{grid_of}
+use Rattle.refusals.specs.Names.{refusal_of}
+use Rattle.game.specs.Calls.{Check, ListOutcome, Refusal, first_given, grid_checks, handing_listed, key_check, keyed_round_call, round_by, trace}
+use Rattle.game.specs.Keys.{keyed}
+use Rattle.keys.specs.Stands.{key_of}
+use Rattle.checks.proofs.More.{first_none, reaches}
+use Rattle.checks.proofs.Verdict.{all_passed}
+use Rattle.answers.proofs.Promises.{list_else, list_refused}
+use Rattle.draws.specs.Answers.{mode_of}
+use Rattle.random_round_call.proofs.keyed_round.Goals as goal
+
+-- the checks before the key's
+abbrev firsts : (rows columns : ℕ) (grid work : List ℤ) (list : List ℕ) → List Check
+firsts rows columns grid work list = grid_checks (grid_of rows columns grid) work ++ reaches (length list) (rows * columns) trace
+
+-- the refusal that is given
+abbrev given : (rows columns : ℕ) (grid work : List ℤ) (list : List ℕ) (key : Key) → Option Refusal
+given rows columns grid work list key = first_given (firsts rows columns grid work list ++ key_check (key_of key) ∷ [])
+
+-- what the call comes to where none is
+abbrev come : (rows columns : ℕ) (grid work : List ℤ) (list : List ℕ) (key : Key) (mode : Mode) → ListOutcome
+come rows columns grid work list key mode =
+    let g = grid_of rows columns grid in
+    handing_listed (key_of key) (round_by (keyed (mode_of mode) (key_of key)) g work list)
+
+pub roll_keyed-requires : goal.roll_keyed-requires
+roll_keyed-requires c =
+    let a = c.args in
+    let e = first_none (firsts c.args.rows c.args.columns c.args.grid.now c.args.work.now c.args.list.now) (key_check (key_of a.key) ∷ []) (sym (c.check_key-checked.ensures (firsts c.args.rows c.args.columns c.args.grid.now c.args.work.now c.args.list.now) c.check_room-room.ensures) ∙ ap refusal_of c.in-Fine.is) in
+    let p = all_passed (grid_of a.rows a.columns a.grid.now) a.work.now (length a.list.now) (a.rows * a.columns) trace e in
+    record { shape = p.0.shaped; grid_len = (p.0.whole, p.0.room, p.1) }
+
+pub returns-in-Refused : goal.returns-in-Refused
+unfolding keyed_round_call
+returns-in-Refused c =
+    list_refused (given c.args.rows c.args.columns c.args.grid.now c.args.work.now c.args.list.now c.args.key) _ _ _ (come c.args.rows c.args.columns c.args.grid.now c.args.work.now c.args.list.now c.args.key c.args.mode) (ap refusal_of (sym c.in-Refused.is) ∙ (c.check_key-checked.ensures (firsts c.args.rows c.args.columns c.args.grid.now c.args.work.now c.args.list.now) c.check_room-room.ensures))
+
+pub returns-in-Fine : goal.returns-in-Fine
+unfolding keyed_round_call
+returns-in-Fine c =
+    list_else (given c.args.rows c.args.columns c.args.grid.now c.args.work.now c.args.list.now c.args.key) _ _ _ _ _ (come c.args.rows c.args.columns c.args.grid.now c.args.work.now c.args.list.now c.args.key c.args.mode) (sym (ap refusal_of c.in-Fine.is) ∙ (c.check_key-checked.ensures (firsts c.args.rows c.args.columns c.args.grid.now c.args.work.now c.args.list.now) c.check_room-room.ensures)) c.roll_keyed.ensures

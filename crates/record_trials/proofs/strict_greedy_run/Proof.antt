@@ -1,9 +1,0 @@
--- `record_trials::strict_greedy_run` meets its contract: its MIR is the walked one, with its own call. Assumes nothing.
-use Rattle.record_trials.proofs.Pricing.{strict-greedy-run}
-use Rattle.record_trials.specs.contracts.strict_greedy_run.Key.{name}
-use Rattle.record_trials.proofs.strict_greedy_run.Statement.{statement}
-use Rattle.record_trials.proofs.strict_greedy_run.Code as code
-
-pub strict_greedy_run_spec : {M : Type 1} → statement M
-unfolding code.routine
-strict_greedy_run_spec 𝓤 𝓛 𝓜 𝓡 = strict-greedy-run 𝓛 𝓜 𝓡 code.env name (code.unfolded 𝓤 𝓛.H 𝓜 𝓡) code.calls-record-calls::strict-greedy-records

@@ -1,0 +1,14 @@
+-- `record_trials::strict_read_twice`: the search finds the work area and the reader as the round left them. Assumes nothing.
+use mathlib.Core.Bool.{false, true}
+use Rattle.area.specs.Numbers.{grid_of}
+use Rattle.draws.specs.Answers.{mode_of}
+use Rattle.record_trials.proofs.TwoCalls.{reads_twice}
+use Rattle.record_trials.proofs.strict_read_twice.Goals as goal
+
+pub returns : goal.returns
+returns c =
+    let a = c.args in
+    let round = c.strict_random_round-round in
+    let search = c.strict_random_search-search in
+    reads_twice true (mode_of a.mode) (grid_of a.rows a.columns a.grid.now) a.work.now a.list.now a.bytes a.place a.rounds c.reader-reader.result round.new.reader search.new.reader round.result search.result round.new.work search.new.work round.new.list
+    c.reader-reader.ensures round.ensures search.ensures
