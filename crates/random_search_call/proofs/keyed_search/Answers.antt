@@ -1,0 +1,52 @@
+-- `random_search_call::keyed_search`: refused as the checks say, else played. Assumes nothing.
+use mathlib.Core.Path.{ap, sym, ◌∙◌}
+use mathlib.Core.List.{List, [], ◌++◌, ◌∷◌}
+use mathlib.Core.Option.{Option}
+use Rattle.area.specs.Numbers.{grid_of}
+use Rattle.refusals.specs.Names.{refusal_of}
+use Rattle.game.specs.Calls.{Check, Outcome, Refusal, first_given, grid_checks, handing, key_check, keyed_rounds_check, keyed_search_call, search_by}
+use Rattle.game.specs.Keys.{keyed}
+use Rattle.keys.specs.Stands.{key_of}
+use Rattle.checks.proofs.Verdict.{keyed_passed}
+use Rattle.answers.proofs.Promises.{keeps_else, keeps_refused}
+use Rattle.draws.specs.Answers.{mode_of}
+use Prim.Native.Nat.{ℕ}
+use lib.IntN.{ℤ}
+use Rattle.draws.specs.declared.Mode.{Mode}
+use Rattle.keys.specs.declared.Key.{Key}
+use Rattle.random_search_call.proofs.keyed_search.Goals as goal
+
+-- the checks before the key's
+abbrev firsts : (rows columns : ℕ) (grid work : List ℤ) → ℕ → List Check
+firsts rows columns grid work many = grid_checks (grid_of rows columns grid) work ++ keyed_rounds_check many ∷ []
+
+-- the refusal that is given
+abbrev given : (rows columns : ℕ) (grid work : List ℤ) → ℕ → Key → Option Refusal
+given rows columns grid work many key = first_given (firsts rows columns grid work many ++ key_check (key_of key) ∷ [])
+
+-- what the call comes to where none is
+abbrev come : (rows columns : ℕ) (grid work : List ℤ) → ℕ → Key → Mode → Outcome
+come rows columns grid work many key mode =
+    let g = grid_of rows columns grid in
+    handing (key_of key) (search_by (keyed (mode_of mode) (key_of key)) many g work)
+
+pub search_keyed-requires : goal.search_keyed-requires
+search_keyed-requires c =
+    let a = c.args in
+    let p = keyed_passed (grid_of a.rows a.columns a.grid.now) a.work.now a.rounds (key_of a.key)
+    (sym (c.check_key-checked.ensures (firsts a.rows a.columns a.grid.now a.work.now a.rounds) c.check_keyed_rounds-counted.ensures) ∙ ap refusal_of c.in-Fine.is) in
+    record { shape = p.0.shaped; grid_len = (p.0.whole, p.0.room, p.1, p.2) }
+
+pub returns-in-Refused : goal.returns-in-Refused
+unfolding keyed_search_call
+returns-in-Refused c =
+    let a = c.args in
+    keeps_refused (given a.rows a.columns a.grid.now a.work.now a.rounds a.key) _ _ (come a.rows a.columns a.grid.now a.work.now a.rounds a.key a.mode)
+    (ap refusal_of (sym c.in-Refused.is) ∙ c.check_key-checked.ensures (firsts a.rows a.columns a.grid.now a.work.now a.rounds) c.check_keyed_rounds-counted.ensures)
+
+pub returns-in-Fine : goal.returns-in-Fine
+unfolding keyed_search_call
+returns-in-Fine c =
+    let a = c.args in
+    keeps_else (given a.rows a.columns a.grid.now a.work.now a.rounds a.key) _ _ _ (come a.rows a.columns a.grid.now a.work.now a.rounds a.key a.mode)
+    (sym (ap refusal_of c.in-Fine.is) ∙ c.check_key-checked.ensures (firsts a.rows a.columns a.grid.now a.work.now a.rounds) c.check_keyed_rounds-counted.ensures) c.search_keyed.ensures
