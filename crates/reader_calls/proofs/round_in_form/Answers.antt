@@ -1,8 +1,7 @@
 -- `reader_calls::round_in_form`: refused as the form's check says, else the round from the place on. Assumes nothing.
 use mathlib.Core.Path.{ap, sym, ◌∙◌}
-use mathlib.Core.Option.{Option}
 use lib.ListN.{drop}
-use Rattle.game.specs.Calls.{ListOutcome, Refusal, random_round_call}
+use Rattle.game.specs.Calls.{random_round_call}
 use Rattle.draws.specs.Answers.{mode_of}
 use Rattle.area.specs.Numbers.{grid_of}
 use Rattle.refusals.specs.Names.{refusal_of}

@@ -1,5 +1,5 @@
 -- `reader_calls::start_at`: the fewer of the two is the place, or the end where the place is past it. Assumes nothing.
-use Rattle.std.proofs.Common.{ℕ, ◌≤◌, ◌≡◌, min, inl, inr, arith}
+use Rattle.std.proofs.Common.{ℕ, ◌≡◌, min, inl, inr, arith}
 use native.Mathlib.Decide.{dec_le}
 use Rattle.reader_calls.specs.Stands.{Starts}
 use Rattle.reader_calls.proofs.start_at.Goals as goal
