@@ -2,7 +2,7 @@
 use Prim.Native.Nat.{ℕ, zero, suc, ◌/◌}
 use native.Mathlib.Nat.{zero-div, zero-mod}
 use mathlib.Core.Path.{◌≡◌, refl, ap, ◌∙◌}
-use mathlib.Core.List.{List, ◌∷◌, ◌++◌, map}
+use mathlib.Core.List.{List, ◌∷◌, map}
 use lib.ListN.{drop, length, length-map, length-replicate, replicate, take}
 use lib.Seq.{take_at}
 use Rattle.game.specs.Area.{cleared_list, list_of}

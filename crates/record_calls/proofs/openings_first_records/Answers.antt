@@ -3,7 +3,6 @@ use mathlib.Core.Bool.{false, true}
 use lib.ListN.{length}
 use Rattle.game.specs.Calls.{price_call}
 use Rattle.area.specs.Numbers.{grid_of}
-use Rattle.answers.specs.Answers.{priced_answer}
 use Rattle.record_checks.specs.Promises.{within}
 use Rattle.record_checks.proofs.Keeping.{keeps_form}
 use Rattle.record_calls.proofs.openings_first_records.Goals as goal

@@ -1,10 +1,9 @@
 -- `record_calls::random_round_records`: the flat call as it is, and its words copied into the run. Assumes nothing.
-use mathlib.Core.Bool.{false, true}
+use mathlib.Core.Bool.{false}
 use lib.ListN.{length}
 use Rattle.game.specs.Calls.{random_round_call}
 use Rattle.area.specs.Numbers.{grid_of}
 use Rattle.draws.specs.Answers.{mode_of}
-use Rattle.answers.specs.Answers.{rolled_answer}
 use Rattle.record_checks.specs.Promises.{within}
 use Rattle.record_checks.proofs.Keeping.{keeps_form}
 use Rattle.record_calls.proofs.random_round_records.Goals as goal

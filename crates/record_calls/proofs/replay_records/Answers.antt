@@ -1,7 +1,7 @@
 -- `record_calls::replay_records`: the checks, the words that are copied, and the flat replay of them. Assumes nothing.
 use Prim.Native.Nat.{ℕ}
 use mathlib.Core.Path.{ap, refl, ◌∙◌}
-use mathlib.Core.Bool.{false, true}
+use mathlib.Core.Bool.{false}
 use mathlib.Core.List.{map}
 use lib.ListN.{take}
 use Rattle.area.specs.Numbers.{grid_of}

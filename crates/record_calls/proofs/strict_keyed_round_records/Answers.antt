@@ -1,11 +1,10 @@
 -- `record_calls::strict_keyed_round_records`: the flat call in the strict form, and its words copied into the run. Assumes nothing.
-use mathlib.Core.Bool.{false, true}
+use mathlib.Core.Bool.{true}
 use lib.ListN.{length}
 use Rattle.game.specs.Calls.{keyed_round_call}
 use Rattle.area.specs.Numbers.{grid_of}
 use Rattle.draws.specs.Answers.{mode_of}
 use Rattle.keys.specs.Stands.{key_of}
-use Rattle.answers.specs.Answers.{key_rolled_answer}
 use Rattle.record_checks.specs.Promises.{within}
 use Rattle.record_checks.proofs.Keeping.{keeps_form}
 use Rattle.record_calls.proofs.strict_keyed_round_records.Goals as goal

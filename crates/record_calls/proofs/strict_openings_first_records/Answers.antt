@@ -1,9 +1,8 @@
 -- `record_calls::strict_openings_first_records`: the flat call in the strict form, and its words copied into the run. Assumes nothing.
-use mathlib.Core.Bool.{false, true}
+use mathlib.Core.Bool.{true}
 use lib.ListN.{length}
 use Rattle.game.specs.Calls.{price_call}
 use Rattle.area.specs.Numbers.{grid_of}
-use Rattle.answers.specs.Answers.{priced_answer}
 use Rattle.record_checks.specs.Promises.{within}
 use Rattle.record_checks.proofs.Keeping.{keeps_form}
 use Rattle.record_calls.proofs.strict_openings_first_records.Goals as goal

@@ -1,8 +1,6 @@
 -- `record_checks::check_replay`: the form's refusal stands, else the checks by lengths decide. Assumes nothing.
 use mathlib.Core.Path.{ap, refl, sym, ◌∙◌}
-use mathlib.Core.List.{List}
 use mathlib.Core.Option.{Option, some}
-use lib.IntN.{ℤ}
 use Rattle.game.specs.Calls.{Refusal, decided, first_given}
 use Rattle.area.specs.Numbers.{grid_of}
 use Rattle.refusals.specs.Names.{refusal_of}

@@ -1,0 +1,40 @@
+-- `board_reader::answer_some`: what answer_block left is what is handed over and kept; it is not refused. Assumes nothing.
+use Rattle.std.proofs.Common.{sym}
+use lib.Seq.{length-take-le}
+use Rattle.refusals.specs.Names.{named}
+use Rattle.board_reader.proofs.Turning.{block_left, block_passed}
+use Rattle.board_reader.proofs.answer_some.Goals as goal
+
+pub slice_bounds-print-end : goal.slice_bounds-print-end
+slice_bounds-print-end c =
+    let a = c.args in
+    let b = c.answer_block-answered in
+    (block_left a.kept c.requires.sofar a.block.now a.out.now c.requires.block_in_bounds b.new.held b.new.out c.in-Kept.count c.in-Kept.written c.in-Kept.ensures).inside
+
+pub slice_bounds-print-end-in-Kept : goal.slice_bounds-print-end-in-Kept
+slice_bounds-print-end-in-Kept c =
+    let a = c.args in
+    let b = c.answer_block-answered in
+    sym
+    (length-take-le _ _
+    (block_left a.kept c.requires.sofar a.block.now a.out.now c.requires.block_in_bounds b.new.held b.new.out c.in-Kept.count c.in-Kept.written c.in-Kept.ensures).inside)
+
+pub print-went-requires : goal.print-went-requires
+print-went-requires c =
+    let a = c.args in
+    let b = c.answer_block-answered in
+    (block_left a.kept c.requires.sofar a.block.now a.out.now c.requires.block_in_bounds b.new.held b.new.out c.in-Kept.count c.in-Kept.written c.in-Kept.ensures).says
+
+pub returns-in-Refused : goal.returns-in-Refused
+returns-in-Refused c =
+    let a = c.args in
+    let b = c.answer_block-answered in
+    absurd (block_passed a.kept c.requires.sofar a.block.now a.out.now c.requires.block_in_bounds b.new.held b.new.out (named c.in-Refused.field-0) c.in-Refused.ensures)
+
+pub returns-in-Kept : goal.returns-in-Kept
+returns-in-Kept c =
+    let a = c.args in
+    let b = c.answer_block-answered in
+    let h = c.print-went.ensures in
+    let k = (block_left a.kept c.requires.sofar a.block.now a.out.now c.requires.block_in_bounds b.new.held b.new.out c.in-Kept.count c.in-Kept.written c.in-Kept.ensures).keeps in
+    record { written = h.written; comes = λ i. record { kept = k i; went = h.comes i } }

@@ -1,0 +1,14 @@
+-- `board_reader::read_all`: after a turn too what is kept is what blocks come to. Assumes nothing.
+use Rattle.std.proofs.Common.{arith}
+use Rattle.board_reader.proofs.Turning.{turn_sofar}
+use Rattle.board_reader.proofs.read_all.Goals as goal
+
+pub loop-turns-preserved : goal.loop-turns-preserved
+loop-turns-preserved c =
+    let l = c.loop-turns in
+    let r = c.read_some-turn in
+    record {
+      sofar = turn_sofar l.turn.kept l.invariant.sofar r.new.block r.result r.ensures;
+      same_block = omega arith;
+      same_out = omega arith;
+    }
