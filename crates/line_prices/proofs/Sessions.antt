@@ -12,7 +12,7 @@ use Rattle.game.proofs.Members.{concat_map_append}
 use Rattle.lines.proofs.LineRead.{no_refusal}
 use Rattle.line_price.specs.Prices.{answer_line}
 use Rattle.line_prices.specs.Blocks.{Cut, Desk, DeskOutcome, block_call, cut_from, desk_after, end_call, held_after, kept_over, last_line, printed, unless_desk}
-use Rattle.line_prices.specs.Bytes.{Room, desk_of}
+use Rattle.line_prices.specs.Bytes.{desk_of}
 use Rattle.line_prices.specs.Sessions.{AllAnswered, Fits, KeptOf, calls, joined, to_print}
 use Rattle.line_prices.specs.Answers.{KeepsDesk}
 use Rattle.line_prices.proofs.After.{block-desk, held_reads, held_by}

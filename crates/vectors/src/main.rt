@@ -10,7 +10,7 @@ use zini::Priced;
 use zini::random_calls::Mode;
 
 // What is said of a line.
-#[derive(Drop)]
+#[derive(Clone, Copy)]
 enum Seen {
     End,
     Right,

@@ -1,0 +1,12 @@
+-- `line_price::price::clicks`: the clicks as the call answers them. Assumes nothing.
+use mathlib.Core.Path.{◌∙◌}
+use lib.ListN.{length}
+use Rattle.game.specs.Rounds.{moves_of, round_steps}
+use Rattle.area.specs.Numbers.{grid_of}
+use Rattle.line_price.proofs.Figures.{clicks_answer}
+use Rattle.line_price.proofs.price.clicks.Goals as goal
+
+pub returns : goal.returns
+returns c =
+    let g = grid_of c.args.rows c.args.columns c.args.grid.now in
+    c.clicks_of.ensures (length (moves_of (round_steps c.args.openings_first g))) (c.price-priced.ensures.answers ∙ clicks_answer g c.requires c.args.openings_first)
