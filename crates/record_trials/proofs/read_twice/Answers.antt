@@ -1,5 +1,5 @@
 -- `record_trials::read_twice`: the search finds the work area and the reader as the round left them. Assumes nothing.
-use mathlib.Core.Bool.{false, true}
+use mathlib.Core.Bool.{false}
 use Rattle.area.specs.Numbers.{grid_of}
 use Rattle.draws.specs.Answers.{mode_of}
 use Rattle.record_trials.proofs.TwoCalls.{reads_twice}
