@@ -2,7 +2,7 @@
 #![tactic(auto)]
 
 mod blocks; // board lines in blocks
-mod moves; // stored move lines
+mod move_lines; // stored move lines
 
 fn main(rt: HostRuntime) {
     if trials::usage(
@@ -14,7 +14,7 @@ fn main(rt: HostRuntime) {
     let mut input = [0u8; 65536];
     let n = trials::read_full(rt, &mut input);
     blocks::run_all(rt, &input[..n]);
-    moves::read_all(rt);
-    moves::write_all(rt);
-    moves::vary_all(rt);
+    move_lines::read_all(rt);
+    move_lines::write_all(rt);
+    move_lines::vary_all(rt);
 }

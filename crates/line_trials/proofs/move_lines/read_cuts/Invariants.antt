@@ -1,5 +1,5 @@
 use Rattle.std.proofs.Common.{◌-◌, ◌≤◌, length}
-use Rattle.line_trials.proofs.moves.read_cuts.Given as goal
+use Rattle.line_trials.proofs.move_lines.read_cuts.Given as goal
 
 abbrev pub invariant-loop-n : goal.invariant-loop-n
 invariant-loop-n l = l.n ≤ length l.line
