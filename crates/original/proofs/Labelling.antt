@@ -19,7 +19,8 @@ use Rattle.game.proofs.Squares.{cells→}
 use Rattle.game.proofs.Truth.{T→true, and_false, and_left, and_right}
 use Rattle.game.proofs.Zeros.{Zero}
 use Rattle.original.proofs.Numbers.{lined}
-use Rattle.original.proofs.Spreads.{Begun, first_of_two, met, second_of_two, whole_opening}
+use Rattle.original.proofs.Borders.{first_of_two, second_of_two}
+use Rattle.original.proofs.Spreads.{Begun, met, whole_opening}
 use Rattle.original.proofs.Tables.{Table, table_ext}
 use borrow.Author.Tests.{ne_eqb}
 

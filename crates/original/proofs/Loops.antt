@@ -6,7 +6,7 @@ use mathlib.Core.Path.{◌∙◌, ◌≡◌, ap, ap₂, refl, sym}
 use mathlib.Core.Bool.{Bool, false, true}
 use mathlib.Core.List.{List, [], ◌∷◌}
 use mathlib.Core.Option.{Option, none, some}
-use lib.Dec.{ltb, ltb→lt, lt→ltb}
+use lib.Dec.{ltb}
 use lib.ListN.{length, length-append}
 use Rattle.game.specs.Grid.{Grid, cells, mine}
 use Rattle.game.specs.Lists.{count}
@@ -17,18 +17,9 @@ use Rattle.original.specs.Rounds.{apply_zini, zini_loop}
 use Rattle.game.proofs.Choices.{never_stuck}
 use Rattle.game.proofs.Rounds.{all_done, steps_none}
 use Rattle.game.proofs.Runs.{choice_fits, fit_takes, step_tidy}
-use Rattle.game.proofs.Truth.{T→true, no→false}
 use Rattle.original.proofs.Choosing.{applies}
 use Rattle.original.proofs.Positions.{Models}
-
--- ---- the end
-
--- cells are left exactly while a safe cell is closed
-pub cells_left : (g : Grid) (s : Position) (n : ℕ) (st : State) → Models g s n st → (k : ℕ) → closed_safe g s ≡ k
-    → ltb (count (mine g) (cells g)) st.closed-cells ≡ elim k [ zero ↦ false | suc k ↦ true ]
-cells_left g s n st w zero e = no→false (ltb (count (mine g) (cells g)) st.closed-cells) (λ t. omega (arith, ltb→lt (count (mine g) (cells g)) st.closed-cells t, w.left))
-cells_left g s n st w (suc k) e =
-    T→true (ltb (count (mine g) (cells g)) st.closed-cells) (lt→ltb (count (mine g) (cells g)) st.closed-cells (omega (arith, w.left)))
+use Rattle.original.proofs.CellsLeft.{cells_left}
 
 -- ---- the loop
 

@@ -6,7 +6,7 @@ use mathlib.Core.Path.{◌∙◌, ◌≡◌, ap, refl, sym}
 use mathlib.Core.Bool.{Bool, cond, false, true}
 use mathlib.Core.List.{List, [], ◌++◌}
 use mathlib.Core.Option.{Option, none, some}
-use lib.Dec.{ltb, ltb→lt, nltb→le}
+use lib.Dec.{ltb}
 use lib.ListN.{length, length-append, length-replicate, replicate}
 use Rattle.game.specs.Draws.{Drawn, draw, lent, old}
 use Rattle.game.specs.Grid.{Grid, cells, mine, size}
@@ -25,9 +25,10 @@ use Rattle.game.proofs.Rounds.{all_done}
 use Rattle.game.proofs.Runs.{fit_takes, step_tidy}
 use Rattle.game.proofs.Units.{units_at_most_cells, units_untouched}
 use Rattle.original.proofs.Drawing.{Rolls, rolls}
-use Rattle.original.proofs.Loops.{cells_left}
+use Rattle.original.proofs.CellsLeft.{cells_left}
 use Rattle.original.proofs.Lowest.{begin_stands, enough_turns, mines_counted}
 use Rattle.original.proofs.Positions.{Models}
+use Rattle.original.proofs.Least.{least}
 
 -- what zinialg_rng answers for a round that goes on after n clicks
 abbrev told : ℕ → Option Round → Option RngRound
@@ -125,13 +126,6 @@ module _ (g : Grid) (bytes : List ℕ) (few : size g ≤ 65025) (small : Each (�
       (length-replicate (g.columns * g.rows) 0 ∙ mul_comm g.columns g.rows) (enough_turns g) (omega (arith, units_untouched g))
 
   -- ---- rounds one after another
-
-  least : (a b : ℕ) → cond (ltb a b) a b ≡ min b a
-  least a b = go (ltb a b) refl
-    where
-      go : (c : Bool) → ltb a b ≡ c → cond c a b ≡ min b a
-      go true e = omega (arith, ltb→lt a b (rw e tt))
-      go false e = omega (arith, nltb→le a b (rw e tt))
 
   -- what the loop goes on with after a round
   abbrev min_so_far : RngRound → RngRound → RngRound

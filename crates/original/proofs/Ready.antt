@@ -6,55 +6,27 @@ use mathlib.Core.Path.{◌∙◌, ◌≡◌, ap, ap₂, refl, subst, sym}
 use mathlib.Core.Bool.{Bool, ◌&&◌, ◌||◌, cond, false, not, true}
 use lib.Dec.{eqb}
 use lib.IntN.{+ℤ_comm, ◌+ℤ◌, ◌-ℤ◌, neg_ℤ, neg_ℤ-+ℤ, pos, ℤ}
-use lib.ListN.{length}
-use Rattle.game.specs.Grid.{Grid, cells, number, safe, size, square, zero_cell}
+use Rattle.game.specs.Grid.{Grid, cells, number, safe, size, square}
 use Rattle.game.specs.Lists.{bit, count, fold, has, range}
-use Rattle.game.specs.Openings.{first_label, labels, second_label, unlabelled}
-use Rattle.game.specs.Position.{gain, premium, untouched}
+use Rattle.game.specs.Openings.{first_label, second_label}
+use Rattle.game.specs.Position.{premium, untouched}
 use Rattle.original.specs.Cells.{Cells, Zcell, add-premium, around, at, build_cells_ref, getadj3bv, initboard, set_number, set_opening, with_premium}
 use Rattle.original.specs.Entries.{prepared}
-use Rattle.game.proofs.Counts.{count_ext, count_none}
-use Rattle.game.proofs.Labels.{first-label, label_marks, zero_label}
-use Rattle.game.proofs.Ranges.{untouched_cost, untouched_gain}
-use Rattle.game.proofs.Reveal.{no_zero_near}
-use Rattle.game.proofs.Squares.{cells→, close_sym, once_cells, square→, →cells, →square}
+use Rattle.game.proofs.Counts.{count_ext}
+use Rattle.game.proofs.Ranges.{untouched_cost}
+use Rattle.game.proofs.Squares.{cells→, once_cells, →cells}
 use Rattle.game.proofs.Truth.{T→true}
-use Rattle.game.proofs.Zeros.{Zero}
 use Rattle.original.proofs.Built.{built_table}
 use Rattle.original.proofs.Labelling.{labelled_table}
 use Rattle.original.proofs.Numbers.{lined, numbered_table, start}
 use Rattle.original.proofs.Tables.{Celled, Table, cell, celled_cond, count_around, mixed, table_ext, table_fold}
+use Rattle.original.proofs.Adjacent.{adjacent, adjacent_gain}
 
 -- a cell with its number and its labels
 abbrev pub plain : Grid → ℕ → Bool → Bool → ℤ → Zcell
 plain g i o f p = cell g i (number g i) (first_label g i) (second_label g i) o f p
 
--- getadj3bv of a labelled grid
-adjacent : Grid → ℕ → ℕ
-adjacent g i =
-    cond (zero_cell g i) 1
-    (count (λ j. safe g j && eqb (first_label g j) 0) (square g i) + bit (not (eqb (first_label g i) 0)) + bit (not (eqb (second_label g i) 0)))
-
--- ---- it is what a cell gains before any move
-
-adjacent_gain : (g : Grid) (i : ℕ) → i < size g → adjacent g i ≡ gain g (untouched g) i
-unfolding adjacent
-adjacent_gain g i h = go (zero_cell g i) refl ∙ sym (untouched_gain g i h)
-  where
-    go : (b : Bool) → zero_cell g i ≡ b
-        → cond b 1 (count (λ j. safe g j && eqb (first_label g j) 0) (square g i) + bit (not (eqb (first_label g i) 0)) + bit (not (eqb (second_label g i) 0)))
-        ≡ length (labels g i) + count (unlabelled g) (square g i)
-    go true e =
-        let z : Zero g i = record { inside = h; none = rw e tt } in
-        let a = ap length (zero_label g i z) in
-        let b = count_none (unlabelled g) (square g i) (λ j t u.
-        let q = square→ g i j h t in
-        no_zero_near g j i u (→square g j i q.0 h (close_sym g i j q.1)) z) in
-        omega arith
-    go false e =
-        let a = label_marks g i h in
-        let b = count_ext (unlabelled g) (λ j. safe g j && eqb (first_label g j) 0) (square g i) (λ j t. first-label g j) in
-        omega arith
+-- ---- what stands before any move
 
 premium_untouched : (g : Grid) (i : ℕ) → i < size g → start g i +ℤ pos (adjacent g i) ≡ premium g (untouched g) i
 unfolding premium
