@@ -1,32 +1,30 @@
 -- The loop for the highest premium finds the cells of highest premium, the loop to fall back on the closed units; apply_zini takes the first. Assumes nothing.
-use Prim.Native.Nat.{ℕ, ◌+◌, ◌<◌, ◌≤◌}
+use Prim.Native.Nat.{ℕ, ◌<◌}
 use native.Mathlib.Omega.{arith}
-use mathlib.Core.Path.{◌∙◌, ◌≡◌, ap, ap₂, refl, subst, sym}
+use mathlib.Core.Path.{◌∙◌, ◌≡◌, ap, refl, subst, sym}
 use mathlib.Core.Bool.{Bool, ◌&&◌, ◌||◌, cond, false, not, true}
 use mathlib.Core.List.{List, [], ◌++◌, ◌∷◌, map}
 use mathlib.Core.Option.{Option, none, some}
 use lib.Dec.{T, eqb}
 use lib.IntN.{negsuc, pos, ℤ}
 use lib.Signed.{le_z, lt_z}
-use lib.ListN.{length}
 use Rattle.game.specs.Grid.{Grid, cells, safe, same, size, zero_cell}
-use Rattle.game.specs.Lists.{fold, has, keep, range}
+use Rattle.game.specs.Lists.{fold, has, keep}
 use Rattle.game.specs.Openings.{first_label}
-use Rattle.game.specs.Position.{Position, Tidy, closed, closed_safe, opened, premium}
-use Rattle.game.specs.Rounds.{Step, after_step, choice, chords, clicks, closed_unit_cell, highest, least_chosen, looked, step_of, top_cells, unit_cells, width}
+use Rattle.game.specs.Position.{Position, Tidy, closed, opened, premium}
+use Rattle.game.specs.Rounds.{closed_unit_cell, highest, least_chosen, looked, top_cells}
 use Rattle.original.specs.Cells.{Zcell, at}
-use Rattle.original.specs.Play.{State, click}
-use Rattle.original.specs.Rounds.{Best, apply_zini, better, falls_back, first_fall, play_at}
-use Rattle.game.proofs.Choices.{Top, le_z_trans, looked→, never_stuck, top→, unit→, →top}
+use Rattle.original.specs.Play.{State}
+use Rattle.original.specs.Rounds.{Best, better, falls_back, first_fall}
+use Rattle.game.proofs.Choices.{Top, le_z_trans, top→, →top}
 use Rattle.game.proofs.Labels.{first-label}
-use Rattle.game.proofs.Members.{first_of, has_head, has_keep, keep_has, rest_of}
+use Rattle.game.proofs.Members.{first_of, has_keep, keep_has, rest_of}
 use Rattle.game.proofs.Orders.{ordered_keep, ordered_range, ordered_same}
 use Rattle.game.proofs.Squares.{cells→, length_cells}
 use Rattle.game.proofs.Tidy.{tidy_unopened}
 use Rattle.game.proofs.Truth.{T→true, and_both, and_false, and_left, and_right, and_true}
 use Rattle.original.proofs.Positions.{Models}
 use Rattle.original.proofs.Scans.{Scanned, fold_prefix, head_of, head_stays, le_z_same, not_lt, reaches, scanned_higher, scanned_none, scanned_same}
-use Rattle.original.proofs.Turns.{click_stands, turn_stands}
 
 -- ---- the cells of highest premium
 
@@ -118,7 +116,7 @@ module _ (human : Bool) (g : Grid) (s : Position) (n : ℕ) (st : State) (w : Mo
           }
 
   -- the loop comes to the first cell of highest premium
-  best_first : (fold (better human st.cells) (record { maxp = negsuc 0; curi = none }) (cells g)).curi ≡ head_of (top_cells human g s)
+  pub best_first : (fold (better human st.cells) (record { maxp = negsuc 0; curi = none }) (cells g)).curi ≡ head_of (top_cells human g s)
   best_first =
       let r = fold_prefix Bettered (better human st.cells) (size g) (cells g) (λ ps x b t l p. bettered_one ps x b (cells→ g x t) p) [] (record { maxp = negsuc 0; curi = none })
       (omega (arith, length_cells g)) (record { list = []; scan = scanned_none (looks human g s) (premium g s); first = refl }) in
@@ -137,7 +135,7 @@ module _ (human : Bool) (g : Grid) (s : Position) (n : ℕ) (st : State) (w : Mo
           ∙ ap (λ (c : Bool). c && (zero_cell g x || eqb (first_label g x) 0)) (sym (and_true (closed s x)))
       go false e = ap (λ (c : Bool). c && (zero_cell g x || eqb (first_label g x) 0)) (sym (and_false (not (opened s x))))
 
-  first_unit : Tidy g s → (xs : List ℕ) → ((x : ℕ) → T (has x xs) → x < size g) → first_fall st.cells xs ≡ head_of (keep (closed_unit_cell g s) xs)
+  pub first_unit : Tidy g s → (xs : List ℕ) → ((x : ℕ) → T (has x xs) → x < size g) → first_fall st.cells xs ≡ head_of (keep (closed_unit_cell g s) xs)
   first_unit f [] h = refl
   first_unit f (x ∷ xs) h =
       ap (λ (b : Bool). elim b as (λ z. Option ℕ) [ true ↦ some x | false ↦ first_fall st.cells xs ]) (falls_unit f x (first_of x xs h))
@@ -147,46 +145,3 @@ module _ (human : Bool) (g : Grid) (s : Position) (n : ℕ) (st : State) (w : Mo
           → ◌≡◌ {A = Option ℕ} (elim b [ true ↦ some x | false ↦ first_fall st.cells xs ]) (head_of (elim b [ true ↦ x ∷ keep (closed_unit_cell g s) xs | false ↦ keep (closed_unit_cell g s) xs ]))
       go true e = refl
       go false e = e
-
-  -- ---- apply_zini
-
-  -- what a step comes to
-  pub record Applies (t : Step) : Type 0 where
-    pub done : State
-    pub is_some : apply_zini g.rows human st ≡ some done
-    pub stands : Models g (after_step g s t) (n + length t.moves) done
-
-  -- while a safe cell is closed it takes the step at the lowest index
-  pub applies : Tidy g s → 1 ≤ closed_safe g s → Applies (step_of g s (choice human g s) 0)
-  unfolding apply_zini choice unit_cells
-  applies f c = go (top_cells human g s) (unit_cells g s) refl refl (never_stuck human g s f c)
-    where
-      by : Option ℕ → Option ℕ → Option State
-      by a b =
-          elim a [
-            | some i ↦ some (play_at g.rows st i)
-            | none ↦ elim b [ some i ↦ some (click g.rows st i) | none ↦ none ]
-          ]
-
-      finds : apply_zini g.rows human st ≡ by (head_of (top_cells human g s)) (head_of (unit_cells g s))
-      finds =
-          ap (λ (l : ℕ). by (fold (better human st.cells) (record { maxp = negsuc 0; curi = none }) (range 0 l)).curi (first_fall st.cells (range 0 l))) w.board.long
-          ∙ ap₂ by best_first (first_unit f (cells g) (cells→ g))
-
-      go : (ts us : List ℕ) → top_cells human g s ≡ ts → unit_cells g s ≡ us → 1 ≤ width (elim ts [ [] ↦ clicks us | x ∷ xs ↦ chords (x ∷ xs) ])
-          → Applies (step_of g s (elim ts [ [] ↦ clicks us | x ∷ xs ↦ chords (x ∷ xs) ]) 0)
-      go [] [] e d l = absurd (omega arith)
-      go [] (u ∷ us) e d l =
-          let v = unit→ g s u (rw d (has_head u u us refl)) in
-          record {
-            done = click g.rows st u;
-            is_some = finds ∙ ap₂ (λ a b. by (head_of a) (head_of b)) e d;
-            stands = click_stands g s n st u v.inside v.is_safe f w;
-          }
-      go (x ∷ xs) us e d l =
-          let v = looked→ human g s x (top→ human g s x (rw e (has_head x x xs refl))).is_looked in
-          record {
-            done = play_at g.rows st x;
-            is_some = finds ∙ ap₂ (λ a b. by (head_of a) (head_of b)) e d;
-            stands = turn_stands g s n st x v.0 v.1 f w;
-          }

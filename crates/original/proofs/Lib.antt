@@ -13,11 +13,14 @@ pub mod Sweeps
 pub mod Turns
 pub mod Scans
 pub mod Choosing
+pub mod Applying
 pub mod CellsLeft
 pub mod Loops
 pub mod Hits
 pub mod Lowest
 pub mod Rolls
+pub mod Gathering
+pub mod Gathered
 pub mod Drawing
 pub mod Least
 pub mod Randoms

@@ -17,7 +17,7 @@ use Rattle.original.specs.Rounds.{apply_zini, zini_loop}
 use Rattle.game.proofs.Choices.{never_stuck}
 use Rattle.game.proofs.Rounds.{all_done, steps_none}
 use Rattle.game.proofs.Runs.{choice_fits, fit_takes, step_tidy}
-use Rattle.original.proofs.Choosing.{applies}
+use Rattle.original.proofs.Applying.{applies}
 use Rattle.original.proofs.Positions.{Models}
 use Rattle.original.proofs.CellsLeft.{cells_left}
 
