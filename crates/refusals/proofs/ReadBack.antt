@@ -1,4 +1,4 @@
--- A refusal is read back from its number and what it names, so there is only one verdict of checks, and an answer's enum is read back from its number and values. Assumes nothing.
+-- A refusal is read back from its number and what it names, so there is only one verdict of checks, and what a call answers is read back from its number and values. Assumes nothing.
 use Prim.Native.Nat.{ℕ, ◌≤◌}
 use native.Mathlib.Omega.{arith}
 use mathlib.Core.Path.{◌≡◌, ap, refl, sym, ◌∙◌}
@@ -12,11 +12,10 @@ use lib.ListN.{get_or, length}
 use Rattle.game.specs.Calls.{Answer, board, draws, file_wrong, frame, key_blank, move, named_by, number_wrong, number_of, refuses, rounds, shape, size_over, trace, work}
 use Rattle.game.specs.Calls as Game
 use Rattle.game.proofs.Checks.{numbered}
-use Rattle.refusals.specs.Names.{named, refusal_of}
+use Rattle.std.specs.Prelude.{Result, Ok, Err}
+use Rattle.refusals.specs.Names.{answer_of, named, refusal_of}
 use Rattle.refusals.specs.declared.Refusal.{Refusal}
 use Rattle.refusals.specs.declared.Refusal.TheVariants.{Shape, Board, Work, Trace, Rounds, Draws, Move, Frame, Size, File, Number, Key}
-use Rattle.refusals.specs.declared.Checked.{Checked}
-use Rattle.refusals.specs.declared.Checked.TheVariants.{Fine, Refused}
 
 -- the refusal of an answer
 abbrev pub refusal_by : Answer → Refusal
@@ -55,22 +54,30 @@ names_one (number_wrong cell) = omega arith
 names_one key_blank = omega arith
 
 -- the checks' verdict: the refusal determines it
-pub checked_once : (o : Option Game.Refusal) (r r' : Checked) → refusal_of r ≡ o → refusal_of r' ≡ o → r ≡ r'
+pub checked_once : (o : Option Game.Refusal) (r r' : Result Unit Refusal) → refusal_of r ≡ o → refusal_of r' ≡ o → r ≡ r'
 checked_once o r r' e e' = LeftInverse-Injective checked_by refusal_of back r r' (e ∙ sym e')
   where
-    checked_by : Option Game.Refusal → Checked
-    checked_by none = Fine
-    checked_by (some f) = Refused (refusal_by (refuses f))
+    checked_by : Option Game.Refusal → Result Unit Refusal
+    checked_by none = Ok tt
+    checked_by (some f) = Err (refusal_by (refuses f))
 
-    back : (r : Checked) → checked_by (refusal_of r) ≡ r
-    back Fine = refl
-    back (Refused f) = ap Refused (number_back f)
+    back : (r : Result Unit Refusal) → checked_by (refusal_of r) ≡ r
+    back (Ok x) = refl
+    back (Err f) = ap Err (number_back f)
 
--- an enum from an answer: success by its values, a refusal by its number and what it names
-abbrev pub read_back : {A : Type 0} → (List ℕ → A) → (Refusal → A) → Answer → A
-read_back given refused a = cond (eqb a.number 0) (given a.values) (refused (refusal_by a))
+-- what a call answers, from its number and values: success by the values, a refusal by its number and what it names
+abbrev pub read_back : {A E : Type 0} → (List ℕ → A) → (Refusal → E) → Answer → Result A E
+read_back given refused a = cond (eqb a.number 0) (Ok (given a.values)) (Err (refused (refusal_by a)))
 
-pub refused_back : {A : Type 0} (given : List ℕ → A) (refused : Refusal → A) (f : Refusal) → read_back given refused (refuses (named f)) ≡ refused f
+pub refused_back : {A E : Type 0} (given : List ℕ → A) (refused : Refusal → E) (f : Refusal) → read_back given refused (refuses (named f)) ≡ Err (refused f)
 refused_back given refused f =
     let h = numbered (named f) in
-    ap (λ (b : Bool). cond b (given (refuses (named f)).values) (refused (refusal_by (refuses (named f))))) (ne_eqb (number_of (named f)) 0 (λ e. omega arith)) ∙ ap refused (number_back f)
+    ap (λ (b : Bool). cond b (Ok (given (refuses (named f)).values)) (Err (refused (refusal_by (refuses (named f)))))) (ne_eqb (number_of (named f)) 0 (λ e. omega arith)) ∙ ap (λ (x : Refusal). Err (refused x)) (number_back f)
+
+-- an answer determines what was given or the refusal, where what is given is read back from its values
+pub answer_same : {A : Type 0} (values : A → List ℕ) (given : List ℕ → A) → ((x : A) → given (values x) ≡ x) → (r r' : Result A Refusal) → answer_of values r ≡ answer_of values r' → r ≡ r'
+answer_same {A} values given back = LeftInverse-Injective (read_back given (λ (f : Refusal). f)) (answer_of values) whole
+  where
+    whole : (r : Result A Refusal) → read_back given (λ (f : Refusal). f) (answer_of values r) ≡ r
+    whole (Ok x) = ap Ok (back x)
+    whole (Err f) = refused_back given (λ (f : Refusal). f) f

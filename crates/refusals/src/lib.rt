@@ -6,7 +6,7 @@ ghost use Rattle.game.specs.Calls.{number_of};
 ghost use Rattle.refusals.specs.Names.{named};
 
 // A refusal by its name; NUMBER names the lowest cell at fault.
-#[derive(Clone, Copy)]
+#[derive(Clone, Copy, Debug, PartialEq, Eq)]
 pub enum Refusal {
     Shape,
     Board,
@@ -20,13 +20,6 @@ pub enum Refusal {
     File,
     Number(usize),
     Key,
-}
-
-// What checks say.
-#[derive(Clone, Copy)]
-pub enum Checked {
-    Fine,
-    Refused(Refusal),
 }
 
 // A refusal's number.
