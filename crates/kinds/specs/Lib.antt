@@ -1,0 +1,2 @@
+-- The numbers of kinds and endings.
+pub mod Numbers
