@@ -64,6 +64,12 @@ wrong_as (Digit v) = false
 wrong_as End = true
 wrong_as Wrong = true
 
+-- no digit: worth 0, and wrong
+pub no_digit : (k : Character) → ((v : ℕ) → k ≡ Digit v → ⊥) → (value_as k ≡ 0) × (wrong_as k ≡ true)
+no_digit (Digit v) h = absurd (h v refl)
+no_digit End h = (refl, refl)
+no_digit Wrong h = (refl, refl)
+
 pub character_value : (b : ℕ) → value_as (character_of b) ≡ hex_value b
 unfolding character_of hex_value
 character_value b = go (is_decimal b) (is_letter b) (eqb b 10)
@@ -88,6 +94,11 @@ abbrev pub end_as : Character → Bool
 end_as (Digit v) = false
 end_as End = true
 end_as Wrong = false
+
+pub no_end : (k : Character) → (k ≡ End → ⊥) → end_as k ≡ false
+no_end (Digit v) h = refl
+no_end End h = absurd (h refl)
+no_end Wrong h = refl
 
 pub character_end : (b : ℕ) → end_as (character_of b) ≡ eqb b 10
 unfolding character_of

@@ -8,7 +8,7 @@ ghost use Rattle.hex_digits.specs.Hex.{byte_digits, bytes_of, hex_digit, hex_val
 ghost use Rattle.hex_digits.specs.Characters.{character_of};
 
 // What one byte of a line is.
-#[derive(Drop)]
+#[derive(Clone, Copy, Debug, PartialEq, Eq)]
 pub enum Character {
     Digit(usize),
     End,
@@ -31,35 +31,23 @@ pub fn character_of(byte: u8) -> Character
 pub fn is_wrong(byte: u8) -> bool
     ensures { result ≡ is_wrong byte }
 {
-    let character = character_of(byte);
-    match character {
-        Character::Digit(_) => false,
-        Character::End => true,
-        Character::Wrong => true,
-    }
+    !matches!(character_of(byte), Character::Digit(_))
 }
 
 // Whether a byte ends a line.
 pub fn is_end(byte: u8) -> bool
     ensures { result ≡ eqb byte 10 }
 {
-    let character = character_of(byte);
-    match character {
-        Character::Digit(_) => false,
-        Character::End => true,
-        Character::Wrong => false,
-    }
+    matches!(character_of(byte), Character::End)
 }
 
 // The value of a digit; 0 for a wrong byte.
 pub fn value_of(byte: u8) -> usize
     ensures { (result ≡ hex_value byte) × (result < 16) }
 {
-    let character = character_of(byte);
-    match character {
+    match character_of(byte) {
         Character::Digit(value) => value,
-        Character::End => 0,
-        Character::Wrong => 0,
+        _ => 0,
     }
 }
 
