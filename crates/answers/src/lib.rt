@@ -1,48 +1,47 @@
-// What the public calls answer, each an enum.
+// What the public calls give where they refuse nothing: 3BV and clicks are a number alone, the early count is yes or no.
 #![tactic(auto)]
 
+ghost use Rattle.std.specs.Prelude.{◌≡◌};
+ghost use Rattle.answers.specs.declared.Unplayed.TheVariants as Unplays;
+
 use keys::Key;
+use kinds::Ending;
 use refusals::Refusal;
 
-// What the 3BV count answers.
-#[derive(Clone, Copy)]
-pub enum Counted {
-    Units(usize),
-    Refused(Refusal),
+// What a replay gives: moves made, safe cells still closed and the ending.
+#[derive(Clone, Copy, Debug, PartialEq, Eq)]
+pub struct Played {
+    pub made: usize,
+    pub closed: usize,
+    pub ending: Ending,
 }
 
-// What the early count answers: whether there are so many units.
-#[derive(Clone, Copy)]
-pub enum Judged {
-    Enough(bool),
-    Refused(Refusal),
-}
-
-// What a replay answers: moves made, safe cells still closed and the ending (0 unfinished, 1 won, 2 lost), or the place of the bad move.
-#[derive(Clone, Copy)]
-pub enum Replayed {
-    Played(usize, usize, usize),
+// Why a replay gives nothing: the place of the bad move, or a refusal.
+#[derive(Clone, Copy, Debug, PartialEq, Eq)]
+pub enum Unplayed {
     Move(usize),
     Refused(Refusal),
 }
 
-// What a greedy or openings-first round answers.
-#[derive(Clone, Copy)]
-pub enum Priced {
-    Clicks(usize),
-    Refused(Refusal),
+impl From<Refusal> for Unplayed {
+    ghost from_gives = { λ refusal unplayed. unplayed ≡ Unplays.Refused refusal };
+
+    fn from(refusal: Refusal) -> Unplayed {
+        Unplayed::Refused(refusal)
+    }
 }
 
-// What a random round or search answers: clicks and draw bytes used.
-#[derive(Clone, Copy)]
-pub enum Rolled {
-    Clicks(usize, usize),
-    Refused(Refusal),
+// What a random round or search gives: clicks and draw bytes used.
+#[derive(Clone, Copy, Debug, PartialEq, Eq)]
+pub struct Roll {
+    pub clicks: usize,
+    pub used: usize,
 }
 
-// What a keyed round or search answers: clicks, draw bytes used, and the key after it.
+// What a keyed round or search gives: clicks, draw bytes used, and the key after it.
 #[derive(Clone, Copy)]
-pub enum KeyRolled {
-    Clicks(usize, usize, Key),
-    Refused(Refusal),
+pub struct KeyRoll {
+    pub clicks: usize,
+    pub used: usize,
+    pub key: Key,
 }
