@@ -12,7 +12,7 @@ use lib.Seq.{get_or-set_other, get_or-set_same}
 use Rattle.area.specs.Numbers.{HasCells, first_at, first_place, content_at, natural, waiting_at, waiting_place}
 use Rattle.game.specs.Grid.{Grid, size}
 use Rattle.labels.specs.Labels.{free_of, fresh_cell}
-use Rattle.labels.specs.Spread.{Change, ClearFrom, OpeningLabelled, Reach, Shut, here}
+use Rattle.labels.specs.Spread.{Change, ClearFrom, Reach, Shut, here}
 use Rattle.waiting.specs.Waits.{InSquare, Newly, Pushed, Visitable, Waited, Waiting}
 use Rattle.game.proofs.Squares.{in-own-square, square→}
 use Rattle.labels.proofs.Changes.{change_from, content_stays, contents_stay, reach_last, reach_trans, side_then, stays, then_side, trans_change}
@@ -112,17 +112,6 @@ module _ (g : Grid) (op : ℕ) (o : 1 ≤ op) (i : ℕ) where
           | yes d ↦ rw (d, q1) (get_or-set_same w (waiting_place s) (pos 0) (pos 0) (omega arith))
           | no d ↦ wait_same t d ∙ p.clear c t (omega (arith, v.grows)) h
         ];
-      }
-
-  -- none waits
-  pub spread_last : (w₀ w : List ℤ) (top : ℕ) → top ≤ 0 → Spreading g (content_at w₀) op i w₀ w top → OpeningLabelled g (content_at w₀) op i w₀ w
-  spread_last w₀ w top h p =
-      record {
-        change = p.change;
-        closed = λ x hx z a b y t. ⊎_elim (λ m. absurd (omega (arith, m.below))) (λ m. m y t)
-            (p.closed x (record { inside = hx; zero-cell = z; before = a; after = b }));
-        self = p.self;
-        clear = λ c t a l. p.clear c t (omega arith) l;
       }
 
   -- ---- the cell taken

@@ -41,14 +41,12 @@ fn visit_row(
     ensures { Pushed (shaped rows columns) (content_at work.old) op index
         (InRow (shaped rows columns) index row) work.old top work.new result }
 {
-    let mut column = area::lower(index / rows);
-    let end = area::upper(index / rows, columns);
+    let own = index / rows;
     let mut waiting = top;
-    while column < end {
+    for column in own.saturating_sub(1)..(own + 2).min(columns) {
         let at = column * rows + row;
         border(work, rows * columns, at, op);
         waiting = wait(work, rows * columns, op, at, waiting);
-        column += 1;
     }
     waiting
 }
@@ -67,12 +65,10 @@ fn visit_square(
     ensures { Pushed (shaped rows columns) (content_at work.old) op index
         (InSquare (shaped rows columns) index) work.old top work.new result }
 {
-    let mut row = area::lower(index % rows);
-    let end = area::upper(index % rows, rows);
+    let own = index % rows;
     let mut waiting = top;
-    while row < end {
+    for row in own.saturating_sub(1)..(own + 2).min(rows) {
         waiting = visit_row(work, rows, columns, op, index, row, waiting);
-        row += 1;
     }
     waiting
 }
@@ -85,6 +81,7 @@ pub fn spread(work: &mut [i32], rows: usize, columns: usize, op: usize, index: u
         work.old work.new }
 {
     let mut top = wait(work, rows * columns, op, index, 0);
+    // A while: a visit sets `top` anew, which no `for` says.
     while 0 < top {
         top -= 1;
         let at = area::waiting(work, top);

@@ -1,14 +1,9 @@
--- `waiting::visit_row`: the cells of the row before the column are visited; the columns left fall. Assumes nothing.
+-- `waiting::visit_row`: the cells of the row before the column are visited. Assumes nothing.
 use Rattle.area.specs.Numbers.{content_at}
-use Prim.Native.Nat.{◌-◌, ◌≤◌}
 use Rattle.labels.specs.Labels.{shaped}
 use Rattle.waiting.specs.Waits.{InRowBefore, Pushed}
 use Rattle.waiting.proofs.visit_row.Given as goal
 
 abbrev pub invariant-loop-column : goal.invariant-loop-column
 invariant-loop-column l =
-    (l.initial.column ≤ l.column)
-    × Pushed (shaped l.rows l.columns) (content_at l.initial.work) l.op l.index (InRowBefore (shaped l.rows l.columns) l.index l.row l.column) l.initial.work l.top l.work l.waiting
-
-abbrev pub decreases-loop-column : goal.decreases-loop-column
-decreases-loop-column l = l.end - l.column
+    Pushed (shaped l.rows l.columns) (content_at l.initial.work) l.op l.index (InRowBefore (shaped l.rows l.columns) l.index l.row l.column) l.initial.work l.top l.work l.waiting
