@@ -1,13 +1,12 @@
--- A run with new entries written from its start: one entry more, the copy cut at the least length, and what stands where. Assumes nothing.
+-- A run with new entries written from its start: its length, where there is room, and one entry more. Assumes nothing.
 use mathlib.Core.Path.{◌≡◌, refl, ap}
-use mathlib.Core.Logic.{◌⊎◌, inl, inr}
 use Prim.Native.Nat.{ℕ, zero, suc, ◌+◌, ◌<◌, ◌≤◌}
 use native.Mathlib.Numerals.{add-one}
 use native.Mathlib.Nat.{le_of_suc-le-suc, not-suc-le-zero}
 use mathlib.Core.List.{List, [], ◌∷◌, map}
 use lib.ListN.{length, take, set, get_or}
 use Rattle.game.specs.Area.{begun}
-use Rattle.records.specs.Records.{Least, over}
+use Rattle.records.specs.Records.{over}
 
 pub length_over : {A : Type 0} (xs ys : List A) → length (over xs ys) ≡ length ys
 length_over [] ys = refl
@@ -19,16 +18,6 @@ pub over_begun : {A : Type 0} (xs ys : List A) → length xs ≤ length ys → o
 over_begun [] ys h = refl
 over_begun (x ∷ xs) [] h = absurd (not-suc-le-zero h)
 over_begun (x ∷ xs) (y ∷ ys) h = ap (λ (l : List _). x ∷ l) (over_begun xs ys (le_of_suc-le-suc h))
-
-none_left : {a b c : ℕ} → (suc a ≤ 0) ⊎ ((suc b ≤ 0) ⊎ (suc c ≤ 0)) → ⊥
-none_left (inl h) = not-suc-le-zero h
-none_left (inr (inl h)) = not-suc-le-zero h
-none_left (inr (inr h)) = not-suc-le-zero h
-
-one_less : {a b c n : ℕ} → (suc a ≤ suc n) ⊎ ((suc b ≤ suc n) ⊎ (suc c ≤ suc n)) → (a ≤ n) ⊎ ((b ≤ n) ⊎ (c ≤ n))
-one_less (inl h) = inl (le_of_suc-le-suc h)
-one_less (inr (inl h)) = inr (inl (le_of_suc-le-suc h))
-one_less (inr (inr h)) = inr (inr (le_of_suc-le-suc h))
 
 module _ {A B : Type 0} (f : A → B) (d : A) where
   -- the entries of the first n
@@ -46,18 +35,3 @@ module _ {A B : Type 0} (f : A → B) (d : A) where
   -- the same where the run so far and the entry are given by equations
   pub over_next : (k : ℕ) (xs : List A) (ys zs : List B) (y : B) → k < length xs → zs ≡ over (firsts k xs) ys → y ≡ f (get_or xs k d) → set zs k y ≡ over (firsts (k + 1) xs) ys
   over_next k xs ys zs y h e e' = rw (add-one, e, e') (over_more k xs ys h)
-
-  -- a copy that reaches the count, or the end of either, is the whole copy
-  over_reached : (n count : ℕ) (xs : List A) (ys : List B) → n ≤ count → (count ≤ n) ⊎ ((length xs ≤ n) ⊎ (length ys ≤ n)) → over (firsts n xs) ys ≡ over (firsts count xs) ys
-  over_reached zero zero xs ys h r = refl
-  over_reached zero (suc count) [] ys h r = refl
-  over_reached zero (suc count) (x ∷ xs) [] h r = refl
-  over_reached zero (suc count) (x ∷ xs) (y ∷ ys) h r = absurd (none_left r)
-  over_reached (suc n) zero xs ys h r = absurd (not-suc-le-zero h)
-  over_reached (suc n) (suc count) [] ys h r = refl
-  over_reached (suc n) (suc count) (x ∷ xs) [] h r = refl
-  over_reached (suc n) (suc count) (x ∷ xs) (y ∷ ys) h r = ap (λ (l : List B). f x ∷ l) (over_reached n count xs ys (le_of_suc-le-suc h) (one_less r))
-
-  -- the copy that stops at the least of the count and both lengths
-  pub over_least : (count n : ℕ) (xs : List A) (ys : List B) → Least count (length xs) (length ys) n → over (firsts n xs) ys ≡ over (firsts count xs) ys
-  over_least count n xs ys h = over_reached n count xs ys h.at_most_count h.reaches

@@ -1,5 +1,5 @@
 -- Move records (RULES 6.4), and the flat moves that they stand for: a word is kind x 65536 + index, an index column x rows + row. Assumes nothing.
-use Rattle.std.specs.Prelude.{ℕ, ◌+◌, ◌*◌, ◌/◌, ◌%◌, ◌≤◌, Bool, ◌&&◌, cond, List, [], ◌∷◌, ◌⊎◌, leb, ltb}
+use Rattle.std.specs.Prelude.{ℕ, ◌+◌, ◌*◌, ◌/◌, ◌%◌, Bool, ◌&&◌, cond, List, [], ◌∷◌, leb, ltb}
 use Rattle.records.specs.declared.MoveRecord.{MoveRecord}
 
 -- the record of zeros, which is no move
@@ -27,10 +27,3 @@ abbrev pub over {ℓ} : {A : Type ℓ} → List A → List A → List A
 over [] run = run
 over (x ∷ xs) [] = []
 over (x ∷ xs) (y ∷ run) = x ∷ over xs run
-
--- the least of three numbers
-pub record Least (count from to n : ℕ) : Type 0 where
-  pub at_most_count : n ≤ count
-  pub at_most_from : n ≤ from
-  pub at_most_to : n ≤ to
-  pub reaches : (count ≤ n) ⊎ ((from ≤ n) ⊎ (to ≤ n))

@@ -1,11 +1,11 @@
 // Moves as records with kind, row and column, in lent runs that are equal to the flat list.
 #![tactic(auto)]
 
-ghost use Rattle.std.specs.Prelude.{◌≡◌, map, ◌<◌, length, get_or, set, take};
-ghost use Rattle.records.specs.Records.{no_move, record_of, move_word, Least, over};
+ghost use Rattle.std.specs.Prelude.{◌≡◌, map, get_or, set, take};
+ghost use Rattle.records.specs.Records.{no_move, record_of, move_word, over};
 
-// A move: its kind, and the row and column of its cell.
-#[derive(Clone, Copy)]
+// A move: its kind, and the row and column of its cell; by default no move.
+#[derive(Clone, Copy, Debug, Default, PartialEq, Eq)]
 pub struct MoveRecord {
     pub kind: u32,
     pub row: u32,
@@ -51,42 +51,19 @@ pub fn word_of(played: MoveRecord, rows: usize) -> u32
     played.kind * 65536 + (played.column * (rows as u32) + played.row)
 }
 
-// The record of word k of a flat list.
-pub(crate) fn record_at(list: &[u32], k: usize, rows: usize) -> MoveRecord
-    requires { k < length list.now }
-    ensures { result ≡ record_of rows (get_or list.now k 0) }
-{
-    record_of(list[k], rows)
-}
-
-// The least of three numbers.
-pub(crate) fn least(count: usize, from: usize, to: usize) -> usize
-    ensures { Least count from to result }
-{
-    if to < count {
-        if from < to {
-            return from;
-        }
-        return to;
-    }
-    if from < count {
-        return from;
-    }
-    count
-}
-
 // Record k of a lent run; past its end no move.
 pub fn read_record(run: &[MoveRecord], k: usize) -> MoveRecord
     ensures { result ≡ get_or run.now k no_move }
 {
-    if k < run.len() {
-        run[k]
-    } else {
-        MoveRecord {
-            kind: 0,
-            row: 0,
-            column: 0,
-        }
+    run.get(k).copied().unwrap_or_default()
+}
+
+// An entry is written at place k of a lent list; past its end nothing changes.
+fn write<T: Copy>(list: &mut [T], k: usize, entry: T)
+    ensures { list.new ≡ set list.old k entry }
+{
+    if k < list.len() {
+        list[k] = entry;
     }
 }
 
@@ -94,28 +71,17 @@ pub fn read_record(run: &[MoveRecord], k: usize) -> MoveRecord
 pub fn write_record(run: &mut [MoveRecord], k: usize, played: MoveRecord)
     ensures { run.new ≡ set run.old k played }
 {
-    if k < run.len() {
-        run[k] = played;
-    }
-}
-
-// The word of record k of a lent run.
-pub(crate) fn word_at(run: &[MoveRecord], k: usize, rows: usize) -> u32
-    ensures { result ≡ move_word rows (get_or run.now k no_move) }
-{
-    word_of(read_record(run, k), rows)
+    write(run, k, played);
 }
 
 // The first words of a list as records of a lent run, as far as both go; the rest of the run is unchanged.
 pub fn records_of(run: &mut [MoveRecord], list: &[u32], count: usize, rows: usize)
     ensures { run.new ≡ over (map (record_of rows) (take count list.now)) run.old }
 {
-    let n = least(count, list.len(), run.len());
-    let mut k = 0;
-    while k < n {
-        let played = record_at(list, k, rows);
-        write_record(run, k, played);
-        k = k + 1;
+    let words = &list[..count.min(list.len())];
+    // No zip of both: of the records behind an adapter no loop knows what they become.
+    for (k, &word) in words.iter().enumerate() {
+        write_record(run, k, record_of(word, rows));
     }
 }
 
@@ -123,11 +89,8 @@ pub fn records_of(run: &mut [MoveRecord], list: &[u32], count: usize, rows: usiz
 pub fn words_of(list: &mut [u32], run: &[MoveRecord], count: usize, rows: usize)
     ensures { list.new ≡ over (map (move_word rows) (take count run.now)) list.old }
 {
-    let n = least(count, run.len(), list.len());
-    let mut k = 0;
-    while k < n {
-        let word = word_at(run, k, rows);
-        list[k] = word;
-        k = k + 1;
+    let records = &run[..count.min(run.len())];
+    for (k, &played) in records.iter().enumerate() {
+        write(list, k, word_of(played, rows));
     }
 }
