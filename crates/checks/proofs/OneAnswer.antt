@@ -12,11 +12,12 @@ use Rattle.game.specs.Grid.{Grid, size}
 use Rattle.game.specs.Keys.{Key}
 use Rattle.game.specs.Calls.{Check, Refusal, board_checks, first_given, grid_checks, key_check, work_check}
 use Rattle.refusals.specs.Names.{refusal_of}
-use Rattle.refusals.specs.declared.Checked.{Checked}
+use Rattle.std.specs.Prelude.{Result}
+use Rattle.refusals.specs.declared.Refusal as Refusals
 use Rattle.refusals.proofs.ReadBack.{checked_once}
 
 -- the board's checks
-pub board_checked_once : (rows columns board : ℕ) (r r' : Checked)
+pub board_checked_once : (rows columns board : ℕ) (r r' : Result Unit Refusals.Refusal)
     → ((vs : List ℤ) → length vs ≡ board → refusal_of r ≡ first_given (board_checks (grid_of rows columns vs)))
     → ((vs : List ℤ) → length vs ≡ board → refusal_of r' ≡ first_given (board_checks (grid_of rows columns vs))) → r ≡ r'
 board_checked_once rows columns board r r' k k' =
@@ -25,7 +26,7 @@ board_checked_once rows columns board r r' k k' =
     checked_once (first_given (board_checks (grid_of rows columns vs))) r r' (k vs long) (k' vs long)
 
 -- the work area's check
-pub work_checked_once : (cells area : ℕ) (r r' : Checked)
+pub work_checked_once : (cells area : ℕ) (r r' : Result Unit Refusals.Refusal)
     → ((g : Grid) (ws : List ℤ) → size g ≡ cells → length ws ≡ area → refusal_of r ≡ first_given (work_check g ws ∷ []))
     → ((g : Grid) (ws : List ℤ) → size g ≡ cells → length ws ≡ area → refusal_of r' ≡ first_given (work_check g ws ∷ [])) → r ≡ r'
 work_checked_once cells area r r' k k' =
@@ -35,7 +36,7 @@ work_checked_once cells area r r' k k' =
     checked_once (first_given (work_check g ws ∷ [])) r r' (k g ws (omega arith) wide) (k' g ws (omega arith) wide)
 
 -- both
-pub lengths_once : (rows columns board area : ℕ) (r r' : Checked)
+pub lengths_once : (rows columns board area : ℕ) (r r' : Result Unit Refusals.Refusal)
     → ((vs ws : List ℤ) → length vs ≡ board → length ws ≡ area → refusal_of r ≡ first_given (grid_checks (grid_of rows columns vs) ws))
     → ((vs ws : List ℤ) → length vs ≡ board → length ws ≡ area → refusal_of r' ≡ first_given (grid_checks (grid_of rows columns vs) ws)) → r ≡ r'
 lengths_once rows columns board area r r' k k' =
@@ -46,7 +47,7 @@ lengths_once rows columns board area r r' k k' =
     checked_once (first_given (grid_checks (grid_of rows columns vs) ws)) r r' (k vs ws long wide) (k' vs ws long wide)
 
 -- the key's check, after others
-pub key_checked_once : (checked : Checked) (k : Key) (r r' : Checked) → ((cs : List Check) → refusal_of checked ≡ first_given cs → refusal_of r ≡ first_given (cs ++ key_check k ∷ []))
+pub key_checked_once : (checked : Result Unit Refusals.Refusal) (k : Key) (r r' : Result Unit Refusals.Refusal) → ((cs : List Check) → refusal_of checked ≡ first_given cs → refusal_of r ≡ first_given (cs ++ key_check k ∷ []))
     → ((cs : List Check) → refusal_of checked ≡ first_given cs → refusal_of r' ≡ first_given (cs ++ key_check k ∷ [])) → r ≡ r'
 key_checked_once checked k r r' h h' =
     let cs = giving (refusal_of checked) in

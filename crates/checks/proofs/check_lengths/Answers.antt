@@ -1,23 +1,17 @@
--- `checks::check_lengths`: the board's refusal, or the work area's. Assumes nothing.
+-- `checks::check_lengths`: the work area's check, where the board passes. Assumes nothing.
 use mathlib.Core.Path.{◌≡◌, ap, sym, ◌∙◌}
 use mathlib.Core.List.{[], ◌∷◌}
 use mathlib.Core.Option.{none}
 use Rattle.game.specs.Calls.{board_checks, first_given, work_check}
 use Rattle.area.specs.Numbers.{grid_of}
 use Rattle.refusals.specs.Names.{refusal_of}
-use Rattle.checks.proofs.More.{first_stands, last_decides}
+use Rattle.checks.proofs.More.{last_decides}
 use Rattle.checks.proofs.Verdict.{passed_board}
 use Rattle.checks.proofs.check_lengths.Goals as goal
 
-pub returns-in-Refused : goal.returns-in-Refused
-returns-in-Refused c = λ vs ws board area.
+pub returns : goal.returns
+returns c = λ vs ws board area.
     let a = c.args in
     let g = grid_of a.rows a.columns vs in
-    first_stands (board_checks g) (work_check g ws ∷ []) _ (ap refusal_of (sym c.in-Refused.is) ∙ c.check_board-checked.ensures vs board)
-
-pub returns-in-Fine : goal.returns-in-Fine
-returns-in-Fine c = λ vs ws board area.
-    let a = c.args in
-    let g = grid_of a.rows a.columns vs in
-    let fine : none ≡ first_given (board_checks g) = sym (ap refusal_of c.in-Fine.is) ∙ c.check_board-checked.ensures vs board in
+    let fine : none ≡ first_given (board_checks g) = sym (ap refusal_of c.in_ok-check_board.was) ∙ c.check_board.ensures vs board in
     c.check_work.ensures g ws (sym (passed_board g (sym fine)).whole ∙ board) area ∙ last_decides (board_checks g) (work_check g ws ∷ []) fine
