@@ -18,12 +18,6 @@ use Rattle.area.specs.Squares.{Neighbour, near_cell, on_grid, side}
 use Rattle.area.specs.Stages.{Shape}
 
 module _ (rows columns : ℕ) (s : Shape rows columns) where
-  -- no neighbour there
-  pub off_grid : (i d e : ℕ) → ((y : ℕ) → y < rows * columns → y % rows + 1 ≡ i % rows + d → y / rows + 1 ≡ i / rows + e → ⊥)
-      → Neighbour (grid_of rows columns []) i d e (rows * columns)
-  off_grid i d e f =
-      record { row = λ h. absurd (omega arith); column = λ h. absurd (omega arith); found = λ y h a b. absurd (f y h a b) }
-
   -- the neighbour in row r and column c, both counted from 1
   pub on-grid : (i d e r c : ℕ) → r ≡ i % rows + d → c ≡ i / rows + e → 1 ≤ r → r ≤ rows → 1 ≤ c → c ≤ columns
       → Neighbour (grid_of rows columns []) i d e ((c - 1) * rows + (r - 1))
@@ -37,9 +31,6 @@ module _ (rows columns : ℕ) (s : Shape rows columns) where
             let q : c - 1 ≡ y / rows = omega arith in
             rw (p, q) (index_of g y);
       }
-
-  pub near_below : (r c : ℕ) → 1 ≤ r → r ≤ rows → 1 ≤ c → c ≤ columns → (c - 1) * rows + (r - 1) < rows * columns
-  near_below r c r1 rn c1 cn = index-lt (grid_of rows columns []) (r - 1) (c - 1) (omega arith) (omega arith)
 
 -- ---- the three rows or columns
 

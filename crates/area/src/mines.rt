@@ -9,8 +9,7 @@ fn mine_at(grid: &[i32], at: usize) -> bool
     requires { at < length grid.now }
     ensures { result ≡ is_mine (get_or grid.now at (pos 0)) }
 {
-    let v = grid[at];
-    v == -1
+    grid[at] == -1
 }
 
 // Whether the cell in a row and a column is a mine: values stand row after row.

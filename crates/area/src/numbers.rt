@@ -7,8 +7,7 @@ pub fn get(work: &[i32], at: usize) -> usize
     requires { at < length work.now }
     ensures { (result ≡ number_at work.now at) × (result < 2147483648) }
 {
-    let v = work[at];
-    if v < 0 { 0 } else { v as usize }
+    work[at].max(0) as usize
 }
 
 // Puts a number at a place of the work area.

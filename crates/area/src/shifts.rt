@@ -4,7 +4,6 @@ ghost use Rattle.game.specs.Lists.{fold};
 ghost use Rattle.area.specs.Numbers.{HasCell, HasCells};
 ghost use Rattle.area.specs.Squares.{row_cells, shifted, square_of};
 
-use crate::counts::take_away;
 use crate::five::{content, premium, put_premium};
 use crate::squares::around;
 
@@ -17,7 +16,7 @@ pub fn shift(work: &mut [i32], index: usize, up: usize, down: usize)
         return;
     }
     let raised = premium(work, index);
-    put_premium(work, index, take_away(raised + up, down));
+    put_premium(work, index, (raised + up).saturating_sub(down));
 }
 
 // The safe cells of one row, in the columns `from` to before `to`.
@@ -52,11 +51,7 @@ pub fn shift_square(
     ensures { work.new ≡ fold (shifted up down) work.old (square_of rows columns index) }
 {
     let sides = around(rows, columns, index);
-    let first = sides.first;
-    let last = sides.last;
-    let from = sides.from;
-    let to = sides.to;
-    for row in first..last {
-        shift_row(work, rows, columns, row, from, to, up, down);
+    for row in sides.first..sides.last {
+        shift_row(work, rows, columns, row, sides.from, sides.to, up, down);
     }
 }

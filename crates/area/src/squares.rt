@@ -28,7 +28,7 @@ pub fn upper(x: usize, n: usize) -> usize
 }
 
 // The sides of a square: its rows from `first` to before `last`, its columns from `from` to before `to`.
-#[derive(Drop)]
+#[derive(Clone, Copy)]
 pub struct Sides {
     pub first: usize,
     pub last: usize,
@@ -44,10 +44,10 @@ pub fn around(rows: usize, columns: usize, index: usize) -> Sides
     let row = index % rows;
     let column = index / rows;
     Sides {
-        first: lower(row),
-        last: upper(row, rows),
-        from: lower(column),
-        to: upper(column, columns),
+        first: row.saturating_sub(1),
+        last: row.saturating_add(2).min(rows),
+        from: column.saturating_sub(1),
+        to: column.saturating_add(2).min(columns),
     }
 }
 
@@ -66,16 +66,7 @@ pub fn near_at(
 {
     let below = row + down;
     let beside = column + right;
-    if below == 0 {
-        return rows * columns;
-    }
-    if below > rows {
-        return rows * columns;
-    }
-    if beside == 0 {
-        return rows * columns;
-    }
-    if beside > columns {
+    if below == 0 || below > rows || beside == 0 || beside > columns {
         return rows * columns;
     }
     (beside - 1) * rows + (below - 1)

@@ -11,5 +11,5 @@ returns c = let p = c.before in
     let q = p.before in
     let g = q.before.before in
     let a = c.args in
-    shift_safe a.up a.down a.work.now a.index c.content.result c.content.ensures.0 c.premium-raised.result c.take_away.result
-    c.put_premium.new.work c.if-content-eq0.false c.premium-raised.ensures.0 c.take_away.ensures c.put_premium.ensures
+    shift_safe a.up a.down a.work.now a.index c.content.result c.content.ensures.0 c.premium-raised.result c.saturating_sub.result
+    c.put_premium.new.work c.if-content-eq0.false c.premium-raised.ensures.0 c.saturating_sub.ensures c.put_premium.ensures
