@@ -17,20 +17,20 @@ use Rattle.game.specs.Position.{Position}
 use Rattle.game.proofs.Truth.{T→true, no→false}
 use Rattle.replay.specs.Clicks.{Clicked, Comes, Counts}
 use Rattle.replay.specs.Replays.{Making}
+use Rattle.std.specs.Prelude.{Some, None}
 use Rattle.replay.specs.declared.clicks.Remains.{Remains}
-use Rattle.replay.specs.declared.makes.Made.TheVariants.{Illegal, Played}
 use Rattle.replay.proofs.Cells.{inside, square_is, state_put, state_read}
 use Rattle.replay.proofs.Counting.{set_closed, set_lost}
 use borrow.Author.Tests.{eq-eqb}
 
 module _ (rows columns : ℕ) (g : Grid) (s : Position) (old w : List ℤ) (i : ℕ) (h : i < rows * columns) (m : Moving rows columns g s old w) where
   -- the cell is not as the move asks
-  refused : (x : Move) → (T (allowed g s x) → ⊥) → Making rows columns g s old (allowed g s x) (some x) Illegal w w
+  refused : (x : Move) → (T (allowed g s x) → ⊥) → Making rows columns g s old (allowed g s x) (some x) None w w
   refused x n = rw (no→false (allowed g s x) n) (record { answer = refl; unchanged = refl })
 
   -- it is, and the position after the move was come to
   played : (x : Move) (q r : Remains) (v : List ℤ) → T (allowed g s x) → Counts g s q → Comes rows columns g s (play g s x) old q r v
-      → Making rows columns g s old (allowed g s x) (some x) (Played r) w v
+      → Making rows columns g s old (allowed g s x) (some x) (Some r) w v
   played x q r v t c p =
       let d = p.counts c in
       rw (T→true (allowed g s x) t)
@@ -44,16 +44,16 @@ module _ (rows columns : ℕ) (g : Grid) (s : Position) (old w : List ℤ) (i : 
   state_not : (n k : ℕ) → n ≡ state_at w i → (n ≡ k → ⊥) → T (eqb (get_or s i 0) k) → ⊥
   state_not n k e z t = z (e ∙ state_read rows columns g s old w m i h ∙ eqb→eq (get_or s i 0) k t)
 
-  pub left_refused : (n : ℕ) → n ≡ state_at w i → (n ≡ 0 → ⊥) → Making rows columns g s old (allowed g s (left i)) (some (left i)) Illegal w w
+  pub left_refused : (n : ℕ) → n ≡ state_at w i → (n ≡ 0 → ⊥) → Making rows columns g s old (allowed g s (left i)) (some (left i)) None w w
   left_refused n e z = refused (left i) (state_not n 0 e z)
 
-  pub flag_refused : (n : ℕ) → n ≡ state_at w i → (n ≡ 0 → ⊥) → Making rows columns g s old (allowed g s (flag i)) (some (flag i)) Illegal w w
+  pub flag_refused : (n : ℕ) → n ≡ state_at w i → (n ≡ 0 → ⊥) → Making rows columns g s old (allowed g s (flag i)) (some (flag i)) None w w
   flag_refused n e z = refused (flag i) (state_not n 0 e z)
 
-  pub unflag_refused : (n : ℕ) → n ≡ state_at w i → (n ≡ 2 → ⊥) → Making rows columns g s old (allowed g s (unflag i)) (some (unflag i)) Illegal w w
+  pub unflag_refused : (n : ℕ) → n ≡ state_at w i → (n ≡ 2 → ⊥) → Making rows columns g s old (allowed g s (unflag i)) (some (unflag i)) None w w
   unflag_refused n e z = refused (unflag i) (state_not n 2 e z)
 
-  pub chord_refused : (b : Bool) → b ≡ chordable g s i → b ≡ false → Making rows columns g s old (allowed g s (chord i)) (some (chord i)) Illegal w w
+  pub chord_refused : (b : Bool) → b ≡ chordable g s i → b ≡ false → Making rows columns g s old (allowed g s (chord i)) (some (chord i)) None w w
   chord_refused b e f = refused (chord i) (λ t. subst T (sym e ∙ f) t)
 
   -- ---- F, and the taking away of a flag
@@ -73,12 +73,12 @@ module _ (rows columns : ℕ) (g : Grid) (s : Position) (old w : List ℤ) (i : 
       }
 
   pub flag_played : (n : ℕ) (q : Remains) (u : List ℤ) → n ≡ state_at w i → n ≡ 0 → u ≡ put_state w i 2 → Counts g s q
-      → Making rows columns g s old (allowed g s (flag i)) (some (flag i)) (Played q) w u
+      → Making rows columns g s old (allowed g s (flag i)) (some (flag i)) (Some q) w u
   unfolding play
   flag_played n q u e z d c = played (flag i) q q u (state_is n 0 e z) c (restated n 0 2 q u e z (omega arith) refl refl d)
 
   pub unflag_played : (n : ℕ) (q : Remains) (u : List ℤ) → n ≡ state_at w i → n ≡ 2 → u ≡ put_state w i 0 → Counts g s q
-      → Making rows columns g s old (allowed g s (unflag i)) (some (unflag i)) (Played q) w u
+      → Making rows columns g s old (allowed g s (unflag i)) (some (unflag i)) (Some q) w u
   unfolding play
   unflag_played n q u e z d c = played (unflag i) q q u (state_is n 2 e z) c (restated n 2 0 q u e z (omega arith) refl refl d)
 
@@ -93,12 +93,12 @@ module _ (rows columns : ℕ) (g : Grid) (s : Position) (old w : List ℤ) (i : 
         record { moving = z.moving; counts = λ c. z.counts (y.counts c) }
 
   pub left_played : (n : ℕ) (q r p : Remains) (v u : List ℤ) → n ≡ state_at w i → n ≡ 0 → Clicked rows columns false w (i ∷ []) q r v → Clicked rows columns true v (i ∷ []) r p u → Counts g s q
-      → Making rows columns g s old (allowed g s (left i)) (some (left i)) (Played p) w u
+      → Making rows columns g s old (allowed g s (left i)) (some (left i)) (Some p) w u
   unfolding play
   left_played n q r p v u e z a b c = played (left i) q p u (state_is n 0 e z) c (clicks_both (i ∷ []) q r p v u a b)
 
   pub chord_played : (y : Bool) (q r p : Remains) (v u : List ℤ) → y ≡ chordable g s i → y ≡ true → Clicked rows columns false w (square_of rows columns i) q r v
-      → Clicked rows columns true v (square_of rows columns i) r p u → Counts g s q → Making rows columns g s old (allowed g s (chord i)) (some (chord i)) (Played p) w u
+      → Clicked rows columns true v (square_of rows columns i) r p u → Counts g s q → Making rows columns g s old (allowed g s (chord i)) (some (chord i)) (Some p) w u
   unfolding play
   chord_played y q r p v u e z a b c =
       played (chord i) q p u (subst T (sym z ∙ e) tt) c

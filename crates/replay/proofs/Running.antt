@@ -8,8 +8,8 @@ use mathlib.Core.List.{List, ◌∷◌}
 use mathlib.Core.Option.{Option, none, some}
 use lib.Dec.{T}
 use lib.IntN.{ℤ}
-use lib.ListN.{drop, drop_of_length-le, get_or, length, length-take, take}
-use lib.Seq.{drop-cons, get_or-take}
+use lib.ListN.{drop, drop_of_length-le, get_or, length}
+use lib.Seq.{drop-cons}
 use Rattle.area.specs.Stages.{Moving}
 use Rattle.game.specs.Grid.{Grid}
 use Rattle.game.specs.Moves.{Move, Replayed, legal_read, play_read, read_move, replay_from, stopped}
@@ -18,9 +18,10 @@ use Rattle.game.proofs.Sane.{play_sane}
 use Rattle.replay.specs.Clicks.{Counts}
 use Rattle.replay.specs.Replays.{Making, Replaying, ending_by}
 use Rattle.replay.specs.declared.clicks.Remains.{Remains}
-use Rattle.replay.specs.declared.makes.Made.{Made}
-use Rattle.replay.specs.declared.makes.Made.TheVariants.{Illegal, Played}
-use Rattle.replay.specs.declared.runs.Replay.TheVariants.{Stopped, Whole}
+use Rattle.kinds.specs.declared.Ending.{Ending}
+use Rattle.kinds.specs.Numbers.{ending_number}
+use Rattle.std.specs.Prelude as Std
+use Rattle.std.specs.Prelude.{Err, None, Ok, Some}
 use Rattle.replay.proofs.Endings.{ending-by}
 
 -- what a legal move comes to is sane
@@ -41,7 +42,7 @@ pub record ReplayMidway (rows columns : ℕ) (w₀ : List ℤ) (ms : List ℕ) (
   pub onward : (g : Grid) (s : Position) (old : List ℤ) → Moving rows columns g s old w₀ → Sane g s → lost g s ≡ false → safe ≡ closed_safe g s → Onward rows columns g s old ms place q w
 
 -- a move was made, whatever position w had the states of
-abbrev pub Makes : ℕ → ℕ → ℕ → Remains → Made → List ℤ → List ℤ → Type 0
+abbrev pub Makes : ℕ → ℕ → ℕ → Remains → Std.Option Remains → List ℤ → List ℤ → Type 0
 Makes rows columns word q r w v =
     (g : Grid) (s : Position) (old : List ℤ) → Moving rows columns g s old w → Sane g s → q.closed ≡ closed_safe g s → q.lost ≡ lost g s
     → Making rows columns g s old (legal_read g s (read_move word)) (read_move word) r w v
@@ -56,28 +57,26 @@ turn_is : (g : Grid) (k : ℕ) (t : Position) (x : ℕ) (xs : List ℕ) (b : Boo
 turn_is g k t x xs b e =
     ap (λ (b : Bool). elim b as (λ _. Replayed) [ true ↦ replay_from g (suc k) (play_read g t (read_move x)) xs | false ↦ stopped k t ]) e
 
-module _ (rows columns : ℕ) (w₀ : List ℤ) (list : List ℕ) (count safe place : ℕ) (q : Remains) (w : List ℤ) (m : ReplayMidway rows columns w₀ (take count list) safe place q w) where
-  module _ (fits : count ≤ length list) (h : place < count) (r : Made) (v : List ℤ) (made : Makes rows columns (get_or list place 0) q r w v) where
+module _ (rows columns : ℕ) (w₀ : List ℤ) (ms : List ℕ) (safe place : ℕ) (q : Remains) (w : List ℤ) (m : ReplayMidway rows columns w₀ ms safe place q w) where
+  module _ (h : place < length ms) (r : Std.Option Remains) (v : List ℤ) (made : Makes rows columns (get_or ms place 0) q r w v) where
     abbrev word : ℕ
-    word = get_or list place 0
+    word = get_or ms place 0
 
     -- the move is the first of those left
-    next : drop place (take count list) ≡ get_or list place 0 ∷ drop (suc place) (take count list)
-    next =
-        drop-cons (take count list) place 0 (omega (arith, length-take count list))
-        ∙ ap (λ (x : ℕ). x ∷ drop (suc place) (take count list)) (get_or-take count list place 0 h)
+    next : drop place ms ≡ word ∷ drop (suc place) ms
+    next = drop-cons ms place 0 h
 
     -- a legal move
-    pub goes-on : (p : Remains) → r ≡ Played p → ReplayMidway rows columns w₀ (take count list) safe (place + 1) p v
+    pub goes-on : (p : Remains) → r ≡ Some p → ReplayMidway rows columns w₀ ms safe (place + 1) p v
     goes-on p e =
         record {
           onward = λ g s old t f n d. let o = m.onward g s old t f n d in
               on g s old o (legal_read g o.position (read_move word)) refl (made g o.position old o.moving o.sane o.counts.closed_are o.counts.lost_is);
         }
       where
-        on : (g : Grid) (s : Position) (old : List ℤ) (o : Onward rows columns g s old (take count list) place q w) (b : Bool)
+        on : (g : Grid) (s : Position) (old : List ℤ) (o : Onward rows columns g s old ms place q w) (b : Bool)
             → legal_read g o.position (read_move word) ≡ b → Making rows columns g o.position old b (read_move word) r w v
-            → Onward rows columns g s old (take count list) (place + 1) p v
+            → Onward rows columns g s old ms (place + 1) p v
         on g s old o true k a =
             let same : a.left ≡ p = cc (e, a.answer) in
             record {
@@ -85,32 +84,38 @@ module _ (rows columns : ℕ) (w₀ : List ℤ) (list : List ℕ) (count safe pl
               moving = a.moving;
               sane = read_sane g o.position (read_move word) k o.sane;
               counts = subst (Counts g (play_read g o.position (read_move word))) same (record { closed_are = a.closed_are; lost_is = a.lost_is });
-              rest = o.rest ∙ ap (replay_from g place o.position) next ∙ turn_is g place o.position word (drop (suc place) (take count list)) true k
-                  ∙ ap (λ (j : ℕ). replay_from g j (play_read g o.position (read_move word)) (drop j (take count list))) (sym (add-one place));
+              rest = o.rest ∙ ap (replay_from g place o.position) next ∙ turn_is g place o.position word (drop (suc place) ms) true k
+                  ∙ ap (λ (j : ℕ). replay_from g j (play_read g o.position (read_move word)) (drop j ms)) (sym (add-one place));
             }
         on g s old o false k a = let z : ◌≡◌ {A = ℕ} 0 1 = cc (e, a.answer) in absurd (omega arith)
 
     -- a move that isn't
-    pub stops : r ≡ Illegal → (g : Grid) (s : Position) (old : List ℤ) → Moving rows columns g s old w₀ → Sane g s → lost g s ≡ false → safe ≡ closed_safe g s
-        → Replaying rows columns g old (replay_from g 0 s (take count list)) (Stopped place) v
+    pub stops : r ≡ None → (g : Grid) (s : Position) (old : List ℤ) → Moving rows columns g s old w₀ → Sane g s → lost g s ≡ false → safe ≡ closed_safe g s
+        → Replaying rows columns g old (replay_from g 0 s ms) (Err (record { place = place })) v
     stops e g s old t f n d =
         let o = m.onward g s old t f n d in
         at_it o (legal_read g o.position (read_move word)) refl (made g o.position old o.moving o.sane o.counts.closed_are o.counts.lost_is)
       where
-        at_it : (o : Onward rows columns g s old (take count list) place q w) (b : Bool)
+        at_it : (o : Onward rows columns g s old ms place q w) (b : Bool)
             → legal_read g o.position (read_move word) ≡ b → Making rows columns g o.position old b (read_move word) r w v
-            → Replaying rows columns g old (replay_from g 0 s (take count list)) (Stopped place) v
+            → Replaying rows columns g old (replay_from g 0 s ms) (Err (record { place = place })) v
         at_it o true k a = let z : ◌≡◌ {A = ℕ} 0 1 = cc (e, a.answer) in absurd (omega arith)
         at_it o false k a =
-            rw (o.rest ∙ ap (replay_from g place o.position) next ∙ turn_is g place o.position word (drop (suc place) (take count list)) false k)
-            (record { answers = refl; moving = rw a.unchanged o.moving })
+            rw (o.rest ∙ ap (replay_from g place o.position) next ∙ turn_is g place o.position word (drop (suc place) ms) false k)
+            (record { answer = refl; moving = rw a.unchanged o.moving })
 
   -- the list's end
-  pub ends : place ≡ count → (n : ℕ) → n ≡ ending_by q.closed q.lost
+  pub ends : length ms ≤ place → (n : Ending) → n ≡ ending_by q.closed q.lost
       → (g : Grid) (s : Position) (old : List ℤ) → Moving rows columns g s old w₀ → Sane g s → lost g s ≡ false → safe ≡ closed_safe g s
-      → Replaying rows columns g old (replay_from g 0 s (take count list)) (Whole q.closed n) w
+      → Replaying rows columns g old (replay_from g 0 s ms) (Ok (record { closed = q.closed; ending = n })) w
   ends e n d g s old t f l x =
       let o = m.onward g s old t f l x in
       let c = o.counts in
-      rw (o.rest ∙ ap (replay_from g place o.position) (drop_of_length-le (take count list) {i = place} (omega (arith, length-take count list))))
-      (record { answers = ap₂ Whole c.closed_are (d ∙ ap₂ ending_by c.closed_are c.lost_is ∙ sym (ending-by g o.position)); moving = o.moving })
+      rw (o.rest ∙ ap (replay_from g place o.position) (drop_of_length-le ms {i = place} e))
+      (record {
+        whole = record { closed = q.closed; ending = n };
+        answer = refl;
+        closed_are = c.closed_are;
+        ending_is = ap ending_number (d ∙ ap₂ ending_by c.closed_are c.lost_is) ∙ ending-by g o.position;
+        moving = o.moving;
+      })

@@ -6,7 +6,7 @@ ghost use Rattle.area.specs.Stages.{Shape};
 ghost use Rattle.replay.specs.Clicks.{Clicked};
 
 // What is left after moves: the safe cells still closed, and whether a mine is open.
-#[derive(Drop)]
+#[derive(Clone, Copy, PartialEq, Eq, Debug)]
 pub struct Remains {
     pub closed: usize,
     pub lost: bool,
@@ -30,7 +30,7 @@ pub fn click(
     if !mines {
         let opened = spread::reveal(work, rows, columns, index);
         return Remains {
-            closed: area::take_away(closed, opened),
+            closed: closed.saturating_sub(opened),
             lost,
         };
     }

@@ -61,7 +61,7 @@ pub fn chordable(work: &[i32], rows: usize, columns: usize, index: usize) -> boo
     if content == 1 {
         return false;
     }
-    let number = area::take_away(content, 1);
+    let number = content.saturating_sub(1);
     let flags = flags_square(work, rows, columns, index);
     flags == number
 }

@@ -7,5 +7,5 @@ pub mod makes; // one move
 pub mod runs; // a list of moves
 
 pub use clicks::Remains;
-pub use makes::{Made, make};
-pub use runs::{Replay, run};
+pub use makes::make;
+pub use runs::{Stopped, Whole, run};

@@ -11,31 +11,37 @@ ghost use Rattle.replay.specs.Replays.{Making, ending_by};
 
 use crate::clicks::{Remains, click, click_square};
 use crate::flags::chordable;
-
-// What a replayed move comes to: what is left after it, or that it isn't legal.
-#[derive(Drop)]
-pub enum Made {
-    Played(Remains),
-    Illegal,
-}
+use kinds::{Ending, Kind};
 
 // L, if the cell is as it asks.
-fn make_left(work: &mut [i32], rows: usize, columns: usize, index: usize, left: Remains) -> Made
+fn make_left(
+    work: &mut [i32],
+    rows: usize,
+    columns: usize,
+    index: usize,
+    left: Remains,
+) -> Option<Remains>
     requires shape { Shape rows columns }
     requires has_cells { HasCells work.old (rows * columns) × (index < rows * columns) }
     ensures { (g : Grid) (s : Position) (old : List ℤ) → Moving rows columns g s old work.old → Counts g s left
         → Making rows columns g s old (allowed g s (left_move index)) (some (left_move index)) result work.old work.new }
 {
     if area::state(work, index) != 0 {
-        return Made::Illegal;
+        return None;
     }
     let shown = click(work, rows, columns, index, false, left);
     let clicked = click(work, rows, columns, index, true, shown);
-    Made::Played(clicked)
+    Some(clicked)
 }
 
 // F, if the cell is as it asks.
-fn make_flag(work: &mut [i32], rows: usize, columns: usize, index: usize, left: Remains) -> Made
+fn make_flag(
+    work: &mut [i32],
+    rows: usize,
+    columns: usize,
+    index: usize,
+    left: Remains,
+) -> Option<Remains>
     requires shape { Shape rows columns }
     requires has_cells { HasCells work.old (rows * columns) × (index < rows * columns) }
     ensures { (g : Grid) (s : Position) (old : List ℤ) → Moving rows columns g s old work.old → Counts g s left
@@ -43,14 +49,20 @@ fn make_flag(work: &mut [i32], rows: usize, columns: usize, index: usize, left: 
 {
     let state = area::state(work, index);
     if state != 0 {
-        return Made::Illegal;
+        return None;
     }
     area::put_state(work, index, 2);
-    Made::Played(left)
+    Some(left)
 }
 
 // A flag taken away, if there is one.
-fn make_unflag(work: &mut [i32], rows: usize, columns: usize, index: usize, left: Remains) -> Made
+fn make_unflag(
+    work: &mut [i32],
+    rows: usize,
+    columns: usize,
+    index: usize,
+    left: Remains,
+) -> Option<Remains>
     requires shape { Shape rows columns }
     requires has_cells { HasCells work.old (rows * columns) × (index < rows * columns) }
     ensures { (g : Grid) (s : Position) (old : List ℤ) → Moving rows columns g s old work.old → Counts g s left
@@ -58,61 +70,71 @@ fn make_unflag(work: &mut [i32], rows: usize, columns: usize, index: usize, left
 {
     let state = area::state(work, index);
     if state != 2 {
-        return Made::Illegal;
+        return None;
     }
     area::put_state(work, index, 0);
-    Made::Played(left)
+    Some(left)
 }
 
 // C, if the cell is as it asks.
-fn make_chord(work: &mut [i32], rows: usize, columns: usize, index: usize, left: Remains) -> Made
+fn make_chord(
+    work: &mut [i32],
+    rows: usize,
+    columns: usize,
+    index: usize,
+    left: Remains,
+) -> Option<Remains>
     requires shape { Shape rows columns }
     requires has_cells { HasCells work.old (rows * columns) × (index < rows * columns) }
     ensures { (g : Grid) (s : Position) (old : List ℤ) → Moving rows columns g s old work.old → Sane g s → Counts g s left
         → Making rows columns g s old (allowed g s (chord_move index)) (some (chord_move index)) result work.old work.new }
 {
     if !chordable(work, rows, columns, index) {
-        return Made::Illegal;
+        return None;
     }
     let shown = click_square(work, rows, columns, index, false, left);
     let chorded = click_square(work, rows, columns, index, true, shown);
-    Made::Played(chorded)
+    Some(chorded)
 }
 
-// How a game ends, by the safe cells still closed and whether a mine was opened: 0 unfinished, 1 won, 2 lost.
-pub fn ending_of(closed: usize, lost: bool) -> usize
+// How a game ends, by the safe cells still closed and whether a mine was opened.
+pub fn ending_of(closed: usize, lost: bool) -> Ending
     ensures { result ≡ ending_by closed lost }
 {
     if lost {
-        return 2;
+        return Ending::Lost;
     }
     if closed == 0 {
-        return 1;
+        return Ending::Won;
     }
-    0
+    Ending::Unfinished
 }
 
-// One replayed move, by what is left before it: played if it is legal; else nothing changes.
-pub fn make(work: &mut [i32], rows: usize, columns: usize, word: u32, left: Remains) -> Made
+// One replayed move, by what is left before it: played if it is legal, and what is left after it; else nothing changes.
+pub fn make(
+    work: &mut [i32],
+    rows: usize,
+    columns: usize,
+    word: u32,
+    left: Remains,
+) -> Option<Remains>
     requires shape { Shape rows columns }
     requires has_cells { HasCells work.old (rows * columns) }
     ensures { (g : Grid) (s : Position) (old : List ℤ) → Moving rows columns g s old work.old → Sane g s
         → left.closed ≡ closed_safe g s → left.lost ≡ is_lost g s
         → Making rows columns g s old (legal_read g s (read_move word)) (read_move word) result work.old work.new }
 {
-    if ending_of(left.closed, left.lost) != 0 {
-        return Made::Illegal;
+    if ending_of(left.closed, left.lost) != Ending::Unfinished {
+        return None;
     }
     let index = (word % 65536) as usize;
     if index >= rows * columns {
-        return Made::Illegal;
+        return None;
     }
-    let kind = word / 65536;
-    match kind {
-        1 => make_left(work, rows, columns, index, left),
-        2 => make_flag(work, rows, columns, index, left),
-        3 => make_chord(work, rows, columns, index, left),
-        4 => make_unflag(work, rows, columns, index, left),
-        0 | 5..=4294967295 => Made::Illegal,
+    match Kind::try_from(word / 65536).ok()? {
+        Kind::Left => make_left(work, rows, columns, index, left),
+        Kind::Flag => make_flag(work, rows, columns, index, left),
+        Kind::Chord => make_chord(work, rows, columns, index, left),
+        Kind::Unflag => make_unflag(work, rows, columns, index, left),
     }
 }

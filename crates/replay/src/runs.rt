@@ -8,13 +8,20 @@ ghost use Rattle.game.specs.Position.{Position, Sane, closed_safe, lost as is_lo
 ghost use Rattle.replay.specs.Replays.{Replaying};
 
 use crate::clicks::Remains;
-use crate::makes::{Made, ending_of, make};
+use crate::makes::{ending_of, make};
+use kinds::Ending;
 
-// What a replay comes to: the safe cells still closed and the ending, or the place of the first move that isn't legal.
-#[derive(Drop)]
-pub enum Replay {
-    Whole(usize, usize),
-    Stopped(usize),
+// What a list that was played whole comes to: the safe cells still closed, and the ending.
+#[derive(Clone, Copy, PartialEq, Eq, Debug)]
+pub struct Whole {
+    pub closed: usize,
+    pub ending: Ending,
+}
+
+// The place of the first move that isn't legal.
+#[derive(Clone, Copy, PartialEq, Eq, Debug)]
+pub struct Stopped {
+    pub place: usize,
 }
 
 // The first moves of a list, one after the other, from a position that isn't lost, with so many safe cells closed. Stops at the first that isn't legal.
@@ -25,7 +32,7 @@ pub fn run(
     list: &[u32],
     count: usize,
     safe: usize,
-) -> Replay
+) -> Result<Whole, Stopped>
     requires shape { Shape rows columns }
     requires has_cells { HasCells work.old (rows * columns) × (count ≤ length list.now) }
     ensures { (g : Grid) (s : Position) (old : List ℤ) → Moving rows columns g s old work.old → Sane g s → is_lost g s ≡ false → safe ≡ closed_safe g s
@@ -35,16 +42,11 @@ pub fn run(
         closed: safe,
         lost: false,
     };
-    for place in 0..count {
-        let made = make(work, rows, columns, list[place], left);
-        let Made::Played(after) = made else {
-            return Replay::Stopped(place);
-        };
-        left = Remains {
-            closed: after.closed,
-            lost: after.lost,
-        };
+    for (place, word) in list[..count].iter().enumerate() {
+        left = make(work, rows, columns, *word, left).ok_or(Stopped { place })?;
     }
-    let ending = ending_of(left.closed, left.lost);
-    Replay::Whole(left.closed, ending)
+    Ok(Whole {
+        closed: left.closed,
+        ending: ending_of(left.closed, left.lost),
+    })
 }

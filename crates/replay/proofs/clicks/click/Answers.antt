@@ -5,8 +5,8 @@ use Rattle.replay.proofs.clicks.click.Goals as goal
 pub returns-then-not-mines : goal.returns-then-not-mines
 returns-then-not-mines c = let a = c.args in
     let q = c.reveal-opened in
-    clicked_safe a.rows a.columns a.mines a.work.now a.index c.requires.has_cells.1 a.left q.result c.take_away.result q.new.work
-    c.if-not-mines.true q.ensures c.take_away.ensures
+    clicked_safe a.rows a.columns a.mines a.work.now a.index c.requires.has_cells.1 a.left q.result c.saturating_sub.result q.new.work
+    c.if-not-mines.true q.ensures c.saturating_sub.ensures
 
 pub returns-then-content-ne0 : goal.returns-then-content-ne0
 returns-then-content-ne0 c = let a = c.args in

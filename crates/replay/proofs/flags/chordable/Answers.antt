@@ -14,4 +14,4 @@ returns-then-content-eq1 c = let a = c.args in
 pub returns : goal.returns
 returns c = let a = c.args in
     λ g s old t f. flags_decide a.rows a.columns g s old a.work.now a.index c.requires.has_cells.1 t c.state.result c.state.ensures.0 f c.if-state-ne1.false
-    c.content-content.result c.take_away-number.result c.flags_square-flags.result c.content-content.ensures.0 c.if-content-eq1.false c.take_away-number.ensures c.flags_square-flags.ensures
+    c.content-content.result c.saturating_sub-number.result c.flags_square-flags.result c.content-content.ensures.0 c.if-content-eq1.false c.saturating_sub-number.ensures c.flags_square-flags.ensures
