@@ -1,13 +1,12 @@
 -- The beginning of an input, read until it decides. Assumes nothing.
-use Rattle.std.specs.Prelude.{ℕ, ◌+◌, ◌-◌, ◌≤◌, min, ◌≡◌, Bool, ◌&&◌, ◌||◌, cond, false, List, [], T, eqb, ℤ, length, take}
+use Rattle.std.specs.Prelude.{ℕ, ◌+◌, ◌-◌, ◌≤◌, min, ◌≡◌, Bool, ◌&&◌, ◌||◌, cond, false, List, [], T, eqb, ℤ, length, take, Result, Ok, Err}
 use Rattle.game.specs.Lists.{has}
 use Rattle.inputs.specs.Reads.{got_of}
-use Rattle.inputs.specs.declared.Beginning.{Beginning}
-use Rattle.inputs.specs.declared.Beginning.TheVariants as Beginnings
 use Rattle.inputs.specs.declared.Got.{Got}
 use Rattle.inputs.specs.declared.Got.TheVariants as Gots
 use Rattle.inputs.specs.declared.Standing.{Standing}
 use Rattle.inputs.specs.declared.Standing.TheVariants.{All, More, Unread}
+use Rattle.inputs.specs.declared.Unread as Failures
 
 -- a line is asked for, and its line feed is among the bytes
 abbrev pub line_ends : Bool → List ℕ → Bool
@@ -51,11 +50,11 @@ pub record Stopped (line : Bool) (held : List ℕ) (count : ℕ) : Type 0 where
   pub soon : line_ends line (take (count - 512) held) ≡ false
 
 -- what reading the beginning of an input came to
-abbrev pub Begun : Bool → List ℕ → Beginning → Type 0
-Begun line held (Beginnings.Bytes n) = Stopped line held n
-Begun line held Beginnings.Unread = Unit {0}
+abbrev pub Begun : Bool → List ℕ → Result ℕ Failures.Unread → Type 0
+Begun line held (Ok n) = Stopped line held n
+Begun line held (Err _) = Unit {0}
 
 -- the bytes that were read
-abbrev pub bytes_read : List ℕ → Beginning → List ℕ
-bytes_read held (Beginnings.Bytes n) = take n held
-bytes_read held Beginnings.Unread = []
+abbrev pub bytes_read : List ℕ → Result ℕ Failures.Unread → List ℕ
+bytes_read held (Ok n) = take n held
+bytes_read held (Err _) = []

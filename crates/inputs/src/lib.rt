@@ -11,7 +11,7 @@ use std::io;
 use std::io::{Print, Read};
 
 // What a read came to: so many bytes, the end of input, an interruption, or a failure.
-#[derive(Clone, Copy)]
+#[derive(Clone, Copy, Debug, PartialEq, Eq)]
 pub enum Got {
     Bytes(usize),
     End,
@@ -19,15 +19,12 @@ pub enum Got {
     Failed,
 }
 
-// What reading the beginning of an input came to: so many bytes stand at the start of the lent run, or a read failed.
-#[derive(Clone, Copy)]
-pub enum Beginning {
-    Bytes(usize),
-    Unread,
-}
+// A read of the input failed.
+#[derive(Clone, Copy, Debug, PartialEq, Eq)]
+pub struct Unread;
 
 // How it stands after a read: so many bytes stand and more are wanted, so many are the beginning, or it cannot be read.
-#[derive(Clone, Copy)]
+#[derive(Clone, Copy, Debug, PartialEq, Eq)]
 pub enum Standing {
     More(usize),
     All(usize),
@@ -48,6 +45,7 @@ impl Streams {
     }
 
     // Reads standard input into a block, and answers how many bytes came; -1 where that failed, with `error` as errno.
+    // Two numbers, and no Result: what a read came to, `got_of`, is said of these two, and its meaning stays.
     pub fn read(&mut self, block: &mut [u8]) -> isize {
         match self.rt.stdin().read(block) {
             Ok(count) => count.min(isize::MAX as usize) as isize,
@@ -163,14 +161,7 @@ fn read_some(streams: &mut Streams, held: &mut [u8], count: usize) -> Got
 fn has_end(bytes: &[u8]) -> bool
     ensures { result ≡ has 10 bytes.now }
 {
-    let mut i = 0;
-    while i < bytes.len() {
-        if bytes[i] == 10 {
-            return true;
-        }
-        i += 1;
-    }
-    false
+    bytes.contains(&10)
 }
 
 // How it stands with `more` bytes behind the first `count`: only these are looked at for a line feed.
@@ -206,27 +197,24 @@ fn standing_of(held: &[u8], count: usize, came: Got, line: bool) -> Standing
     }
 }
 
-// Reads standard input into a lent run, at most 512 bytes at a time, until the run is full, the input has ended or, where `line` says so, a line feed has come. A proved loop has to end, so it counts its turns down, from a number that no run uses up.
-pub fn read_beginning(streams: &mut Streams, held: &mut [u8], line: bool) -> Beginning
+// Reads standard input into a lent run, at most 512 bytes at a time, until the run is full, the input has ended or, where `line` says so, a line feed has come; answers how many bytes stand at its start. A proved loop has to end, so it goes up to a number that no run uses up.
+pub fn read_beginning(streams: &mut Streams, held: &mut [u8], line: bool) -> Result<usize, Unread>
     ensures { Begun «line» held.new result }
 {
     let mut count = 0;
-    let mut turns = u64::MAX;
-    while turns > 0 {
+    for _ in 0..u64::MAX {
         let came = read_some(streams, held, count);
-        let standing = standing_of(held, count, came, line);
-        match standing {
+        match standing_of(held, count, came, line) {
             Standing::All(n) => {
-                return Beginning::Bytes(n);
+                return Ok(n);
             }
             Standing::Unread => {
-                return Beginning::Unread;
+                return Err(Unread);
             }
             Standing::More(n) => {
                 count = n;
-                turns -= 1;
             }
         }
     }
-    Beginning::Unread
+    Err(Unread)
 }

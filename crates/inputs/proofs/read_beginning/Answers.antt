@@ -25,7 +25,7 @@ left_by line before after count got came long below none =
 
 pub returns-in-All : goal.returns-in-All
 returns-in-All c =
-    let l = c.loop-turns in
+    let l = c.loop in
     let r = c.read_some-came in
     let d = left_by c.args.line l.held r.new.held l.count r.result r.ensures r.auto.held l.invariant.in_range l.invariant.none in
-    stops_there c.args.line r.new.held l.count d.none r.result d.fits d.few c.in-All.n (sym c.standing_of-standing.ensures ∙ c.in-All.is)
+    stops_there c.args.line r.new.held l.count d.none r.result d.fits d.few c.in-All.n (sym c.standing_of.ensures ∙ c.in-All.is)
