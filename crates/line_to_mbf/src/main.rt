@@ -5,10 +5,10 @@ ghost use Rattle.std.specs.Prelude.{◌≡◌, true};
 ghost use Rattle.inputs.specs.Beginnings.{Begun, bytes_read};
 ghost use Rattle.mbf_lines.specs.Conversions.{line_file};
 
-use inputs::{Beginning, Streams};
+use inputs::{Streams, Unread};
 
 // Hands a file to the write. The bytes that were read say which file it has to be.
-fn print(streams: &mut Streams, file: &[u8], held: &[u8], began: Beginning)
+fn print(streams: &mut Streams, file: &[u8], held: &[u8], began: Result<usize, Unread>)
     requires { file.now ≡ line_file (bytes_read held.now began) }
 {
     if !streams.write_all(file) {
@@ -17,12 +17,12 @@ fn print(streams: &mut Streams, file: &[u8], held: &[u8], began: Beginning)
 }
 
 // Writes the file of the line that was read.
-fn answer(streams: &mut Streams, held: &[u8], began: Beginning)
+fn answer(streams: &mut Streams, held: &[u8], began: Result<usize, Unread>)
     requires { Begun true held.now began }
 {
     match began {
-        Beginning::Unread => streams.tell("line_to_mbf: reading standard input"),
-        Beginning::Bytes(count) => {
+        Err(Unread) => streams.tell("line_to_mbf: reading standard input"),
+        Ok(count) => {
             let mut out = [0u8; 4100];
             let written = mbf_lines::file_of_line(&held[..count], &mut out);
             print(streams, &out[..written], held, began);

@@ -34,6 +34,24 @@ pub record Digits (line : List ℕ) : Type 0 where
 abbrev any : Bool → Bool → Bool → Bool → Bool
 any a b c d = a || (b || ((c || d) || false))
 
+-- the first three of them together, then the last
+pub any_by : (a b c d u : Bool) → u ≡ ((a || b) || c) → (u || d) ≡ any a b c d
+any_by a b c d u e = ap (λ (x : Bool). x || d) e ∙ go a b c d
+  where
+    go : (a b c d : Bool) → (((a || b) || c) || d) ≡ any a b c d
+    go true b c d = refl
+    go false true c d = refl
+    go false false true d = refl
+    go false false false true = refl
+    go false false false false = refl
+
+-- one test, and another where it does not hold
+pub or_yes : (p q v : Bool) → p ≡ true → v ≡ true → v ≡ (p || q)
+or_yes p q v e f = f ∙ sym (ap (λ (x : Bool). x || q) e)
+
+pub or_next : (p q v : Bool) → p ≡ false → v ≡ q → v ≡ (p || q)
+or_next p q v e f = f ∙ sym (ap (λ (x : Bool). x || q) e)
+
 module _ (line : List ℕ) where
   pub digits_by : (a b c d : Bool) → some_of is_wrong line ≡ a → eqb (length line % 2) 1 ≡ b → ltb (length line) 4 ≡ c → ltb 516 (length line) ≡ d
       → any a b c d ≡ digits_refused line

@@ -8,25 +8,23 @@ ghost use Rattle.lines.specs.BoardLine.{bit_between, board_line_call, cell_value
 ghost use Rattle.lines.specs.Answers.{KeepsGrid, board_answer};
 ghost use Rattle.refusals.specs.Names.{refusal_of};
 
-use refusals::{Checked, Refusal};
+use refusals::Refusal;
 
-// What reading a board line answers: rows and columns.
-#[derive(Drop)]
-pub enum Board {
-    Cells(usize, usize),
-    Refused(Refusal),
+// What reading a board line gives: rows and columns.
+#[derive(Clone, Copy, Debug, PartialEq, Eq)]
+pub struct Board {
+    pub rows: usize,
+    pub columns: usize,
 }
 
 // Whether a byte of a line is wrong.
 pub fn has_wrong(line: &[u8]) -> bool
     ensures { result ≡ some_of is_wrong line.now }
 {
-    let mut k = 0;
-    while k < line.len() {
-        if hex_digits::is_wrong(line[k]) {
+    for byte in line {
+        if hex_digits::is_wrong(*byte) {
             return true;
         }
-        k += 1;
     }
     false
 }
@@ -66,12 +64,10 @@ fn bit_between(line: &[u8], from: usize, to: usize) -> bool
     requires { (from ≤ to) × (to ≤ 4 * length line.now - 16) × (length line.now % 2 ≡ 0) }
     ensures { result ≡ bit_between (bytes_of line.now) from to }
 {
-    let mut k = from;
-    while k < to {
+    for k in from..to {
         if mine_bit(line, k) {
             return true;
         }
-        k += 1;
     }
     false
 }
@@ -91,70 +87,55 @@ fn fill(line: &[u8], grid: &mut [i32], cells: usize)
 fn digits_refused(line: &[u8]) -> bool
     ensures { result ≡ digits_refused line.now }
 {
-    if has_wrong(line) {
-        return true;
-    }
-    if line.len() % 2 == 1 {
-        return true;
-    }
-    if line.len() < 4 {
-        return true;
-    }
-    if 516 < line.len() {
-        return true;
-    }
-    false
+    has_wrong(line) || line.len() % 2 == 1 || line.len() < 4 || 516 < line.len()
 }
 
 // The checks of a board line, in their order.
-pub fn check(line: &[u8]) -> Checked
+pub fn check(line: &[u8]) -> Result<(), Refusal>
     ensures { refusal_of result ≡ line_refusal line.now }
 {
     if digits_refused(line) {
-        return Checked::Refused(Refusal::Frame);
+        return Err(Refusal::Frame);
     }
     let rows = hex_digits::byte_at(line, 0);
     let columns = hex_digits::byte_at(line, 1);
     if rows == 0 {
-        return Checked::Refused(Refusal::Shape);
+        return Err(Refusal::Shape);
     }
     if columns == 0 {
-        return Checked::Refused(Refusal::Shape);
+        return Err(Refusal::Shape);
     }
     if 2048 < rows * columns {
-        return Checked::Refused(Refusal::Size);
+        return Err(Refusal::Size);
     }
     let bytes = (rows * columns + 7) / 8;
     if line.len() != 4 + 2 * bytes {
-        return Checked::Refused(Refusal::Frame);
+        return Err(Refusal::Frame);
     }
     if bit_between(line, rows * columns, 8 * bytes) {
-        return Checked::Refused(Refusal::Frame);
+        return Err(Refusal::Frame);
     }
-    Checked::Fine
+    Ok(())
 }
 
 // A line that has been checked: its cells' values, where the lent run has room for them.
-fn read_checked(line: &[u8], grid: &mut [i32]) -> Board
+fn read_checked(line: &[u8], grid: &mut [i32]) -> Result<Board, Refusal>
     requires { line_refusal line.now ≡ none }
     ensures { KeepsGrid (board_line_call line.now grid.old) (board_answer result) grid.new }
 {
     let rows = hex_digits::byte_at(line, 0);
     let columns = hex_digits::byte_at(line, 1);
     if grid.len() < rows * columns {
-        return Board::Refused(Refusal::Board);
+        return Err(Refusal::Board);
     }
     fill(line, grid, rows * columns);
-    Board::Cells(rows, columns)
+    Ok(Board { rows, columns })
 }
 
 // A board line without its line feed read: rows and columns, and its cells' values at the start of the lent run.
-pub fn read_board(line: &[u8], grid: &mut [i32]) -> Board
+pub fn read_board(line: &[u8], grid: &mut [i32]) -> Result<Board, Refusal>
     ensures { KeepsGrid (board_line_call line.now grid.old) (board_answer result) grid.new }
 {
-    let checked = check(line);
-    match checked {
-        Checked::Refused(refusal) => Board::Refused(refusal),
-        Checked::Fine => read_checked(line, grid),
-    }
+    check(line)?;
+    read_checked(line, grid)
 }

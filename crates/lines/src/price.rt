@@ -1,20 +1,21 @@
 // Price lines.
 ghost use Rattle.std.specs.Prelude.{◌≡◌};
 ghost use Rattle.hex_digits.specs.Hex.{put_digits};
-ghost use Rattle.lines.specs.PriceLine.{held_price, price_digits};
+ghost use Rattle.lines.specs.PriceLine.{figures, held_price, price_digits};
 
-// What a price line says: 0 or the refusal's number, 3BV, greedy and openings-first clicks.
-#[derive(Drop)]
+use refusals::{Refusal, number_of};
+
+// What a line that is not refused is priced at: 3BV, greedy and openings-first clicks.
+#[derive(Clone, Copy, Debug, PartialEq, Eq)]
 pub struct Price {
-    pub number: usize,
     pub units: usize,
     pub greedy: usize,
     pub openings_first: usize,
 }
 
-// A price's fourteen digits put at a place of a lent run, where they have room.
-pub fn put_price(out: &mut [u8], at: usize, price: Price)
-    ensures { out.new ≡ put_digits at (price_digits (held_price price)) out.old }
+// A number and a price as fourteen digits put at a place of a lent run, where they have room.
+fn put_figures(out: &mut [u8], at: usize, number: u8, price: Price)
+    ensures { out.new ≡ put_digits at (price_digits (figures number price)) out.old }
 {
     if out.len() < 14 {
         return;
@@ -22,8 +23,25 @@ pub fn put_price(out: &mut [u8], at: usize, price: Price)
     if out.len() - 14 < at {
         return;
     }
-    hex_digits::put_byte(out, at, price.number % 256);
+    hex_digits::put_byte(out, at, number as usize);
     hex_digits::put_two(out, at + 2, price.units);
     hex_digits::put_two(out, at + 6, price.greedy);
     hex_digits::put_two(out, at + 10, price.openings_first);
+}
+
+// What a line is priced at put at a place of a lent run, where it has room: 00 and the price, or the refusal's number and zeros.
+pub fn put_price(out: &mut [u8], at: usize, priced: Result<Price, Refusal>)
+    ensures { out.new ≡ put_digits at (price_digits (held_price priced)) out.old }
+{
+    match priced {
+        Ok(price) => put_figures(out, at, 0, price),
+        Err(refusal) => {
+            let zeros = Price {
+                units: 0,
+                greedy: 0,
+                openings_first: 0,
+            };
+            put_figures(out, at, number_of(refusal), zeros);
+        }
+    }
 }

@@ -5,10 +5,10 @@ ghost use Rattle.std.specs.Prelude.{◌≡◌, false};
 ghost use Rattle.inputs.specs.Beginnings.{Begun, bytes_read};
 ghost use Rattle.mbf_lines.specs.Conversions.{file_line};
 
-use inputs::{Beginning, Streams};
+use inputs::{Streams, Unread};
 
 // Hands a line to the write. The bytes that were read say which line it has to be.
-fn print(streams: &mut Streams, line: &[u8], held: &[u8], began: Beginning)
+fn print(streams: &mut Streams, line: &[u8], held: &[u8], began: Result<usize, Unread>)
     requires { line.now ≡ file_line (bytes_read held.now began) }
 {
     if !streams.write_all(line) {
@@ -17,12 +17,12 @@ fn print(streams: &mut Streams, line: &[u8], held: &[u8], began: Beginning)
 }
 
 // Prints the line of the file that was read.
-fn answer(streams: &mut Streams, held: &[u8], began: Beginning)
+fn answer(streams: &mut Streams, held: &[u8], began: Result<usize, Unread>)
     requires { Begun false held.now began }
 {
     match began {
-        Beginning::Unread => streams.tell("mbf_to_line: reading standard input"),
-        Beginning::Bytes(count) => {
+        Err(Unread) => streams.tell("mbf_to_line: reading standard input"),
+        Ok(count) => {
             let mut out = [0u8; 517];
             let written = mbf_lines::line_of_file(&held[..count], &mut out);
             print(streams, &out[..written], held, began);

@@ -1,34 +1,42 @@
--- `lines::board::digits_refused`: the tests in their order. Assumes nothing.
+-- `lines::board::digits_refused`: the four tests. Assumes nothing.
 use Prim.Native.Nat.{◌%◌}
-use native.Mathlib.Omega.{arith}
-use mathlib.Core.Path.{refl, sym, ◌∙◌}
-use mathlib.Core.Bool.{true, false}
+use mathlib.Core.Path.{◌≡◌, ap, sym, ◌∙◌, refl}
+use mathlib.Core.Bool.{Bool, ◌||◌}
+use lib.Dec.{eqb, ltb}
 use lib.ListN.{length}
-use borrow.Author.Tests.{eq-eqb, le-ltb, lt-ltb, ne_eqb}
-use Rattle.lines.proofs.Verdict.{digits_by}
+use Rattle.game.specs.Lists.{some_of}
+use Rattle.hex_digits.specs.Hex.{is_wrong}
+use Rattle.lines.specs.BoardLine.{digits_refused}
+use Rattle.lines.proofs.Verdict.{any_by, digits_by, or_next, or_yes}
+use Rattle.lines.proofs.board.digits_refused.Goals.{Joined-line-eq1, then-has_wrong, else-has_wrong, then-line-eq1, else-line-eq1}
 use Rattle.lines.proofs.board.digits_refused.Goals as goal
 
-pub returns-then-has_wrong : goal.returns-then-has_wrong
-returns-then-has_wrong c =
-    let line = c.args.line.now in
-    digits_by line true _ _ _ (sym c.has_wrong.ensures ∙ c.if-has_wrong.true) refl refl refl
+first_two : (c : Joined-line-eq1) → c.if-has_wrong.value ≡ (some_of is_wrong c.args.line.now || eqb (length c.args.line.now % 2) 1)
+first_two c =
+    elim c.if-has_wrong.branch [
+      | then-has_wrong w ↦ or_yes _ _ _ (sym c.has_wrong.ensures ∙ w.if-has_wrong.true) (w.value-is ∙ w.if-has_wrong.true)
+      | else-has_wrong w ↦ or_next _ _ _ (sym c.has_wrong.ensures ∙ w.if-has_wrong.false) w.value-is
+    ]
 
-pub returns-then-line-eq1 : goal.returns-then-line-eq1
-returns-then-line-eq1 c =
+first-three : (c : Joined-line-eq1)
+    → c.if-line-eq1.value ≡ ((some_of is_wrong c.args.line.now || eqb (length c.args.line.now % 2) 1) || ltb (length c.args.line.now) 4)
+first-three c =
+    elim c.if-line-eq1.branch [
+      | then-line-eq1 w ↦ or_yes _ _ _ (sym (first_two c) ∙ w.if-line-eq1.true) (w.value-is ∙ w.if-line-eq1.true)
+      | else-line-eq1 w ↦ or_next _ _ _ (sym (first_two c) ∙ w.if-line-eq1.false) w.value-is
+    ]
+
+all_four : (c : Joined-line-eq1) → (c.if-line-eq1.value || ltb 516 (length c.args.line.now)) ≡ digits_refused c.args.line.now
+all_four c =
     let line = c.args.line.now in
-    digits_by line false true _ _ (sym c.has_wrong.ensures ∙ c.if-has_wrong.false) (eq-eqb (length line % 2) 1 (omega arith)) refl refl
+    any_by (some_of is_wrong line) (eqb (length line % 2) 1) (ltb (length line) 4) (ltb 516 (length line)) _ (first-three c)
+    ∙ digits_by line _ _ _ _ refl refl refl refl
 
 pub returns-then-line-lt4 : goal.returns-then-line-lt4
 returns-then-line-lt4 c =
-    let line = c.args.line.now in
-    digits_by line false false true _ (sym c.has_wrong.ensures ∙ c.if-has_wrong.false) (ne_eqb (length line % 2) 1 (λ e. omega arith)) (lt-ltb (length line) 4 (omega arith)) refl
+    let t = c.if-line-lt4.true in
+    t ∙ sym (ap (λ (x : Bool). x || ltb 516 (length c.args.line.now)) t) ∙ all_four (goal.at.returns-then-line-lt4 c).Joined-line-eq1
 
-pub returns-then-line-gt516 : goal.returns-then-line-gt516
-returns-then-line-gt516 c =
-    let line = c.args.line.now in
-    digits_by line false false false true (sym c.has_wrong.ensures ∙ c.if-has_wrong.false) (ne_eqb (length line % 2) 1 (λ e. omega arith)) (le-ltb (length line) 4 (omega arith)) (lt-ltb 516 (length line) (omega arith))
-
-pub returns : goal.returns
-returns c =
-    let line = c.args.line.now in
-    digits_by line false false false false (sym c.has_wrong.ensures ∙ c.if-has_wrong.false) (ne_eqb (length line % 2) 1 (λ e. omega arith)) (le-ltb (length line) 4 (omega arith)) (le-ltb 516 (length line) (omega arith))
+pub returns-else-line-lt4 : goal.returns-else-line-lt4
+returns-else-line-lt4 c =
+    sym (ap (λ (x : Bool). x || ltb 516 (length c.args.line.now)) c.if-line-lt4.false) ∙ all_four (goal.at.returns-else-line-lt4 c).Joined-line-eq1

@@ -7,23 +7,23 @@ use Rattle.hex_digits.specs.Hex.{is_wrong}
 use Rattle.lines.proofs.Runs.{fails, passes, some_step}
 use Rattle.lines.proofs.board.has_wrong.Goals as goal
 
-pub loop-k-init : goal.loop-k-init
-loop-k-init c = (omega arith, refl)
+pub loop-byte-init : goal.loop-byte-init
+loop-byte-init c = (omega arith, refl)
 
 pub returns-then-is_wrong : goal.returns-then-is_wrong
 returns-then-is_wrong c =
-    let l = c.loop-k in
+    let l = c.loop-byte in
     let line = c.args.line.now in
-    sym (passes _ _ _ (l.invariant.1 ∙ some_step is_wrong line l.k (omega arith)) (sym c.is_wrong.ensures ∙ c.if-is_wrong.true))
+    sym (passes _ _ _ (l.invariant.1 ∙ some_step is_wrong line l.byte-index (omega arith)) (sym c.is_wrong.ensures ∙ c.if-is_wrong.true))
 
-pub loop-k-preserved : goal.loop-k-preserved
-loop-k-preserved c =
-    let l = c.loop-k in
+pub loop-byte-preserved : goal.loop-byte-preserved
+loop-byte-preserved c =
+    let l = c.loop-byte in
     let line = c.args.line.now in
-    (omega arith, fails _ _ _ (l.invariant.1 ∙ some_step is_wrong line l.k (omega arith)) (sym c.is_wrong.ensures ∙ c.if-is_wrong.false))
+    (omega arith, fails _ _ _ (l.invariant.1 ∙ some_step is_wrong line l.byte-index (omega arith)) (sym c.is_wrong.ensures ∙ c.if-is_wrong.false))
 
 pub returns : goal.returns
 returns c =
-    let l = c.loop-k in
+    let l = c.loop-byte in
     let line = c.args.line.now in
-    sym (l.invariant.1 ∙ ap (some_of is_wrong) (drop_of_length-le line {i = l.k} (omega arith)))
+    sym (l.invariant.1 ∙ ap (some_of is_wrong) (drop_of_length-le line {i = l.byte-index} (omega arith)))

@@ -1,12 +1,9 @@
 -- `lines::board::read_board`: refused as the checks say, else read. Assumes nothing.
-use mathlib.Core.Path.{sym}
+use Rattle.std.proofs.lemmas.Result.{err_from_is_err_and}
 use Rattle.lines.proofs.Calls.{board_refused}
 use Rattle.lines.proofs.board.read_board.Goals as goal
 
-pub read_checked-requires : goal.read_checked-requires
-read_checked-requires c = sym c.in-Fine.ensures
-
-pub returns-in-Refused : goal.returns-in-Refused
-returns-in-Refused c =
-    let a = c.args in
-    board_refused a.line.now a.grid.now _ c.in-Refused.ensures
+pub returns-in_err-check : goal.returns-in_err-check
+returns-in_err-check c =
+    let p = err_from_is_err_and c.from_residual.result c.from_residual.ensures.1 in
+    rw (p.1, p.2) (board_refused c.args.line.now c.args.grid.now _ c.in_err-check.ensures)
