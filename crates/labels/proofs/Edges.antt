@@ -2,7 +2,7 @@
 use Prim.Native.Nat.{ℕ, ◌%◌, ◌<◌, ◌≤◌}
 use native.Mathlib.Omega.{arith}
 use mathlib.Core.Path.{◌∙◌, ◌≡◌, ap, refl, subst, sym}
-use mathlib.Core.Bool.{Bool, ◌&&◌, cond, false, not, true}
+use mathlib.Core.Bool.{Bool, ◌&&◌, false, not, true}
 use mathlib.Core.List.{List}
 use borrow.Author.Tests.{eq-eqb, eqb-false, eqb-true, lt-ltb, ltb-true, ne_eqb, not-false, not-true}
 use lib.Dec.{T, eqb, ltb}
@@ -10,7 +10,7 @@ use lib.IntN.{pos, ℤ}
 use lib.ListN.{get_or, length, length-set, set}
 use lib.Seq.{get_or-set_other, get_or-set_same}
 use Rattle.area.specs.Numbers.{HasCell, first_at, first_place, content_at, content_place, natural, put_at, second_at, second_place}
-use Rattle.labels.specs.Labels.{Fresh, bordered, edge_first, edge_second, fresh_cell, put_label, numbered_of}
+use Rattle.labels.specs.Labels.{Fresh, edge_first, edge_second, fresh_cell, put_label}
 use Rattle.game.proofs.Truth.{and_yes}
 
 -- a test decides
@@ -110,12 +110,3 @@ module _ (n : ℕ) (w : List ℤ) (i : ℕ) (r : Bool) where
   fresh_no e t f =
       let z : true ≡ fresh_cell n w i = simp (lt-ltb i n f.inside, eq-eqb (content_at w i) 1 f.zero-cell, eq-eqb (first_at w i) 0 f.unlabelled) in
       subst T (sym (sym (not-true r t) ∙ e ∙ sym z)) tt
-
-  pub numbered_inside : r ≡ numbered_of n w i → not r ≡ false → i < n
-  numbered_inside e t = ltb-true i n (and_yes (ltb i n) (not (eqb (content_at w i) 1)) (sym e ∙ not-false r t)).0
-
-  pub bordered_not : (op : ℕ) → r ≡ numbered_of n w i → not r ≡ true → w ≡ bordered n w i op
-  bordered_not op e t = ap (λ (b : Bool). cond b (put_label w i op) w) (sym (not-true r t) ∙ e)
-
-  pub bordered_by : (op : ℕ) (w1 : List ℤ) → r ≡ numbered_of n w i → not r ≡ false → w1 ≡ put_label w i op → w1 ≡ bordered n w i op
-  bordered_by op w1 e t q = q ∙ ap (λ (b : Bool). cond b (put_label w i op) w) (sym (not-false r t) ∙ e)

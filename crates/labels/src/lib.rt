@@ -10,14 +10,7 @@ pub fn fresh(work: &[i32], cells: usize, index: usize) -> bool
     requires { HasCells work.now cells }
     ensures { result ≡ fresh_cell cells work.now index }
 {
-    if index >= cells {
-        return false;
-    }
-    let content = area::content(work, index);
-    if content != 1 {
-        return false;
-    }
-    area::first_label(work, index) == 0
+    index < cells && area::content(work, index) == 1 && area::first_label(work, index) == 0
 }
 
 // Whether the cell is on the grid and no 0-cell.
@@ -25,13 +18,11 @@ fn numbered(work: &[i32], cells: usize, index: usize) -> bool
     requires { HasCells work.now cells }
     ensures { result ≡ numbered_of cells work.now index }
 {
-    if index >= cells {
-        return false;
-    }
-    area::content(work, index) != 1
+    index < cells && area::content(work, index) != 1
 }
 
 // The first label after op is put.
+#[tactic(auto, unfolding(crate::specs::Labels::edge_first))]
 fn edge_first(op: usize, first: usize) -> usize
     ensures { result ≡ edge_first op first }
 {
@@ -39,19 +30,15 @@ fn edge_first(op: usize, first: usize) -> usize
 }
 
 // The second label after op is put.
+#[tactic(auto, unfolding(crate::specs::Labels::edge_second))]
 fn edge_second(op: usize, first: usize, second: usize) -> usize
     ensures { result ≡ edge_second op first second }
 {
-    if first == 0 {
-        return second;
+    if first == 0 || first == op || second != 0 {
+        second
+    } else {
+        op
     }
-    if first == op {
-        return second;
-    }
-    if second == 0 {
-        return op;
-    }
-    second
 }
 
 // Puts the label op: as the first if there is none, else as the second if there is none and the first is another.
@@ -72,8 +59,7 @@ pub fn border(work: &mut [i32], cells: usize, index: usize, op: usize)
     requires op_bound { op < 2147483648 }
     ensures { work.new ≡ bordered cells work.old index op }
 {
-    if !numbered(work, cells, index) {
-        return;
+    if numbered(work, cells, index) {
+        put_label(work, index, op);
     }
-    put_label(work, index, op);
 }
