@@ -1,8 +1,8 @@
 -- Laid cell by cell, then raised square by square, the work area has the raised premiums before any move: each unlabelled cell adds 1 where counting would find it. Assumes nothing.
-use Prim.Native.Nat.{ℕ, ◌%◌, ◌+◌, ◌-◌, ◌<◌}
+use Prim.Native.Nat.{ℕ, ◌%◌, ◌+◌, ◌<◌}
 use native.Mathlib.Omega.{arith}
 use mathlib.Core.Path.{◌∙◌, ◌≡◌, ap, refl}
-use mathlib.Core.Bool.{Bool, ◌&&◌, cond, false, not, true}
+use mathlib.Core.Bool.{cond, not}
 use mathlib.Core.List.{List}
 use lib.Dec.{eqb}
 use lib.IntN.{ℤ}
@@ -14,7 +14,7 @@ use Rattle.game.specs.Grid.{Grid, cells, size}
 use Rattle.game.specs.Lists.{bit, count, fold, has, range}
 use Rattle.game.specs.Openings.{first_label, second_label, unlabelled}
 use Rattle.game.specs.Position.{untouched}
-use Rattle.premiums.specs.Laying.{alone_premium, labels_at, lay_cell, raise_near, safe_at, unlabelled_at}
+use Rattle.premiums.specs.Laying.{alone_premium, labels_at, lay_cell, raise_near, unlabelled_at}
 use Rattle.game.proofs.Labels.{first-label}
 use Rattle.game.proofs.Members.{fold_inv, range_has}
 use Rattle.game.proofs.Squares.{cells→, once_cells}
@@ -47,21 +47,10 @@ lay_firsts : (w : List ℤ) (i n : ℕ) → first_at (fold lay_cell w (range 0 n
 lay_firsts w i n =
     fold_inv (λ v. first_at v i ≡ first_at w i) lay_cell (range 0 n) (λ v x t e. lay_there v x _ (λ q. omega arith) (λ q. omega arith) ∙ e) w refl
 
--- what is read in a cell that the pass comes to is counted as it was
-pub lay_counts : (w₀ w : List ℤ) (i n content first k f r : ℕ) → w ≡ fold lay_cell w₀ (range 0 n) → content ≡ content_at w i → first ≡ first_at w i
-    → k ≡ bit (not (eqb content 0)) → f ≡ bit (not (eqb first 0)) → r ≡ k - f → r ≡ bit (unlabelled_at w₀ i)
-lay_counts w₀ w i n content first k f r e ek ef qk qf qr =
-    let a : content ≡ content_at w₀ i = ek ∙ ap (λ (v : List ℤ). content_at v i) e ∙ lay_contents w₀ i n in
-    let b : first ≡ first_at w₀ i = ef ∙ ap (λ (v : List ℤ). first_at v i) e ∙ lay_firsts w₀ i n in
-    let s : k ≡ bit (safe_at w₀ i) = qk ∙ ap (λ (n : ℕ). bit (not (eqb n 0))) a in
-    let t : f ≡ bit (not (eqb (first_at w₀ i) 0)) = qf ∙ ap (λ (n : ℕ). bit (not (eqb n 0))) b in
-    omega (arith, both (safe_at w₀ i) (eqb (first_at w₀ i) 0))
-  where
-    both : (x y : Bool) → bit x - bit (not y) ≡ bit (x && y)
-    both true true = refl
-    both true false = refl
-    both false true = refl
-    both false false = refl
+-- whether a cell that the pass comes to is unlabelled is as it was
+pub lay_unlabelled : (w₀ w : List ℤ) (i n : ℕ) → w ≡ fold lay_cell w₀ (range 0 n) → unlabelled_at w i ≡ unlabelled_at w₀ i
+lay_unlabelled w₀ w i n e =
+    rw e (rw (lay_contents w₀ i n, lay_firsts w₀ i n) refl)
 
 -- a cell laid
 abbrev laid_cell : Cell → Cell

@@ -13,9 +13,10 @@ pub fn alone(labels: usize, content: usize) -> usize
     ensures { result ≡ alone_premium labels content }
 {
     if content == 0 {
-        return 0;
+        0
+    } else {
+        (9 + labels).saturating_sub(content)
     }
-    area::take_away(9 + labels, content)
 }
 
 // Each cell before any move, as if no unlabelled cell were near. Answers the safe cells without label.
@@ -24,17 +25,20 @@ pub fn lay(work: &mut [i32], cells: usize) -> usize
     ensures { (work.new ≡ fold lay_cell work.old (range 0 cells))
         × (result ≡ count (unlabelled_at work.old) (range 0 cells)) × (result ≤ cells) }
 {
-    let mut unlabelled: usize = 0;
+    let mut found: usize = 0;
     for index in 0..cells {
-        let first = area::one_if_any(area::first_label(work, index));
-        let second = area::one_if_any(area::second_label(work, index));
+        found += unlabelled(work, index) as usize;
+        let first = area::first_label(work, index) != 0;
+        let second = area::second_label(work, index) != 0;
         let content = area::content(work, index);
-        let counted = area::one_if_any(content);
-        area::put_premium(work, index, alone(first + second, content));
+        area::put_premium(
+            work,
+            index,
+            alone(first as usize + second as usize, content),
+        );
         area::put_state(work, index, 0);
-        unlabelled += area::take_away(counted, first);
     }
-    unlabelled
+    found
 }
 
 // Whether there is a safe cell without label.
@@ -42,10 +46,7 @@ pub fn unlabelled(work: &[i32], index: usize) -> bool
     requires { HasCell work.now index }
     ensures { result ≡ unlabelled_at work.now index }
 {
-    if area::content(work, index) == 0 {
-        return false;
-    }
-    area::first_label(work, index) == 0
+    area::content(work, index) != 0 && area::first_label(work, index) == 0
 }
 
 // The safe cells of a cell's square have 1 more, if it is safe and unlabelled.
@@ -53,10 +54,9 @@ pub fn raise_near(work: &mut [i32], rows: usize, columns: usize, index: usize)
     requires { HasCells work.old (rows * columns) × (index < rows * columns) }
     ensures { work.new ≡ raise_near rows columns work.old index }
 {
-    if !unlabelled(work, index) {
-        return;
+    if unlabelled(work, index) {
+        area::shift_square(work, rows, columns, index, 1, 0);
     }
-    area::shift_square(work, rows, columns, index, 1, 0);
 }
 
 // The squares of the grid's unlabelled cells.
@@ -65,8 +65,7 @@ pub fn raise_all(work: &mut [i32], rows: usize, columns: usize)
     requires has_cells { HasCells work.old (rows * columns) }
     ensures { work.new ≡ fold (raise_near rows columns) work.old (range 0 (rows * columns)) }
 {
-    let cells = rows * columns;
-    for index in 0..cells {
+    for index in 0..rows * columns {
         raise_near(work, rows, columns, index);
     }
 }

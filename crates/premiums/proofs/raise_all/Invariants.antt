@@ -1,14 +1,9 @@
 -- `premiums::raise_all`: the squares of the cells passed are raised. Assumes nothing.
-use Prim.Native.Nat.{◌-◌, ◌≤◌}
 use mathlib.Core.Path.{◌≡◌}
-use lib.ListN.{length}
 use Rattle.game.specs.Lists.{range, fold}
 use Rattle.premiums.specs.Laying.{raise_near}
 use Rattle.premiums.proofs.raise_all.Given as goal
 
 abbrev pub invariant-loop-index : goal.invariant-loop-index
 invariant-loop-index l =
-    (l.index ≤ l.cells) × (l.work ≡ fold (raise_near l.rows l.columns) l.initial.work (range 0 l.index)) × (length l.work ≡ length l.initial.work)
-
-abbrev pub decreases-loop-index : goal.decreases-loop-index
-decreases-loop-index l = l.cells - l.index
+    l.work ≡ fold (raise_near l.rows l.columns) l.initial.work (range 0 l.index)
