@@ -2,20 +2,20 @@
 use Prim.Native.Nat.{ℕ, ◌*◌, ◌<◌, ◌≤◌}
 use native.Mathlib.Omega.{arith}
 use native.Mathlib.Decide.{dec_le, ℕ_discrete}
-use mathlib.Core.Path.{◌≡◌, ap, refl, sym, ◌∙◌}
+use mathlib.Core.Path.{◌≡◌, refl, sym, ◌∙◌}
 use mathlib.Core.Bool.{Bool, true, false, not, ◌||◌}
 use mathlib.Core.List.{List, [], ◌∷◌, ◌++◌}
 use mathlib.Core.Option.{Option, some-ne-none, none, some}
 use lib.Dec.{eqb, ltb}
 use lib.IntN.{ℤ}
 use lib.ListN.{length}
-use borrow.Author.Tests.{eq-eqb, eqb-false, eqb-true, le-ltb, lt-ltb, ltb-false, ne_eqb}
+use borrow.Author.Tests.{eq-eqb, eqb-false, le-ltb, lt-ltb, ltb-false, ne_eqb}
 use Rattle.game.specs.Grid.{Grid, size}
 use Rattle.game.specs.Keys.{Key}
 use Rattle.game.proofs.Checks.{each_fails}
 use Rattle.game.proofs.Truth.{or_no}
 use Rattle.area.specs.Stages.{Shape}
-use Rattle.game.specs.Calls.{Refusal, board, board_checks, first_given, grid_checks, key_check, keyed_rounds_check, most_rounds, room_check, shape, shape_check, trace, work, work_check}
+use Rattle.game.specs.Calls.{Refusal, board, board_checks, first_given, grid_checks, key_check, keyed_rounds_check, most_rounds, shape, work, work_check}
 use Rattle.checks.proofs.More.{enough, first_none, reached, reaches}
 
 -- ---- the board
@@ -97,20 +97,6 @@ all_fine g w p =
 -- where a call's checks refuse nothing: the first of them passed, and the value reaches its least
 pub all_passed : (g : Grid) (w : List ℤ) (a b : ℕ) (f : Refusal) → first_given (grid_checks g w ++ reaches a b f) ≡ none → Passed g w × (b ≤ a)
 all_passed g w a b f e = (passed g w (first_none (grid_checks g w) (reaches a b f) e), reached (grid_checks g w) a b f e)
-
--- once the board has been checked it is cells long
-pub room_checked : (g : Grid) (ws : List ℤ) (room : ℕ) → first_given (grid_checks g ws ++ record { given = ltb room (length g.values); refusal = trace } ∷ []) ≡ first_given (grid_checks g ws ++ room_check g room ∷ [])
-room_checked g ws room = go (shape_check g).given (eqb (length g.values) (size g)) refl (work_check g ws).given
-  where
-    last : Bool → ℕ → Option Refusal
-    last w n = elim w [ true ↦ some work | false ↦ elim (ltb room n) [ true ↦ some trace | false ↦ none ] ]
-
-    go : (s b : Bool) → eqb (length g.values) (size g) ≡ b → (w : Bool)
-        → ◌≡◌ {A = Option Refusal} (elim s [ true ↦ some shape | false ↦ elim (not b) [ true ↦ some board | false ↦ last w (length g.values) ] ])
-        (elim s [ true ↦ some shape | false ↦ elim (not b) [ true ↦ some board | false ↦ last w (size g) ] ])
-    go true b e w = refl
-    go false true e w = ap (last w) (eqb-true (length g.values) (size g) e)
-    go false false e w = refl
 
 -- where a keyed search is not refused: the first checks passed, there is a round, and at most 1,000,000 are
 pub keyed_passed : (g : Grid) (w : List ℤ) (n : ℕ) (k : Key) → first_given (grid_checks g w ++ keyed_rounds_check n ∷ key_check k ∷ []) ≡ none → Passed g w × (1 ≤ n) × (n ≤ most_rounds)

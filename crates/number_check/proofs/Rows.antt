@@ -21,18 +21,6 @@ pub record SoFar (g : Grid) (row limit lowest : ℕ) : Type 0 where
   pub found : lowest < size g → wrong g lowest ≡ true
 
 module _ (g : Grid) where
-  -- before the first row
-  pub so_far_none : SoFar g 0 g.columns (size g)
-  so_far_none =
-      record {
-        in-columns = omega arith;
-        in_cells = omega arith;
-        not_left = omega (arith, mul_comm g.columns g.rows);
-        not_below = λ h. absurd (omega arith);
-        lower = λ r c h k. absurd (omega arith);
-        found = λ h. absurd (omega arith);
-      }
-
   -- the same under other names
   pub so_far_at : {row limit lowest limit' lowest' : ℕ} → SoFar g row limit lowest → limit' ≡ limit → lowest' ≡ lowest → SoFar g row limit' lowest'
   so_far_at {row} {limit} {lowest} {limit'} {lowest'} s e f =

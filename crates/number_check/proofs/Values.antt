@@ -16,18 +16,6 @@ use Rattle.game.specs.Grid.{Grid, index, is_mine, mine, number, right_value, sam
 use Rattle.game.proofs.Squares.{index-column, index-row}
 use Rattle.area.specs.Numbers.{grid_of}
 
--- v == n
-pub test_number : (v : ℤ) (n : ℕ) → mag v < 2147483648 → n ≤ 9 → eqb (of_z w32 v) n ≡ same v (pos n)
-test_number (pos m) n h k =
-    elim (ℕ_discrete m n) [
-      | yes e ↦ eq-eqb m n e ∙ sym (λ i. le-leb m n (omega arith) i && le-leb n m (omega arith) i)
-      | no e ↦ elim (dec_le m n) [
-        | yes l ↦ ne_eqb m n e ∙ sym (λ i. le-leb m n l i && lt-leb n m (omega arith) i)
-        | no l ↦ ne_eqb m n e ∙ sym (ap (λ (b : Bool). b && leb n m) (lt-leb m n (omega arith)))
-      ]
-    ]
-test_number (negsuc m) n h k = ne_eqb (4294967296 - suc m) n (λ e. omega arith)
-
 -- what is asked of a value, and that it is another than the right one
 asked : (v : ℤ) (n : ℕ) → (not (is_mine v) && not (same v (pos n))) ≡ not (same v (cond (is_mine v) (negsuc 0) (pos n)))
 asked (pos m) n = refl

@@ -10,7 +10,7 @@ ghost use Rattle.refusals.specs.Names.{refusal_of};
 ghost use Rattle.number_check.specs.Faults.{FirstWrong, LowestWrong};
 ghost use Rattle.number_check.specs.Forms.{form_refusal};
 
-use refusals::{Checked, Refusal};
+use refusals::Refusal;
 
 // Whether the value at a place is wrong, for a cell with so many mines in its square: it is no mine, and another number.
 fn is_wrong(grid: &[i32], at: usize, number: usize) -> bool
@@ -60,28 +60,23 @@ fn lowest_wrong(grid: &[i32], rows: usize, columns: usize) -> usize
 }
 
 // SHAPE, BOARD, NUMBER.
-pub fn check_numbers(rows: usize, columns: usize, grid: &[i32]) -> Checked
+pub fn check_numbers(rows: usize, columns: usize, grid: &[i32]) -> Result<(), Refusal>
     ensures { refusal_of result ≡ first_given (strict_checks (grid_of rows columns grid.now)) }
 {
-    let checked = checks::check_board(rows, columns, grid.len());
-    match checked {
-        Checked::Refused(first) => Checked::Refused(first),
-        Checked::Fine => {
-            let cell = lowest_wrong(grid, rows, columns);
-            if cell < rows * columns {
-                return Checked::Refused(Refusal::Number(cell));
-            }
-            Checked::Fine
-        }
+    checks::check_board(rows, columns, grid.len())?;
+    let cell = lowest_wrong(grid, rows, columns);
+    if cell < rows * columns {
+        return Err(Refusal::Number(cell));
     }
+    Ok(())
 }
 
 // SHAPE, BOARD, NUMBER for the strict form of a call; nothing for the present one, which checks for itself (no user calls it).
-pub fn check_form(rows: usize, columns: usize, grid: &[i32], strict: bool) -> Checked
+pub fn check_form(rows: usize, columns: usize, grid: &[i32], strict: bool) -> Result<(), Refusal>
     ensures { refusal_of result ≡ form_refusal «strict» (grid_of rows columns grid.now) }
 {
     if strict {
         return check_numbers(rows, columns, grid);
     }
-    Checked::Fine
+    Ok(())
 }

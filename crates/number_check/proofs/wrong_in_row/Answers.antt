@@ -5,17 +5,10 @@ use mathlib.Core.Path.{◌≡◌, sym, ◌∙◌}
 use lib.Arith.{digits_lt}
 use Rattle.game.specs.Grid.{Grid, index, wrong}
 use Rattle.area.specs.Numbers.{grid_of}
-use Rattle.area.proofs.Cells.{cells_few}
 use Rattle.mine_sums.proofs.Along.{after_before, after_few, after_number}
 use Rattle.number_check.proofs.Values.{one_more, wrong_here}
 use Rattle.number_check.proofs.wrong_in_row.Goals.{After-is_wrong, After-sums_after-sums, In-loop-column, Start}
 use Rattle.number_check.proofs.wrong_in_row.Goals as goal
-
-pub loop-column-init : goal.loop-column-init
-loop-column-init c = (omega arith, (λ k h. absurd (omega arith)), c.sums_before-sums.ensures.0)
-
-pub sums_after-sums-requires : goal.sums_after-sums-requires
-sums_after-sums-requires c = record { shape = c.requires.shape; columns_in_bounds = (omega arith, omega arith, omega arith); before = c.loop-column.invariant.2 }
 
 -- the grid that is looked at
 abbrev board : Start → Grid
@@ -26,11 +19,6 @@ place : (c : In-loop-column) → c.args.row * c.args.columns + c.loop-column.col
 place c =
     let a = c.args in
     digits_lt {q = a.row} {m = a.rows} {r = c.loop-column.column} {c = a.columns} (omega arith) (omega arith)
-
--- there are few places
-few : (c : In-loop-column) → c.args.rows * c.args.columns ≤ 65025
-few c =
-    cells_few c.args.rows c.args.columns c.requires.shape
 
 -- the sums are of nine cells at most
 nine : (c : After-sums_after-sums) → c.sums_after-sums.result.left + c.sums_after-sums.result.here + c.sums_after-sums.result.right ≤ 9
@@ -43,12 +31,6 @@ overflow_add-number c = omega (arith, nine c.before)
 
 pub overflow_add-number-in-loop-column : goal.overflow_add-number-in-loop-column
 overflow_add-number-in-loop-column c = omega (arith, nine c.before.before)
-
-pub overflow_mul-row : goal.overflow_mul-row
-overflow_mul-row c = omega (arith, place c.before.before.before, few c.before.before.before)
-
-pub overflow_add-row : goal.overflow_add-row
-overflow_add-row c = omega (arith, place c.before.before.before, few c.before.before.before)
 
 pub is_wrong-requires : goal.is_wrong-requires
 is_wrong-requires c = (omega (arith, place c.before.before.before), nine c.before.before)
@@ -67,12 +49,6 @@ returns-then-is_wrong c =
     let l = c.loop-column in
     record { within = omega arith; before = l.invariant.1; found = λ h. sym (told c.before) ∙ c.if-is_wrong.true }
 
-pub overflow_step-column : goal.overflow_step-column
-overflow_step-column c = omega arith
-
-pub loop-column-smaller : goal.loop-column-smaller
-loop-column-smaller c = omega arith
-
 pub loop-column-preserved : goal.loop-column-preserved
 loop-column-preserved c =
     let l = c.loop-column in
@@ -81,8 +57,3 @@ loop-column-preserved c =
       one_more (board c.before.before.before.before.before.before.before.before) c.args.row l.column l.invariant.1 (sym (told c.before) ∙ c.if-is_wrong.false),
       after_before (board c.before.before.before.before.before.before.before.before) c.args.row l.column u.result u.ensures,
     )
-
-pub returns : goal.returns
-returns c =
-    let l = c.loop-column in
-    record { within = omega arith; before = λ k h. l.invariant.1 k (omega arith); found = λ h. absurd (omega arith) }
