@@ -5,7 +5,7 @@ use Rattle.moves.proofs.Joins.{made_left}
 use Rattle.moves.proofs.single.click.Goals as goal
 
 pub carry_on-requires : goal.carry_on-requires
-carry_on-requires c = (omega arith, omega (arith, cells_few _ _ c.requires.shape), omega arith)
+carry_on-requires c = (omega (arith, cells_few _ _ c.requires.shape), omega arith)
 
 pub returns : goal.returns
 returns c =

@@ -16,7 +16,7 @@ returns-then-state-eq2 c =
 
 pub carry_on-requires : goal.carry_on-requires
 carry_on-requires c =
-    (omega arith, omega (arith, cells_few _ _ c.requires.shape), omega arith)
+    (omega (arith, cells_few _ _ c.requires.shape), omega arith)
 
 pub returns : goal.returns
 returns c =
