@@ -25,7 +25,7 @@ fn keeper(cells: usize, label: usize) -> usize
     requires { 1 ≤ cells }
     ensures { (result ≡ keeper_of cells label) × (result < cells) }
 {
-    area::fewer(area::lower(label), cells - 1)
+    label.saturating_sub(1).min(cells - 1)
 }
 
 // A 0-cell that is not opened marks its opening as closed.
@@ -61,13 +61,6 @@ fn mark_of(work: &[i32], cells: usize, label: usize) -> usize
     area::premium(work, keeper(cells, label)) % 2
 }
 
-// 1 for an opened cell's state.
-fn one_if_opened(state: usize) -> usize
-    ensures { (result ≡ bit (eqb state 1)) × (result ≤ 1) }
-{
-    if state == 1 { 1 } else { 0 }
-}
-
 // The raised premium of a cell that no flagged mine and no closed unlabelled cell is near, by the closed openings among its labels; 0 for a mine.
 fn alone(closed: usize, content: usize, state: usize) -> usize
     requires { closed ≤ 2 }
@@ -76,7 +69,8 @@ fn alone(closed: usize, content: usize, state: usize) -> usize
     if content == 0 {
         return 0;
     }
-    area::take_away(9 + closed + one_if_opened(state), content)
+    let opened = (state == 1) as usize;
+    (9 + closed + opened).saturating_sub(content)
 }
 
 // A cell laid as if it stood alone, beside the mark that it keeps.
