@@ -1,17 +1,12 @@
 -- A value is wrong by a test on its bits: it is no mine, and another number than that of its square. Assumes nothing.
-use Prim.Native.Nat.{ℕ, zero, suc, ◌+◌, ◌-◌, ◌*◌, ◌<◌, ◌≤◌}
-use native.Mathlib.Decide.{dec_le, ℕ_discrete}
+use Prim.Native.Nat.{ℕ, zero, suc, ◌+◌, ◌*◌, ◌<◌}
+use native.Mathlib.Decide.{ℕ_discrete}
 use native.Mathlib.Omega.{arith}
 use mathlib.Core.Path.{◌≡◌, ap, refl, sym, ◌∙◌}
-use mathlib.Core.Bool.{Bool, ◌&&◌, cond, false, not}
+use mathlib.Core.Bool.{◌&&◌, cond, false, not}
 use mathlib.Core.List.{List}
-use lib.Dec.{eqb, leb}
 use lib.IntN.{ℤ, negsuc, pos}
 use lib.ListN.{get_or}
-use lib.Signed.{mag}
-use mir.Syntax.{w32}
-use mir.Val.{of_z}
-use borrow.Author.Tests.{eq-eqb, le-leb, lt-leb, ne_eqb}
 use Rattle.game.specs.Grid.{Grid, index, is_mine, mine, number, right_value, same, value_at, wrong}
 use Rattle.game.proofs.Squares.{index-column, index-row}
 use Rattle.area.specs.Numbers.{grid_of}

@@ -1,11 +1,9 @@
 -- `number_check::lowest_wrong`: the lowest cell at fault of the rows passed. Assumes nothing.
-use Prim.Native.Nat.{ℕ, ◌+◌, ◌*◌, ◌<◌}
+use Prim.Native.Nat.{ℕ}
 use native.Mathlib.Omega.{arith}
-use borrow.Author.Rules.{rules}
 use mathlib.Core.Path.{◌≡◌, subst}
 use Rattle.area.specs.Numbers.{grid_of}
-use Rattle.area.proofs.Cells.{cell_below, cells_few}
-use Rattle.number_check.proofs.Rows.{SoFar, so_far_all, so_far_at, so_far_found, so_far_kept, so_far_none}
+use Rattle.number_check.proofs.Rows.{SoFar, so_far_all, so_far_at, so_far_found, so_far_kept}
 use Rattle.number_check.proofs.lowest_wrong.Goals.{Then-column-limit, else-column-limit, then-column-limit}
 use Rattle.number_check.proofs.lowest_wrong.Goals as goal
 
