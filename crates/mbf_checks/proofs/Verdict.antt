@@ -1,5 +1,6 @@
 -- The checks of a file by their tests: the first that is given, and what holds where none is. Assumes nothing.
 use Prim.Native.Nat.{ℕ, ◌+◌, ◌*◌, ◌<◌, ◌≤◌}
+use Rattle.std.specs.Prelude.{Err, Ok}
 use mathlib.Core.Path.{◌≡◌, ap, refl, sym, ◌∙◌}
 use mathlib.Core.Bool.{Bool, true, false, not, true≢false, ◌||◌}
 use mathlib.Core.List.{List, [], ◌∷◌}
@@ -12,7 +13,6 @@ use Rattle.game.specs.Calls.{Refusal, file_wrong, first_given, shape, side_out}
 use Rattle.lines.proofs.Verdict.{side_fine, side_none}
 use Rattle.mbf_form.specs.Form.{file_columns, file_rows, mine_count, mine_places, past_edge, twice}
 use Rattle.mbf_form.specs.Calls.{mine_checks, side_checks}
-use Rattle.refusals.specs.declared.Checked.TheVariants.{Fine, Refused}
 use Rattle.refusals.specs.declared.Refusal.TheVariants.{File}
 use Rattle.mbf_checks.specs.Marks.{CheckedMines, MarkedAll}
 
@@ -82,14 +82,14 @@ module _ (file : List ℕ) where
 
 module _ (file bits : List ℕ) where
   -- refused for its length
-  pub length_refused : (length file ≡ 4 + 2 * mine_count file → ⊥) → CheckedMines file (Refused File) bits
+  pub length_refused : (length file ≡ 4 + 2 * mine_count file → ⊥) → CheckedMines file (Err File) bits
   length_refused h = record { verdict = other_length file h; marks = λ e. absurd (some-ne-none _ e) }
 
   module _ (long : length file ≡ 4 + 2 * mine_count file) (taken : Bool) (all : MarkedAll file taken bits) where
     -- refused for a mine
-    pub mine_refused : taken ≡ false → CheckedMines file (Refused File) bits
+    pub mine_refused : taken ≡ false → CheckedMines file (Err File) bits
     mine_refused e = record { verdict = mine-wrong file long (not-false _ (sym all.answers ∙ e)); marks = λ q. absurd (some-ne-none _ q) }
 
     -- not refused
-    pub mines_taken : taken ≡ true → CheckedMines file Fine bits
+    pub mines_taken : taken ≡ true → CheckedMines file (Ok tt) bits
     mines_taken e = record { verdict = mines_fine file long (not-true _ (sym all.answers ∙ e)); marks = λ q. all.marks e }

@@ -1,5 +1,5 @@
 -- A file's mines marked as bits, one after the other: what the functions that check a file promise. Assumes nothing.
-use Rattle.std.specs.Prelude.{ℕ, ◌≡◌, Bool, ◌||◌, cond, not, true, List, length, replicate}
+use Rattle.std.specs.Prelude.{ℕ, ◌≡◌, Bool, ◌||◌, cond, not, true, List, length, replicate, Result}
 use Rattle.std.proofs.Math.Option.{none}
 use Rattle.game.specs.Lists.{has, range, some_of}
 use Rattle.game.specs.Calls.{first_given}
@@ -8,7 +8,7 @@ use Rattle.mine_bits.specs.Bits.{with_bit}
 use Rattle.mbf_form.specs.Form.{mine_count, mine_place, mine_places, past_edge, twice}
 use Rattle.mbf_form.specs.Calls.{mine_checks}
 use Rattle.refusals.specs.Names.{refusal_of}
-use Rattle.refusals.specs.declared.Checked.{Checked}
+use Rattle.refusals.specs.declared.Refusal.{Refusal}
 
 -- as many bits as the largest grid has cells, none of them set
 abbrev pub no_bits : List ℕ
@@ -30,6 +30,6 @@ pub record MarkedAll (file : List ℕ) (taken : Bool) (bits : List ℕ) : Type 0
   pub marks : taken ≡ true → BitsOf (mine_places file) bits
 
 -- the count and the mines checked: the verdict and, where nothing is refused, the mines' bits
-pub record CheckedMines (file : List ℕ) (checked : Checked) (bits : List ℕ) : Type 0 where
+pub record CheckedMines (file : List ℕ) (checked : Result Unit Refusal) (bits : List ℕ) : Type 0 where
   pub verdict : refusal_of checked ≡ first_given (mine_checks file)
   pub marks : refusal_of checked ≡ none → BitsOf (mine_places file) bits

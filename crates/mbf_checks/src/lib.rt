@@ -8,7 +8,7 @@ ghost use Rattle.mbf_form.specs.Form.{mine_count};
 ghost use Rattle.mbf_form.specs.Calls.{side_checks};
 ghost use Rattle.mbf_checks.specs.Marks.{CheckedMines, MarkedAll, MarkedOne, no_bits};
 
-use refusals::{Checked, Refusal};
+use refusals::Refusal;
 
 // A byte of a file as a number.
 pub fn byte(file: &[u8], at: usize) -> usize
@@ -19,19 +19,19 @@ pub fn byte(file: &[u8], at: usize) -> usize
 }
 
 // FILE for under two bytes, then SHAPE by the width and height bytes.
-pub fn check_sides(file: &[u8]) -> Checked
+pub fn check_sides(file: &[u8]) -> Result<(), Refusal>
     ensures { refusal_of result ≡ first_given (side_checks file.now) }
 {
     if file.len() < 2 {
-        return Checked::Refused(Refusal::File);
+        return Err(Refusal::File);
     }
     if byte(file, 0) == 0 {
-        return Checked::Refused(Refusal::Shape);
+        return Err(Refusal::Shape);
     }
     if byte(file, 1) == 0 {
-        return Checked::Refused(Refusal::Shape);
+        return Err(Refusal::Shape);
     }
-    Checked::Fine
+    Ok(())
 }
 
 // Sets the bit of the mine that is listed as number k, or answers false: it is past the edge, or its bit is set already.
@@ -66,19 +66,19 @@ fn mark_mines(file: &[u8], count: usize, bits: &mut [u8]) -> bool
 }
 
 // FILE for a length that isn't 4 + 2 x the mine count, a mine past the edge or one listed twice; where there is none, the bits of the mines are set.
-pub fn check_mines(file: &[u8], bits: &mut [u8]) -> Checked
+pub fn check_mines(file: &[u8], bits: &mut [u8]) -> Result<(), Refusal>
     requires { bits.old ≡ no_bits }
     ensures { CheckedMines file.now result bits.new }
 {
     if file.len() < 4 {
-        return Checked::Refused(Refusal::File);
+        return Err(Refusal::File);
     }
     let count = 256 * byte(file, 2) + byte(file, 3);
     if file.len() != 4 + 2 * count {
-        return Checked::Refused(Refusal::File);
+        return Err(Refusal::File);
     }
-    if mark_mines(file, count, bits) {
-        return Checked::Fine;
+    if !mark_mines(file, count, bits) {
+        return Err(Refusal::File);
     }
-    Checked::Refused(Refusal::File)
+    Ok(())
 }

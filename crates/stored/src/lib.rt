@@ -13,20 +13,14 @@ ghost use Rattle.lines.specs.Outputs.{KeepsRun};
 ghost use Rattle.refusals.specs.Names.{refusal_of};
 
 use lines::board;
-use refusals::{Checked, Refusal};
+use refusals::Refusal;
 
-// What reading a stored line answers: rows, columns and how many moves.
-#[derive(Drop)]
-pub enum MovesRead {
-    Moves(usize, usize, usize),
-    Refused(Refusal),
-}
-
-// What writing a line answers: how many digits.
-#[derive(Drop)]
-pub enum MovesWritten {
-    Digits(usize),
-    Refused(Refusal),
+// What reading a stored line gives: rows, columns and how many moves.
+#[derive(Clone, Copy, Debug, PartialEq, Eq)]
+pub struct Moves {
+    pub rows: usize,
+    pub columns: usize,
+    pub count: usize,
 }
 
 // The move at a place of a stored line.
@@ -52,45 +46,44 @@ fn fill_list(line: &[u8], list: &mut [u32], count: usize)
 }
 
 // The checks of a stored line, in their order.
-fn check_moves(line: &[u8], list: &[u32]) -> Checked
+fn check_moves(line: &[u8], list: &[u32]) -> Result<(), Refusal>
     ensures { refusal_of result ≡ first_given (move_line_checks line.now list.now) }
 {
     if board::has_wrong(line) {
-        return Checked::Refused(Refusal::Frame);
+        return Err(Refusal::Frame);
     }
     if line.len() < 4 {
-        return Checked::Refused(Refusal::Frame);
+        return Err(Refusal::Frame);
     }
     if line.len() % 8 != 4 {
-        return Checked::Refused(Refusal::Frame);
+        return Err(Refusal::Frame);
     }
     if hex_digits::byte_at(line, 0) == 0 {
-        return Checked::Refused(Refusal::Shape);
+        return Err(Refusal::Shape);
     }
     if hex_digits::byte_at(line, 1) == 0 {
-        return Checked::Refused(Refusal::Shape);
+        return Err(Refusal::Shape);
     }
     if list.len() < line.len() / 8 {
-        return Checked::Refused(Refusal::Trace);
+        return Err(Refusal::Trace);
     }
-    Checked::Fine
+    Ok(())
 }
 
 // A stored line without its line feed read: rows, columns and how many moves, and the moves at the start of the list.
-pub fn read_moves(line: &[u8], list: &mut [u32]) -> MovesRead
+pub fn read_moves(line: &[u8], list: &mut [u32]) -> Result<Moves, Refusal>
     ensures { KeepsRun (read_moves_call line.now list.old) (read_answer result) list.new }
 {
-    let checked = check_moves(line, list);
-    match checked {
-        Checked::Refused(refusal) => MovesRead::Refused(refusal),
-        Checked::Fine => {
-            let rows = hex_digits::byte_at(line, 0);
-            let columns = hex_digits::byte_at(line, 1);
-            let count = line.len() / 8;
-            fill_list(line, list, count);
-            MovesRead::Moves(rows, columns, count)
-        }
-    }
+    check_moves(line, list)?;
+    let rows = hex_digits::byte_at(line, 0);
+    let columns = hex_digits::byte_at(line, 1);
+    let count = line.len() / 8;
+    fill_list(line, list, count);
+    Ok(Moves {
+        rows,
+        columns,
+        count,
+    })
 }
 
 // A move's eight digits put at a place of a lent run.
@@ -103,31 +96,37 @@ fn put_word(out: &mut [u8], at: usize, word: u32)
 }
 
 // The checks before a line is written, in their order.
-fn check_written(rows: usize, columns: usize, list: &[u32], count: usize, line: &[u8]) -> Checked
+fn check_written(
+    rows: usize,
+    columns: usize,
+    list: &[u32],
+    count: usize,
+    line: &[u8],
+) -> Result<(), Refusal>
     ensures { refusal_of result ≡ first_given (write_checks rows columns list.now count line.now) }
 {
     if rows == 0 {
-        return Checked::Refused(Refusal::Shape);
+        return Err(Refusal::Shape);
     }
     if 255 < rows {
-        return Checked::Refused(Refusal::Shape);
+        return Err(Refusal::Shape);
     }
     if columns == 0 {
-        return Checked::Refused(Refusal::Shape);
+        return Err(Refusal::Shape);
     }
     if 255 < columns {
-        return Checked::Refused(Refusal::Shape);
+        return Err(Refusal::Shape);
     }
     if list.len() < count {
-        return Checked::Refused(Refusal::Trace);
+        return Err(Refusal::Trace);
     }
     if line.len() < 4 {
-        return Checked::Refused(Refusal::Trace);
+        return Err(Refusal::Trace);
     }
     if (line.len() - 4) / 8 < count {
-        return Checked::Refused(Refusal::Trace);
+        return Err(Refusal::Trace);
     }
-    Checked::Fine
+    Ok(())
 }
 
 // The digits of the first moves of a list, after those of rows and columns.
@@ -157,15 +156,10 @@ pub fn write_moves(
     list: &[u32],
     count: usize,
     line: &mut [u8],
-) -> MovesWritten
+) -> Result<usize, Refusal>
     ensures { KeepsRun (write_moves_call rows columns list.now count line.old) (written_answer result) line.new }
 {
-    let checked = check_written(rows, columns, list, count, line);
-    match checked {
-        Checked::Refused(refusal) => MovesWritten::Refused(refusal),
-        Checked::Fine => {
-            put_moves(rows, columns, list, count, line);
-            MovesWritten::Digits(8 * count + 4)
-        }
-    }
+    check_written(rows, columns, list, count, line)?;
+    put_moves(rows, columns, list, count, line);
+    Ok(8 * count + 4)
 }

@@ -9,8 +9,8 @@ returns-then-file-lt4 c = length_refused _ _ (λ e. omega arith)
 pub returns-then-file-count : goal.returns-then-file-count
 returns-then-file-count c = length_refused _ _ (λ e. omega arith)
 
-pub returns-then-mark_mines : goal.returns-then-mark_mines
-returns-then-mark_mines c = mines_taken _ _ (omega arith) _ c.mark_mines.ensures c.if-mark_mines.true
+pub returns-then-not-mark_mines : goal.returns-then-not-mark_mines
+returns-then-not-mark_mines c = mine_refused _ _ (omega arith) _ c.mark_mines.ensures c.if-not-mark_mines.true
 
 pub returns : goal.returns
-returns c = mine_refused _ _ (omega arith) _ c.mark_mines.ensures c.if-mark_mines.false
+returns c = mines_taken _ _ (omega arith) _ c.mark_mines.ensures c.if-not-mark_mines.false
