@@ -3,10 +3,10 @@
 
 ghost use Rattle.std.specs.Prelude.{◌≤◌, length};
 
+use keys::Key;
 use plain::Plain;
 use std::env::{Env, FillError};
 use std::io::{Print, Read};
-use zini::random_calls::Key;
 
 pub mod plain; // answers as numbers
 pub mod fields; // what a case line says
@@ -36,6 +36,7 @@ pub fn read_full(rt: HostRuntime, run: &mut [u8]) -> usize
     ensures { result ≤ length run.new }
 {
     let mut done = 0;
+    // A while: a read takes as many bytes as it will.
     while done < run.len() {
         match rt.stdin().read(&mut run[done..]) {
             Ok(0) | Err(_) => break,
@@ -47,18 +48,14 @@ pub fn read_full(rt: HostRuntime, run: &mut [u8]) -> usize
 
 // A space and a number.
 pub fn print_number(rt: HostRuntime, n: u64) {
-    print(rt, b" ");
-    print_decimal(rt, n);
+    let _ = print!(rt; " {n}");
 }
 
 // Prints a key: its five words and its counter.
 pub fn print_key(rt: HostRuntime, key: Key) {
-    print_number(rt, key.x as u64);
-    print_number(rt, key.y as u64);
-    print_number(rt, key.z as u64);
-    print_number(rt, key.w as u64);
-    print_number(rt, key.v as u64);
-    print_number(rt, key.counter as u64);
+    for n in [key.x, key.y, key.z, key.w, key.v, key.counter] {
+        print_number(rt, n as u64);
+    }
     print(rt, b"\n");
 }
 
@@ -67,92 +64,66 @@ pub fn print_answer(rt: HostRuntime, answer: Plain) {
     print_number(rt, answer.number);
     print_number(rt, answer.first);
     print_number(rt, answer.second);
-    if answer.replayed {
-        print_number(rt, answer.ending);
+    if let Some(ending) = answer.ending {
+        print_number(rt, ending);
     }
     print(rt, b"\n");
-    if answer.keyed {
-        let key = answer.key;
+    if let Some(key) = answer.key {
         print_key(rt, key);
     }
 }
 
-// A space and a signed number.
-fn print_signed(rt: HostRuntime, v: i32) {
-    if v < 0 {
-        print(rt, b" -");
-        let m = -1 - v;
-        print_decimal(rt, m as u64 + 1);
-        return;
-    }
-    print_number(rt, v as u64);
+// What numbers come to, and what the sums up to each come to, which tells their order.
+#[derive(Clone, Copy, Default)]
+pub struct Sums {
+    pub sum: u64,
+    pub sums: u64,
 }
 
-// Prints numbers whole.
-fn print_numbers(rt: HostRuntime, work: &[i32]) {
-    let mut k = 0;
-    while k < work.len() {
-        let v = work[k];
-        print_signed(rt, v);
-        k += 1;
+impl Sums {
+    // The same with a number more.
+    pub fn with(self, n: u64) -> Sums {
+        let sum = self.sum.wrapping_add(n);
+        Sums {
+            sum,
+            sums: self.sums.wrapping_add(sum),
+        }
     }
 }
 
-// Prints what the numbers above 0 come to, and what the sums up to each come to, which tells their order.
-fn print_sums(rt: HostRuntime, work: &[i32]) {
-    let mut sum: u64 = 0;
-    let mut sums: u64 = 0;
-    let mut k = 0;
-    while k < work.len() {
-        sum = std::num::wrapping_add_u64(sum, area::get(work, k) as u64);
-        sums = std::num::wrapping_add_u64(sums, sum);
-        k += 1;
-    }
-    print_number(rt, sum);
-    print_number(rt, sums);
+// Prints sums.
+pub fn print_sums(rt: HostRuntime, sums: Sums) {
+    print_number(rt, sums.sum);
+    print_number(rt, sums.sums);
 }
 
-// Prints a work area: whole, or the sums of more than 255 numbers.
+// Prints a work area: whole, or the sums of more than 255 numbers, those below 0 as 0.
 pub fn print_area(rt: HostRuntime, work: &[i32]) {
     if 255 < work.len() {
-        print_sums(rt, work);
+        let sums = work
+            .iter()
+            .fold(Sums::default(), |sums, v| sums.with((*v).max(0) as u64));
+        print_sums(rt, sums);
     } else {
-        print_numbers(rt, work);
+        for v in work {
+            let _ = print!(rt; " {v}");
+        }
     }
     print(rt, b"\n");
 }
 
-// Prints words whole: kind, then index, of each.
-fn print_words(rt: HostRuntime, list: &[u32]) {
-    let mut k = 0;
-    while k < list.len() {
-        let word = list[k];
-        print_number(rt, (word / 65536) as u64);
-        print_number(rt, (word % 65536) as u64);
-        k += 1;
-    }
-}
-
-// Prints what words come to, and what the sums up to each come to.
-fn print_word_sums(rt: HostRuntime, list: &[u32]) {
-    let mut sum: u64 = 0;
-    let mut sums: u64 = 0;
-    let mut k = 0;
-    while k < list.len() {
-        sum = std::num::wrapping_add_u64(sum, list[k] as u64);
-        sums = std::num::wrapping_add_u64(sums, sum);
-        k += 1;
-    }
-    print_number(rt, sum);
-    print_number(rt, sums);
-}
-
-// Prints a move list: whole, or the sums of more than 255 words.
+// Prints a move list: whole, kind and index of each word, or the sums of more than 255 words.
 pub fn print_list(rt: HostRuntime, list: &[u32]) {
     if 255 < list.len() {
-        print_word_sums(rt, list);
+        let sums = list
+            .iter()
+            .fold(Sums::default(), |sums, word| sums.with(*word as u64));
+        print_sums(rt, sums);
     } else {
-        print_words(rt, list);
+        for word in list {
+            print_number(rt, (*word / 65536) as u64);
+            print_number(rt, (*word % 65536) as u64);
+        }
     }
     print(rt, b"\n");
 }

@@ -1,9 +1,6 @@
--- `trials::fields::field`: a word after the other, up to the end. Assumes nothing.
-use Rattle.std.proofs.Common.{◌-◌, ◌≤◌, length}
+-- `trials::fields::field`: each turn leaves a word fewer. Assumes nothing.
+use Rattle.std.proofs.Common.{length}
 use Rattle.trials.proofs.fields.field.Given as goal
 
-abbrev pub invariant-loop-at : goal.invariant-loop-at
-invariant-loop-at l = l.at ≤ length l.text
-
-abbrev pub decreases-loop-at : goal.decreases-loop-at
-decreases-loop-at l = length l.text - l.at
+abbrev pub decreases-loop-space : goal.decreases-loop-space
+decreases-loop-space l = length l.rest
