@@ -79,10 +79,6 @@ columns_by_rows g w a b =
     (λ i. fold (λ t row. fold_map (load_cell g) (λ column. column * g.rows + row) t (range a b) i) w (range 0 g.rows))
     ∙ sym (fold_swap (λ u column row. load_cell g u (column * g.rows + row)) (λ u c r d q. cells_swap g u (c * g.rows + r) (d * g.rows + q)) w (range a b) (range 0 g.rows))
 
-pub length_columns : (g : Grid) (w : List ℤ) (xs : List ℕ) → length (fold (load_column g) w xs) ≡ length w
-length_columns g w xs =
-    length_fold (load_column g) w xs (λ u column. length_fold (λ v row. load_cell g v (index g row column)) u (range 0 g.rows) (λ v row. length_load v (index g row column) (content g (index g row column))))
-
 -- some columns more
 pub columns_more : (g : Grid) (old now new : List ℤ) (a b : ℕ) → a ≤ b → now ≡ fold (load_column g) old (range 0 a) → new ≡ fold (load_column g) now (range a b) → new ≡ fold (load_column g) old (range 0 b)
 columns_more g old now new a b h e q =

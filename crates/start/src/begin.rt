@@ -30,7 +30,7 @@ fn count_safe(work: &[i32], cells: usize) -> usize
 {
     let mut safe: usize = 0;
     for index in 0..cells {
-        safe += area::one_if_any(area::content(work, index));
+        safe += (area::content(work, index) != 0) as usize;
     }
     safe
 }

@@ -12,10 +12,7 @@ fn content_of(mine: bool, number: usize) -> usize
     requires { number ≤ 9 }
     ensures { result ≡ cond «mine» 0 (1 + number) }
 {
-    if mine {
-        return 0;
-    }
-    1 + number
+    if mine { 0 } else { 1 + number }
 }
 
 // A cell before labelling.
@@ -77,9 +74,7 @@ pub fn load(grid: &[i32], rows: usize, columns: usize, work: &mut [i32])
     requires grid_len { (length grid.now ≡ rows * columns) × HasCells work.old (rows * columns) }
     ensures { work.new ≡ laid (loaded_five (grid_of rows columns grid.now)) (rows * columns) work.old }
 {
-    for block in 0..(columns + 31) / 32 {
-        let from = 32 * block;
-        let to = area::fewer(from + 32, columns);
-        load_columns(grid, rows, columns, work, from, to);
+    for from in (0..columns).step_by(32) {
+        load_columns(grid, rows, columns, work, from, (from + 32).min(columns));
     }
 }

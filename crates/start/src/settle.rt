@@ -9,11 +9,10 @@ pub fn lower_premium(work: &mut [i32], index: usize)
     requires { HasCell work.old index }
     ensures { work.new ≡ lower_premium work.old index }
 {
-    if area::content(work, index) == 0 {
-        return;
+    if area::content(work, index) != 0 {
+        let premium = area::premium(work, index);
+        area::put_lowered(work, index, premium);
     }
-    let premium = area::premium(work, index);
-    area::put_lowered(work, index, premium);
 }
 
 // Each cell's numbers as they are handed back.

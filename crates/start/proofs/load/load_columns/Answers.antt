@@ -1,7 +1,7 @@
 -- `start::load::load_columns`: the rows passed are loaded in these columns; all rows are the columns. Assumes nothing.
 use Prim.Native.Nat.{ℕ}
 use native.Mathlib.Omega.{arith}
-use mathlib.Core.Path.{◌≡◌, refl, ap, sym, ◌∙◌}
+use mathlib.Core.Path.{◌≡◌, ap, sym, ◌∙◌}
 use mathlib.Core.List.{List}
 use lib.IntN.{ℤ}
 use lib.ListN.{length}
@@ -13,15 +13,6 @@ use Rattle.start.proofs.Loaded.{columns_by_rows, length_cells}
 use Rattle.start.proofs.load.load_columns.Invariants.{in_row}
 use Rattle.start.proofs.load.load_columns.Goals as goal
 
-pub loop-row-init : goal.loop-row-init
-loop-row-init c = (omega arith, refl, refl)
-
-pub overflow_step-row : goal.overflow_step-row
-overflow_step-row c = omega arith
-
-pub loop-row-smaller : goal.loop-row-smaller
-loop-row-smaller c = omega arith
-
 pub loop-row-preserved : goal.loop-row-preserved
 loop-row-preserved c =
     let a = c.args in
@@ -32,9 +23,6 @@ loop-row-preserved c =
       e ∙ ap (λ (w : List ℤ). one w l.row) l.invariant.1 ∙ sym (fold_more one a.work.now 0 l.row (omega arith)),
       ap length e ∙ length_cells (grid_of a.rows a.columns a.grid.now) l.work (row_cells a.rows l.row a.from a.to) ∙ l.invariant.2,
     )
-
-pub shape_of-work : goal.shape_of-work
-shape_of-work c = c.loop-row.invariant.2
 
 pub returns : goal.returns
 returns c =

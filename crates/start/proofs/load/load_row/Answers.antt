@@ -1,21 +1,17 @@
 -- `start::load::load_row`: the columns passed are loaded, and the sums carried are those before the column. Assumes nothing.
-use Prim.Native.Nat.{ℕ, ◌+◌, ◌*◌, ◌≤◌, ◌<◌}
+use Prim.Native.Nat.{◌+◌, ◌*◌, ◌≤◌, ◌<◌}
 use native.Mathlib.Omega.{arith}
-use mathlib.Core.Path.{◌≡◌, refl, ap, sym, ◌∙◌}
+use mathlib.Core.Path.{refl, ap, sym, ◌∙◌}
 use lib.ListN.{length}
 use Rattle.game.specs.Lists.{fold}
 use Rattle.area.specs.Numbers.{grid_of}
-use Rattle.area.specs.Squares.{row_cells}
-use Rattle.area.proofs.Cells.{cell_below, cells_few}
+use Rattle.area.proofs.Cells.{cell_below}
 use Rattle.area.proofs.Rows.{row_none}
 use Rattle.mine_sums.proofs.Along.{after_before, after_few}
 use Rattle.start.specs.Passes.{load_cell}
 use Rattle.start.proofs.Loaded.{content_here, length_load, row_one_more}
 use Rattle.start.proofs.load.load_row.Goals.{After-sums_after-sums, In-loop-column}
 use Rattle.start.proofs.load.load_row.Goals as goal
-
-pub sums_before-sums-requires : goal.sums_before-sums-requires
-sums_before-sums-requires c = record { shape = c.requires.shape; columns_in_bounds = (omega arith, omega arith, omega arith) }
 
 pub loop-column-init : goal.loop-column-init
 loop-column-init c =
@@ -26,9 +22,6 @@ loop-column-init c =
       refl,
       c.sums_before-sums.ensures.0,
     )
-
-pub sums_after-sums-requires : goal.sums_after-sums-requires
-sums_after-sums-requires c = record { shape = c.requires.shape; columns_in_bounds = (omega arith, omega arith, omega arith); before = c.loop-column.invariant.4 }
 
 -- the row and the column of this turn are the grid's
 on-grid : (c : In-loop-column) → (c.args.row < c.args.rows) × (c.loop-column.column < c.args.columns)
@@ -46,10 +39,6 @@ cell c =
     let a = c.args in
     cell_below a.rows a.columns a.row c.loop-column.column (on-grid c).0 (on-grid c).1
 
-few : (c : In-loop-column) → c.args.rows * c.args.columns ≤ 65025
-few c =
-    cells_few c.args.rows c.args.columns c.requires.shape
-
 pub overflow_add-number : goal.overflow_add-number
 overflow_add-number c = omega (arith, nine c.before)
 
@@ -58,21 +47,6 @@ overflow_add-number-in-loop-column c = omega (arith, nine c.before.before)
 
 pub content_of-content-requires : goal.content_of-content-requires
 content_of-content-requires c = nine c.before.before
-
-pub overflow_mul-column : goal.overflow_mul-column
-overflow_mul-column c = omega (arith, cell c.before.before.before.before.before, few c.before.before.before.before.before)
-
-pub overflow_add-column : goal.overflow_add-column
-overflow_add-column c = omega (arith, cell c.before.before.before.before.before, few c.before.before.before.before.before)
-
-pub load_cell-requires : goal.load_cell-requires
-load_cell-requires c = omega (arith, cell c.before.before.before.before.before)
-
-pub overflow_step-column : goal.overflow_step-column
-overflow_step-column c = omega arith
-
-pub loop-column-smaller : goal.loop-column-smaller
-loop-column-smaller c = omega arith
 
 pub loop-column-preserved : goal.loop-column-preserved
 loop-column-preserved c =
@@ -90,13 +64,3 @@ loop-column-preserved c =
       ap length new.ensures ∙ length_load l.work (l.column * a.rows + a.row) k.result ∙ l.invariant.3,
       after_before g a.row l.column n.result n.ensures,
     )
-
-pub shape_of-work : goal.shape_of-work
-shape_of-work c = c.loop-column.invariant.3
-
-pub returns : goal.returns
-returns c =
-    let a = c.args in
-    let l = c.loop-column in
-    let e : l.column ≡ a.to = omega arith in
-    l.invariant.2 ∙ ap (λ (k : ℕ). fold (load_cell (grid_of a.rows a.columns a.grid.now)) a.work.now (row_cells a.rows a.row a.from k)) e
