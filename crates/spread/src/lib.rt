@@ -12,7 +12,7 @@ ghost use Rattle.game.specs.Position.{Position};
 ghost use Rattle.spread.specs.Spreads.{Fits, Opens, now_spread, visited};
 
 // How many cells wait until their squares are visited, and how many were opened.
-#[derive(Drop)]
+#[derive(Clone, Copy)]
 struct Progress {
     waiting: usize,
     opened: usize,
@@ -25,23 +25,19 @@ fn visit(work: &mut [i32], index: usize, progress: Progress) -> Progress
     ensures { now_spread work.new result.waiting result.opened
         ≡ visited (now_spread work.old progress.waiting progress.opened) index }
 {
-    let waiting = progress.waiting;
-    let opened = progress.opened;
     if area::state(work, index) != 0 {
-        return Progress { waiting, opened };
+        return progress;
     }
     let content = area::content(work, index);
     area::put_state(work, index, 1);
+    let opened = progress.opened + 1;
     if content != 1 {
-        return Progress {
-            waiting,
-            opened: opened + 1,
-        };
+        return Progress { opened, ..progress };
     }
-    area::put_waiting(work, waiting, index);
+    area::put_waiting(work, progress.waiting, index);
     Progress {
-        waiting: waiting + 1,
-        opened: opened + 1,
+        waiting: progress.waiting + 1,
+        opened,
     }
 }
 
@@ -112,6 +108,7 @@ pub fn reveal(work: &mut [i32], rows: usize, columns: usize, index: usize) -> us
             opened: 0,
         },
     );
+    // A while: how many cells come to wait shows only as it goes, which no `for` says.
     while 0 < so.waiting {
         let top = so.waiting - 1;
         let at = area::waiting(work, top);

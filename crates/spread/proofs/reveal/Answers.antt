@@ -6,28 +6,19 @@ use Rattle.area.specs.Numbers.{HasCells}
 use Rattle.area.proofs.Cells.{cells_few}
 use Rattle.spread.specs.Spreads.{Fits, now_spread}
 use Rattle.spread.proofs.Reveals.{Spreads, spreads_first, spreads_last, spreads_more, spreads_none}
-use Rattle.spread.proofs.Visits.{fits_first, taken_fits, taken_inside, taken_less, taken_onward, visit_onward}
+use Rattle.spread.proofs.Visits.{fits_first, taken_fits, taken_less, taken_onward, visit_onward}
 use Rattle.spread.proofs.reveal.Goals.{After-struct_known-in-loop-so-1}
 use Rattle.spread.proofs.reveal.Goals as goal
-
-pub content-requires : goal.content-requires
-content-requires c = omega arith
 
 pub returns-then-content-eq0 : goal.returns-then-content-eq0
 returns-then-content-eq0 c = let a = c.args in
     λ g s old m. spreads_none a.rows a.columns g s old a.index a.work.now c.content.result m c.requires.has_cells.1 c.content.ensures.0 c.if-content-eq0.true
-
-pub visit-so-requires : goal.visit-so-requires
-visit-so-requires c = record { has_cell = (omega (arith, c.requires.has_cells), omega arith, omega arith); has_cell_2 = λ e. omega (arith, c.requires.has_cells) }
 
 pub loop-so-init : goal.loop-so-init
 loop-so-init c = let a = c.args in
     let v = c.visit-so in
     let o = visit_onward (a.rows * a.columns) (cells_few a.rows a.columns c.requires.shape) (now_spread a.work.now 0 0) c.requires.has_cells.0 (fits_first (a.rows * a.columns) a.work.now) a.index c.requires.has_cells.1 in
     (subst (Fits (a.rows * a.columns)) (sym v.ensures) o.fits, refl, λ g s old p. p)
-
-pub overflow_sub-top : goal.overflow_sub-top
-overflow_sub-top c = omega arith
 
 -- there are places for those that wait
 fits : (c : After-struct_known-in-loop-so-1) → Fits (c.args.rows * c.args.columns) (now_spread c.loop-so.work (c.loop-so.so.waiting - 1 + 1) c.loop-so.so.opened)
@@ -39,25 +30,12 @@ fits c =
 room : (c : After-struct_known-in-loop-so-1) → HasCells c.loop-so.work (c.args.rows * c.args.columns)
 room c = omega (arith, c.loop-so.invariant.1, c.visit-so.auto.work, c.requires.has_cells.0)
 
-pub waiting-at-requires : goal.waiting-at-requires
-waiting-at-requires c = omega (arith, (fits c).places, room c)
-
-pub put_waiting-requires : goal.put_waiting-requires
-put_waiting-requires c = omega (arith, (fits c.before.before).places, room c.before.before)
-
-pub visit_square-so-requires : goal.visit_square-so-requires
-visit_square-so-requires c = let a = c.args in
+pub visit_square-so-requires-clause-fits : goal.visit_square-so-requires-clause-fits
+visit_square-so-requires-clause-fits c = let a = c.args in
     let l = c.loop-so in
-    let top = l.so.waiting - 1 in
     let p = c.put_waiting in
-    let w = c.waiting-at in record {
-      shape = c.requires.shape;
-      has_cells = (
-        omega (arith, room c.before.before.before.before.before, p.auto.work),
-        taken_inside a.rows a.columns c.requires.shape l.work top l.so.opened w.result p.new.work (room c.before.before.before.before.before) (fits c.before.before.before.before.before) w.ensures.0 p.ensures,
-      );
-      fits = taken_fits a.rows a.columns c.requires.shape l.work top l.so.opened w.result p.new.work (room c.before.before.before.before.before) (fits c.before.before.before.before.before) w.ensures.0 p.ensures;
-    }
+    let w = c.waiting-at in
+    taken_fits a.rows a.columns c.requires.shape l.work (l.so.waiting - 1) l.so.opened w.result p.new.work (room c.before.before.before.before.before) (fits c.before.before.before.before.before) w.ensures.0 p.ensures
 
 pub loop-so-smaller : goal.loop-so-smaller
 loop-so-smaller c = let a = c.args in
@@ -87,9 +65,6 @@ loop-so-preserved c = let a = c.args in
       λ g t old q. spreads_more a.rows a.columns g t old a.index l.work top l.so.opened w.result p.new.work w.ensures.0 p.ensures r (fits c.before.before.before.before.before.before.before) v.ensures
           (subst (λ (k : ℕ). Spreads a.rows a.columns g t old a.index (now_spread l.work k l.so.opened)) e (l.invariant.2 g t old q)),
     )
-
-pub shape_of-work : goal.shape_of-work
-shape_of-work c = c.loop-so.invariant.1 ∙ c.visit-so.auto.work
 
 pub returns : goal.returns
 returns c = let a = c.args in

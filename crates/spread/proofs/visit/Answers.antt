@@ -1,6 +1,5 @@
 -- `spread::visit`: a cell that is not closed stays; a closed one is opened, and a 0-cell has a place to wait at. Assumes nothing.
 use native.Mathlib.Omega.{arith}
-use mathlib.Core.Path.{◌∙◌, ◌≡◌, sym}
 use Rattle.spread.proofs.Visits.{visit_number, visit_still, visit_zero}
 use Rattle.spread.proofs.visit.Goals as goal
 
@@ -14,12 +13,6 @@ returns-then-content-ne1 c =
     let a = c.args in
     visit_number a.work.now a.progress.waiting a.progress.opened a.index c.state.result c.content-content.result c.state.ensures.0 (omega arith)
     c.content-content.ensures.0 c.put_state.new.work c.put_state.ensures c.if-content-ne1.true
-
-pub put_waiting-requires : goal.put_waiting-requires
-put_waiting-requires c =
-    let q = c.state in
-    let closed : q.result ≡ 0 = omega arith in
-    omega (arith, c.requires.has_cell_2 (sym q.ensures.0 ∙ closed), c.put_state.auto.work)
 
 pub returns : goal.returns
 returns c =

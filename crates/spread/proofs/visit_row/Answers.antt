@@ -1,8 +1,7 @@
--- `spread::visit_row`: the cells of the row before the column are visited; the columns left fall. Assumes nothing.
+-- `spread::visit_row`: the cells of the row before the column are visited. Assumes nothing.
 use Prim.Native.Nat.{◌*◌, ◌+◌, ◌<◌}
 use native.Mathlib.Omega.{arith}
-use mathlib.Core.Path.{◌≡◌}
-use Rattle.area.proofs.Cells.{cell_below, cells_few}
+use Rattle.area.proofs.Cells.{cell_below}
 use Rattle.area.proofs.Rows.{row_begin, row_on}
 use Rattle.spread.specs.Spreads.{now_spread, visited}
 use Rattle.spread.proofs.Visits.{onward_none, onward_one, visit_ready}
@@ -18,23 +17,11 @@ cell : (c : In-loop-column) → c.loop-column.column * c.args.rows + c.args.row 
 cell c = let a = c.args in
     cell_below a.rows a.columns a.row c.loop-column.column (omega arith) (omega arith)
 
-pub overflow_mul-column : goal.overflow_mul-column
-overflow_mul-column c = omega (arith, cell c.before, cells_few c.args.rows c.args.columns c.requires.shape)
-
-pub overflow_add-column : goal.overflow_add-column
-overflow_add-column c = omega (arith, cell c.before, cells_few c.args.rows c.args.columns c.requires.shape)
-
-pub visit-so-requires : goal.visit-so-requires
-visit-so-requires c = let a = c.args in
+pub visit-so-requires-clause-has_cell_2 : goal.visit-so-requires-clause-has_cell_2
+visit-so-requires-clause-has_cell_2 c = let a = c.args in
     let l = c.loop-column in
-    let r = visit_ready a.rows a.columns c.requires.shape (now_spread a.work.now a.progress.waiting a.progress.opened) l.work l.so.waiting l.so.opened c.requires.has_cells.0 l.invariant.2
-    (l.column * a.rows + a.row) (cell c.before) in record { has_cell = r.0; has_cell_2 = r.1 }
-
-pub overflow_step-column : goal.overflow_step-column
-overflow_step-column c = omega arith
-
-pub loop-column-smaller : goal.loop-column-smaller
-loop-column-smaller c = omega arith
+    (visit_ready a.rows a.columns c.requires.shape (now_spread a.work.now a.progress.waiting a.progress.opened) l.work l.so.waiting l.so.opened c.requires.has_cells.0 l.invariant.2
+    (l.column * a.rows + a.row) (cell c.before)).1
 
 pub loop-column-preserved : goal.loop-column-preserved
 loop-column-preserved c = let a = c.args in
@@ -48,11 +35,3 @@ loop-column-preserved c = let a = c.args in
       onward_one a.rows a.columns c.requires.shape p q r c.requires.has_cells.0 l.invariant.2 (l.column * a.rows + a.row) (cell c.before.before.before) v.ensures,
       row_on visited p q r a.rows a.row a.from l.column l.invariant.0 l.invariant.3 v.ensures,
     )
-
-pub shape_of-work : goal.shape_of-work
-shape_of-work c = c.loop-column.invariant.2.long
-
-pub returns : goal.returns
-returns c = let a = c.args in
-    let e : c.loop-column.column ≡ a.to = omega arith in
-    rw e at c.loop-column.invariant.3

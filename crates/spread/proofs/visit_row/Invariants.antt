@@ -1,5 +1,5 @@
--- `spread::visit_row`: the cells of the row before the column are visited; the columns left fall. Assumes nothing.
-use Prim.Native.Nat.{◌*◌, ◌-◌, ◌≤◌}
+-- `spread::visit_row`: the cells of the row before the column are visited. Assumes nothing.
+use Prim.Native.Nat.{◌*◌, ◌≤◌}
 use mathlib.Core.Path.{◌≡◌}
 use Rattle.game.specs.Lists.{fold}
 use Rattle.area.specs.Squares.{row_cells}
@@ -12,6 +12,3 @@ invariant-loop-column l =
     (l.from ≤ l.column) × (l.column ≤ l.to)
     × Onward (l.rows * l.columns) (now_spread l.initial.work l.initial.so.waiting l.initial.so.opened) (now_spread l.work l.so.waiting l.so.opened)
     × (now_spread l.work l.so.waiting l.so.opened ≡ fold visited (now_spread l.initial.work l.initial.so.waiting l.initial.so.opened) (row_cells l.rows l.row l.from l.column))
-
-abbrev pub decreases-loop-column : goal.decreases-loop-column
-decreases-loop-column l = l.to - l.column

@@ -1,28 +1,14 @@
--- `spread::visit_square`: the rows before the row are visited; the rows left fall. Assumes nothing.
+-- `spread::visit_square`: the rows before the row are visited. Assumes nothing.
 use Prim.Native.Nat.{◌*◌}
 use native.Mathlib.Omega.{arith}
-use mathlib.Core.Path.{◌≡◌}
 use Rattle.area.proofs.Rows.{block_begin, block_on}
 use Rattle.spread.specs.Spreads.{now_spread, visited}
 use Rattle.spread.proofs.Visits.{onward_none, onward_row}
 use Rattle.spread.proofs.visit_square.Goals as goal
 
-pub around-sides-requires : goal.around-sides-requires
-around-sides-requires c = omega arith
-
 pub loop-row-init : goal.loop-row-init
 loop-row-init c = let a = c.args in
     (omega arith, omega arith, onward_none (a.rows * a.columns) (now_spread a.work.now a.progress.waiting a.progress.opened) c.requires.fits, block_begin _ _ _ _ _ _)
-
-pub visit_row-so-requires : goal.visit_row-so-requires
-visit_row-so-requires c = let l = c.loop-row in
-    record { shape = c.requires.shape; has_cells = omega (arith, l.invariant.2.long); fits = l.invariant.2.fits }
-
-pub overflow_step-row : goal.overflow_step-row
-overflow_step-row c = omega arith
-
-pub loop-row-smaller : goal.loop-row-smaller
-loop-row-smaller c = omega arith
 
 pub loop-row-preserved : goal.loop-row-preserved
 loop-row-preserved c = let a = c.args in
@@ -37,11 +23,3 @@ loop-row-preserved c = let a = c.args in
       onward_row a.rows a.columns c.requires.shape p q r c.requires.has_cells.0 l.invariant.2 l.row k.from k.to (omega arith) (omega arith) v.ensures,
       block_on visited p q r a.rows k.first l.row k.from k.to l.invariant.0 l.invariant.3 v.ensures,
     )
-
-pub shape_of-work : goal.shape_of-work
-shape_of-work c = c.loop-row.invariant.2.long
-
-pub returns : goal.returns
-returns c = let h = c.around-sides.ensures in
-    let e : c.loop-row.row ≡ c.around-sides.result.last = omega arith in
-    rw h.cells (rw e at c.loop-row.invariant.3)

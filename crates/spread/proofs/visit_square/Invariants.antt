@@ -1,5 +1,5 @@
--- `spread::visit_square`: the rows before the row are visited; the rows left fall. Assumes nothing.
-use Prim.Native.Nat.{◌*◌, ◌-◌, ◌≤◌}
+-- `spread::visit_square`: the rows before the row are visited. Assumes nothing.
+use Prim.Native.Nat.{◌*◌, ◌≤◌}
 use mathlib.Core.Path.{◌≡◌}
 use Rattle.game.specs.Lists.{fold}
 use Rattle.area.specs.Squares.{block_cells}
@@ -12,6 +12,3 @@ invariant-loop-row l =
     (l.first ≤ l.row) × (l.row ≤ l.last)
     × Onward (l.rows * l.columns) (now_spread l.initial.work l.initial.so.waiting l.initial.so.opened) (now_spread l.work l.so.waiting l.so.opened)
     × (now_spread l.work l.so.waiting l.so.opened ≡ fold visited (now_spread l.initial.work l.initial.so.waiting l.initial.so.opened) (block_cells l.rows l.first l.row l.from l.to))
-
-abbrev pub decreases-loop-row : goal.decreases-loop-row
-decreases-loop-row l = l.last - l.row
