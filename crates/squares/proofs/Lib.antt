@@ -1,0 +1,3 @@
+-- Going over a square.
+pub mod Cells
+pub mod Going

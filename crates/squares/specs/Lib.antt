@@ -1,0 +1,2 @@
+-- What is left of a square.
+pub mod Left
