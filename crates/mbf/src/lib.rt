@@ -3,4 +3,4 @@
 
 pub use lines::board::Board;
 pub use mbf_read::read;
-pub use mbf_write::{FileWritten, strict_write, write};
+pub use mbf_write::{strict_write, write};

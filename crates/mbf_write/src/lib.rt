@@ -12,14 +12,7 @@ ghost use Rattle.mbf_form.specs.Calls.{strict_write_file_call, write_file_call};
 ghost use Rattle.mbf_write.specs.Mines.{Listed, RoomFor, bytes_from, mines_from};
 ghost use Rattle.mbf_write.specs.Answers.{file_written_answer};
 
-use refusals::{Checked, Refusal};
-
-// What writing a file answers: how many bytes it has.
-#[derive(Drop)]
-pub enum FileWritten {
-    Bytes(usize),
-    Refused(Refusal),
-}
+use refusals::Refusal;
 
 // The mines of a column.
 fn count_column(rows: usize, columns: usize, grid: &[i32], column: usize) -> usize
@@ -115,30 +108,27 @@ fn put_file(rows: usize, columns: usize, grid: &[i32], mines: usize, file: &mut 
 }
 
 // A grid written as an MBF file: how many bytes it has, at the start of the lent run.
-pub fn write(rows: usize, columns: usize, grid: &[i32], file: &mut [u8]) -> FileWritten
+pub fn write(rows: usize, columns: usize, grid: &[i32], file: &mut [u8]) -> Result<usize, Refusal>
     ensures { KeepsRun (write_file_call (grid_of rows columns grid.now) file.old) (file_written_answer result) file.new }
 {
-    let checked = checks::check_board(rows, columns, grid.len());
-    match checked {
-        Checked::Refused(refusal) => FileWritten::Refused(refusal),
-        Checked::Fine => {
-            let mines = count_mines(rows, columns, grid);
-            if file.len() < 4 + 2 * mines {
-                return FileWritten::Refused(Refusal::Board);
-            }
-            put_file(rows, columns, grid, mines, file);
-            FileWritten::Bytes(4 + 2 * mines)
-        }
+    checks::check_board(rows, columns, grid.len())?;
+    let mines = count_mines(rows, columns, grid);
+    if file.len() < 4 + 2 * mines {
+        return Err(Refusal::Board);
     }
+    put_file(rows, columns, grid, mines, file);
+    Ok(4 + 2 * mines)
 }
 
 // The same, strictly: only -1 is taken for a mine and, for a safe cell, exactly its number.
-pub fn strict_write(rows: usize, columns: usize, grid: &[i32], file: &mut [u8]) -> FileWritten
+pub fn strict_write(
+    rows: usize,
+    columns: usize,
+    grid: &[i32],
+    file: &mut [u8],
+) -> Result<usize, Refusal>
     ensures { KeepsRun (strict_write_file_call (grid_of rows columns grid.now) file.old) (file_written_answer result) file.new }
 {
-    let checked = number_check::check_numbers(rows, columns, grid);
-    match checked {
-        Checked::Refused(refusal) => FileWritten::Refused(refusal),
-        Checked::Fine => write(rows, columns, grid, file),
-    }
+    number_check::check_numbers(rows, columns, grid)?;
+    write(rows, columns, grid, file)
 }
