@@ -11,8 +11,7 @@ use lib.IntN.{ℤ}
 use Rattle.area.proofs.Held.{held_numbers}
 use Rattle.area.specs.Stages.{Stands}
 use Rattle.area.proofs.Cells.{cell_below}
-use Rattle.choices.specs.declared.Found.{Found}
-use Rattle.choices.specs.declared.Found.TheVariants.{At, Nothing}
+use Rattle.std.specs.Prelude.{Option, Some, None}
 use Rattle.choices.specs.Picks.{found_column, found_first}
 use Rattle.choices.specs.Tests.{NoUnitBelow, unit_at}
 use Rattle.game.specs.Grid.{Grid, column_of, index, size}
@@ -44,7 +43,7 @@ in-column rows columns g r q row c h k =
     (subst (λ (n : ℕ). n < size g) e (index-lt g row c l (omega arith)), sym (ap (column_of g) e) ∙ index-column g row c l)
 
 -- the cell is the first closed unit, and the column is its own
-abbrev pub IsLowest : ℕ → ℕ → List ℤ → Found → ℕ → Type 0
+abbrev pub IsLowest : ℕ → ℕ → List ℤ → Option ℕ → ℕ → Type 0
 IsLowest rows columns w found column =
     (g : Grid) (s : Position) (old : List ℤ) → Stands rows columns g s old w → (found ≡ found_first (unit_cells g s)) × (column ≡ found_column g found)
 
@@ -56,18 +55,15 @@ module _ (rows columns : ℕ) (w : List ℤ) where
       ∙ ap (λ (k : ℕ). keep (unit_at w) (range 0 k)) (ap₂ ◌*◌ t.rows_are t.columns_are)
 
   -- past the last column
-  pub nothing_lowest : (found : Found) (column : ℕ) → found ≡ Nothing → column ≡ columns → NoUnitBelow w (column * rows) → IsLowest rows columns w found column
-  nothing_lowest found column e q n g s old t = (
-    e ∙ found_none (unit_at w) (rows * columns) (λ j h. n.none j (omega (arith, size))) ∙ sym (ap found_first (all_cells g s old t)),
-    q ∙ sym t.columns_are ∙ sym (ap (found_column g) e),
+  pub none_lowest : NoUnitBelow w (columns * rows) → IsLowest rows columns w None columns
+  none_lowest n g s old t = (
+    found_none (unit_at w) (rows * columns) (λ j h. n.none j (omega (arith, mul_comm columns rows))) ∙ sym (ap found_first (all_cells g s old t)),
+    sym t.columns_are,
   )
-    where
-      size : column * rows ≡ rows * columns
-      size = ap (λ (k : ℕ). k * rows) q ∙ mul_comm columns rows
 
   -- at the first closed unit
   pub at_lowest : (column row : ℕ) → column < columns → row < rows → true ≡ unit_at w (column * rows + row) → NoUnitBelow w (column * rows + row)
-      → IsLowest rows columns w (At (column * rows + row)) column
+      → IsLowest rows columns w (Some (column * rows + row)) column
   at_lowest column row h k u n g s old t = (
     found_at (unit_at w) (rows * columns) (column * rows + row) (cell_below rows columns row column k h) (subst T u tt) n.none ∙ sym (ap found_first (all_cells g s old t)),
     sym (in-column rows columns g t.rows_are t.columns_are row column k h).1,

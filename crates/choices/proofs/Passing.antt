@@ -1,5 +1,5 @@
 -- The cells that pass a test, in index order: which they are, the first of them, the one at a place. Assumes nothing.
-use Rattle.choices.specs.declared.Found.TheVariants.{At, Nothing}
+use Rattle.std.specs.Prelude.{Some, None}
 use Prim.Native.Nat.{ℕ, ◌+◌, ◌-◌, ◌<◌, ◌≤◌, suc, zero}
 use native.Mathlib.Omega.{arith}
 use native.Mathlib.Decide.{ℕ_discrete, dec_lt}
@@ -17,19 +17,19 @@ use Rattle.game.proofs.Members.{has_from, has_range, keep_has, none_there}
 
 -- ---- the first that passes
 
-pub found_none : (f : ℕ → Bool) (n : ℕ) → ((j : ℕ) → j < n → T (f j) → ⊥) → Nothing ≡ found_first (keep f (range 0 n))
+pub found_none : (f : ℕ → Bool) (n : ℕ) → ((j : ℕ) → j < n → T (f j) → ⊥) → None ≡ found_first (keep f (range 0 n))
 found_none f n h =
     sym (ap found_first (none_there (keep f (range 0 n)) (λ x t. let k = keep_has f x (range 0 n) t in h x (has_range 0 n x k.0).1 k.1)))
 
-found_from : (f : ℕ → Bool) (n a i : ℕ) → a ≤ i → i < a + n → T (f i) → ((j : ℕ) → a ≤ j → j < i → T (f j) → ⊥) → At i ≡ found_first (keep f (from a n))
+found_from : (f : ℕ → Bool) (n a i : ℕ) → a ≤ i → i < a + n → T (f i) → ((j : ℕ) → a ≤ j → j < i → T (f j) → ⊥) → Some i ≡ found_first (keep f (from a n))
 found_from f zero a i h k t b = absurd (omega arith)
 found_from f (suc n) a i h k t b = go (f a) refl (λ l. found_from f n (suc a) i l (omega arith) t (λ j q. b j (omega arith)))
   where
-    go : (c : Bool) → f a ≡ c → (a < i → At i ≡ found_first (keep f (from (suc a) n))) → At i ≡ found_first (elim c [ true ↦ a ∷ keep f (from (suc a) n) | false ↦ keep f (from (suc a) n) ])
-    go true e r = elim (dec_lt a i) [ yes l ↦ absurd (b a (omega arith) l (rw e tt)) | no l ↦ ap At (omega arith) ]
+    go : (c : Bool) → f a ≡ c → (a < i → Some i ≡ found_first (keep f (from (suc a) n))) → Some i ≡ found_first (elim c [ true ↦ a ∷ keep f (from (suc a) n) | false ↦ keep f (from (suc a) n) ])
+    go true e r = elim (dec_lt a i) [ yes l ↦ absurd (b a (omega arith) l (rw e tt)) | no l ↦ ap Some (omega arith) ]
     go false e r = elim (ℕ_discrete i a) [ yes q ↦ absurd (subst T (ap f q ∙ e) t) | no q ↦ r (omega arith) ]
 
-pub found_at : (f : ℕ → Bool) (n i : ℕ) → i < n → T (f i) → ((j : ℕ) → j < i → T (f j) → ⊥) → At i ≡ found_first (keep f (range 0 n))
+pub found_at : (f : ℕ → Bool) (n i : ℕ) → i < n → T (f i) → ((j : ℕ) → j < i → T (f j) → ⊥) → Some i ≡ found_first (keep f (range 0 n))
 found_at f n i h t b = found_from f (n - 0) 0 i (omega arith) (omega arith) t (λ j q. b j)
 
 -- ---- the one at a place

@@ -1,6 +1,6 @@
 -- The cells of highest premium, by what the work area holds: the first column of highest premium has the lowest of them. Assumes nothing.
 use Rattle.area.proofs.Held.{Holds, held_numbers}
-use Rattle.choices.specs.declared.Found.TheVariants.{At, Nothing}
+use Rattle.std.specs.Prelude.{Some, None}
 use Rattle.choices.specs.declared.Best.{Best}
 use Prim.Native.Nat.{ℕ, ◌*◌, ◌+◌, ◌/◌, ◌<◌, ◌≤◌}
 use native.Mathlib.Omega.{arith}
@@ -152,7 +152,7 @@ module _ (openedOnly : Bool) (rows columns : ℕ) (g : Grid) (s : Position) (old
         omega (arith, k.1 q.0, l.first (j / rows) k.0, q.1)
 
     -- so the first of its cells that have it is the first of all
-    led_found : At (get_or (keep is_top (range (best.at * rows) (best.at * rows + rows))) 0 0) ≡ found_first (top_cells openedOnly g s)
+    led_found : Some (get_or (keep is_top (range (best.at * rows) (best.at * rows + rows))) 0 0) ≡ found_first (top_cells openedOnly g s)
     led_found =
         let i = get_or (keep is_top (range (best.at * rows) (best.at * rows + rows))) 0 0 in
         let f = first_there is_top (best.at * rows) (best.at * rows + rows) (best.at * rows + led_cell.0) (omega arith) (omega (arith, led_cell.1)) led_cell.2 in
@@ -168,13 +168,13 @@ module _ (openedOnly : Bool) (rows columns : ℕ) (g : Grid) (s : Position) (old
   none_reaches q j h u =
       ⊎_elim (λ v. omega (arith, below j h u, v.0)) (λ l. absurd (subst (λ (xs : List ℕ). T (has (top_there l).0 xs)) q (top_there l).1)) led.which
 
-  pub best_found : best.at < columns → At (get_or (keep is_top (range (best.at * rows) (best.at * rows + rows))) 0 0) ≡ found_first (top_cells openedOnly g s)
+  pub best_found : best.at < columns → Some (get_or (keep is_top (range (best.at * rows) (best.at * rows + rows))) 0 0) ≡ found_first (top_cells openedOnly g s)
   best_found h = ⊎_elim (λ u. absurd (other h u.1)) led_found led.which
     where
       other : {a b : ℕ} → a < b → a ≡ b → ⊥
       other k q = omega arith
 
-  pub best_none : columns ≤ best.at → Nothing ≡ found_first (top_cells openedOnly g s)
+  pub best_none : columns ≤ best.at → None ≡ found_first (top_cells openedOnly g s)
   best_none h = ⊎_elim (λ u. sym (ap found_first (no_tops u.0))) (λ l. absurd (other h l.inside)) led.which
     where
       other : {a b : ℕ} → b ≤ a → a < b → ⊥

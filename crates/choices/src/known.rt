@@ -10,14 +10,7 @@ ghost use Rattle.choices.specs.Tests.{top_at};
 ghost use Rattle.choices.specs.Picks.{found_first};
 ghost use Rattle.choices.specs.Tops.{TopsKnown, column_top, first_of, higher_of, kept_of};
 
-use crate::{Best, Found, highest};
-
-// A byte as a wider number.
-pub fn wide(byte: u8) -> usize
-    ensures { result ≡ byte }
-{
-    byte as usize
-}
+use crate::{Best, highest};
 
 // The byte kept of a number.
 pub fn kept_of(top: usize) -> u8
@@ -56,7 +49,7 @@ fn top_of(
     ensures value { result ≡ column_top opened_only work.now rows column }
     ensures tops_len_unchanged { (length tops.new ≡ length tops.old) × TopsKnown opened_only work.now rows columns tops.new }
 {
-    let kept = wide(tops[column]);
+    let kept = usize::from(tops[column]);
     if kept > 0 {
         return kept - 1;
     }
@@ -123,7 +116,13 @@ fn first_row(
 }
 
 // The lowest of the cells of highest premium, if that is 0 or more: only its column is looked at again, and those marked.
-pub fn best(work: &[i32], rows: usize, columns: usize, tops: &mut [u8], opened_only: bool) -> Found
+pub fn best(
+    work: &[i32],
+    rows: usize,
+    columns: usize,
+    tops: &mut [u8],
+    opened_only: bool,
+) -> Option<usize>
     requires shape { Shape rows columns }
     requires has_cells { HasCells work.now (rows * columns) × TopsKnown opened_only work.now rows columns tops.old }
     ensures tops_len_unchanged { (length tops.new ≡ length tops.old) × TopsKnown opened_only work.now rows columns tops.new }
@@ -132,7 +131,7 @@ pub fn best(work: &[i32], rows: usize, columns: usize, tops: &mut [u8], opened_o
     let first = first_column(work, rows, columns, tops, opened_only);
     let column = first.at;
     if column >= columns {
-        return Found::Nothing;
+        return None;
     }
-    Found::At(first_row(work, rows, columns, column, opened_only, first.top))
+    Some(first_row(work, rows, columns, column, opened_only, first.top))
 }

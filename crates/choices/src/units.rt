@@ -8,7 +8,7 @@ ghost use Rattle.area.specs.Stages.{Shape, Stands};
 ghost use Rattle.choices.specs.Tests.{NoUnitBelow, unit_at};
 ghost use Rattle.choices.specs.Picks.{found_column, found_first};
 
-use crate::{Found, Lowest};
+use crate::Lowest;
 
 // Whether there is a closed safe cell of number 0 or without label.
 pub fn unit(work: &[i32], index: usize) -> bool
@@ -35,17 +35,18 @@ pub fn lowest(work: &[i32], rows: usize, columns: usize, from: usize) -> Lowest
     ensures { (g : Grid) (s : Position) (old : List ℤ) → Stands rows columns g s old work.now
         → (result.found ≡ found_first (unit_cells g s)) × (result.column ≡ found_column g result.found) }
 {
-    let mut found = Found::Nothing;
-    let mut column = from;
-    'grid: while column < columns {
+    for column in from..columns {
         for row in 0..rows {
             let index = column * rows + row;
             if unit(work, index) {
-                found = Found::At(index);
-                break 'grid;
+                let found = Some(index);
+                return Lowest { found, column };
             }
         }
-        column += 1;
     }
-    Lowest { found, column }
+    let found = None;
+    Lowest {
+        found,
+        column: columns,
+    }
 }

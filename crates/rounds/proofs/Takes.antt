@@ -7,8 +7,7 @@ use mathlib.Core.List.{List, [], ◌∷◌}
 use lib.Dec.{T}
 use lib.IntN.{ℤ}
 use lib.ListN.{get_or, length}
-use Rattle.choices.specs.declared.Found.{Found}
-use Rattle.choices.specs.declared.Found.TheVariants.{At, Nothing}
+use Rattle.std.specs.Prelude.{Option, Some, None}
 use Rattle.area.specs.Stages.{Standing, Stands}
 use Rattle.choices.specs.Picks.{found_first}
 use Rattle.game.specs.Grid.{Grid, column_of, safe, zero_cell}
@@ -23,17 +22,17 @@ use Rattle.game.proofs.Rounds.{safe_left}
 use Rattle.rounds.specs.Promises.{column_after}
 
 -- what was found is the first
-found_has : (xs : List ℕ) (r : Found) (i : ℕ) → r ≡ At i → r ≡ found_first xs → T (has i xs) × (get_or xs 0 0 ≡ i)
+found_has : (xs : List ℕ) (r : Option ℕ) (i : ℕ) → r ≡ Some i → r ≡ found_first xs → T (has i xs) × (get_or xs 0 0 ≡ i)
 found_has [] r i e f = let z : ◌≡◌ {A = ℕ} 0 1 = cc in absurd (omega arith)
 found_has (x ∷ xs) r i e f = let q : x ≡ i = cc in (has_head i x xs (sym q), q)
 
-found_none : (xs : List ℕ) (r : Found) → r ≡ Nothing → r ≡ found_first xs → xs ≡ []
+found_none : (xs : List ℕ) (r : Option ℕ) → r ≡ None → r ≡ found_first xs → xs ≡ []
 found_none [] r e f = refl
 found_none (x ∷ xs) r e f = let z : ◌≡◌ {A = ℕ} 0 1 = cc in absurd (omega arith)
 
-module _ (rows columns : ℕ) (w : List ℤ) (r : Found) where
+module _ (rows columns : ℕ) (w : List ℤ) (r : Option ℕ) where
   -- it lies on the grid
-  pub unit_inside : (i : ℕ) → Standing rows columns w → ((g : Grid) (s : Position) (old : List ℤ) → Stands rows columns g s old w → r ≡ found_first (unit_cells g s)) → r ≡ At i
+  pub unit_inside : (i : ℕ) → Standing rows columns w → ((g : Grid) (s : Position) (old : List ℤ) → Stands rows columns g s old w → r ≡ found_first (unit_cells g s)) → r ≡ Some i
       → i < rows * columns
   unit_inside i h f e =
       let g = h.grid in
@@ -42,7 +41,7 @@ module _ (rows columns : ℕ) (w : List ℤ) (r : Found) where
       omega (arith, u.inside, ap₂ ◌*◌ h.stands.rows_are h.stands.columns_are)
 
   pub top_inside : (openedOnly : Bool) (i : ℕ) → Standing rows columns w
-      → ((g : Grid) (s : Position) (old : List ℤ) → Stands rows columns g s old w → r ≡ found_first (top_cells openedOnly g s)) → r ≡ At i
+      → ((g : Grid) (s : Position) (old : List ℤ) → Stands rows columns g s old w → r ≡ found_first (top_cells openedOnly g s)) → r ≡ Some i
       → i < rows * columns
   top_inside openedOnly i h f e =
       let g = h.grid in
@@ -55,21 +54,21 @@ module _ (rows columns : ℕ) (w : List ℤ) (r : Found) where
   module _ (g : Grid) (s : Position) (P : List Move → ℕ → Type 0) where
     -- ---- one L
 
-    pub unit_taken : (i : ℕ) → r ≡ At i → r ≡ found_first (unit_cells g s) → (T (safe g i) → T (closed s i) → P (left i ∷ []) (column_of g i))
+    pub unit_taken : (i : ℕ) → r ≡ Some i → r ≡ found_first (unit_cells g s) → (T (safe g i) → T (closed s i) → P (left i ∷ []) (column_of g i))
         → P (left (get_or (unit_cells g s) 0 0) ∷ []) (column_of g (get_or (unit_cells g s) 0 0))
     unit_taken i e f q =
         let h = found_has (unit_cells g s) r i e f in
         let u = unit→ g s i h.0 in
         rw h.1 (q u.is_safe u.is_closed)
 
-    pub unit_missing : r ≡ Nothing → r ≡ found_first (unit_cells g s) → 1 ≤ length (unit_cells g s)
+    pub unit_missing : r ≡ None → r ≡ found_first (unit_cells g s) → 1 ≤ length (unit_cells g s)
         → P (left (get_or (unit_cells g s) 0 0) ∷ []) (column_of g (get_or (unit_cells g s) 0 0))
     unit_missing e f h = absurd (omega (arith, ap (λ (xs : List ℕ). length xs) (found_none (unit_cells g s) r e f)))
 
     -- ---- a step
 
     module _ (openedOnly : Bool) (from : ℕ) (f : r ≡ found_first (top_cells openedOnly g s)) where
-      pub top_taken : (i : ℕ) → Tidy g s → r ≡ At i → (T (safe g i) → (T (zero_cell g i) → ⊥) → P (moves_at g s i) from)
+      pub top_taken : (i : ℕ) → Tidy g s → r ≡ Some i → (T (safe g i) → (T (zero_cell g i) → ⊥) → P (moves_at g s i) from)
           → P (step_of g s (choice openedOnly g s) 0).moves (column_after g (choice openedOnly g s) from)
       unfolding choice
       top_taken i tidy e q =
@@ -84,7 +83,7 @@ module _ (rows columns : ℕ) (w : List ℤ) (r : Found) where
           go [] h m = absurd h.0
           go (x ∷ xs) h m = rw h.1 m
 
-      pub click_taken : Tidy g s → 1 ≤ closed_units g s → r ≡ Nothing
+      pub click_taken : Tidy g s → 1 ≤ closed_units g s → r ≡ None
           → (1 ≤ length (unit_cells g s) → top_cells openedOnly g s ≡ [] → P (left (get_or (unit_cells g s) 0 0) ∷ []) (column_of g (get_or (unit_cells g s) 0 0)))
           → P (step_of g s (choice openedOnly g s) 0).moves (column_after g (choice openedOnly g s) from)
       click_taken p h e q =

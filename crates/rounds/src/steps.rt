@@ -11,7 +11,6 @@ ghost use Rattle.choices.specs.Tops.{TopsKnown};
 ghost use Rattle.rounds.specs.Promises.{MadeKnown, StepKnown};
 
 use crate::Stepped;
-use choices::Found;
 use moves::{State, single};
 
 // L on a closed safe cell, where no premium reaches 0; the columns that it may change are marked.
@@ -75,14 +74,14 @@ pub fn click_lowest(
     let lowest = choices::units::lowest(work, rows, columns, from);
     let found = lowest.found;
     match found {
-        Found::At(index) => {
+        Some(index) => {
             let clicked = click_at(work, rows, columns, list, tops, state, index);
             Stepped {
                 state: clicked,
                 from: lowest.column,
             }
         }
-        Found::Nothing => Stepped { state, from },
+        None => Stepped { state, from },
     }
 }
 
@@ -107,13 +106,13 @@ pub fn step(
 {
     let found = choices::known::best(work, rows, columns, tops, opened_only);
     match found {
-        Found::At(index) => {
+        Some(index) => {
             let chorded = act_at(work, rows, columns, list, tops, state, index);
             Stepped {
                 state: chorded,
                 from,
             }
         }
-        Found::Nothing => click_lowest(work, rows, columns, list, tops, state, from),
+        None => click_lowest(work, rows, columns, list, tops, state, from),
     }
 }

@@ -14,19 +14,19 @@ use Rattle.choices.specs.Picks.{found_first}
 use Rattle.choices.specs.Tests.{top_at}
 use Rattle.choices.specs.Tops.{first_of}
 use Rattle.choices.specs.declared.Best.{Best}
-use Rattle.choices.specs.declared.Found.TheVariants.{At, Nothing}
+use Rattle.std.specs.Prelude.{Some, None}
 use Rattle.choices.proofs.Tops.{best_found, best_none}
 use Rattle.choices.proofs.known.best.Goals as goal
 
 module _ (openedOnly : Bool) (w : List ℤ) (rows columns : ℕ) (first : Best) (e : first ≡ first_of openedOnly w rows columns columns)
     (g : Grid) (s : Position) (old : List ℤ) (t : Stands rows columns g s old w) where
-  no_column : columns ≤ first.at → Nothing ≡ found_first (top_cells openedOnly g s)
+  no_column : columns ≤ first.at → None ≡ found_first (top_cells openedOnly g s)
   no_column h = best_none openedOnly rows columns g s old w t (subst (λ (b : Best). columns ≤ b.at) e h)
 
   in-column : (found : ℕ) → first.at < columns → found ≡ get_or (keep (top_at openedOnly first.top w) (range (first.at * rows) (first.at * rows + rows))) 0 0
-      → At found ≡ found_first (top_cells openedOnly g s)
+      → Some found ≡ found_first (top_cells openedOnly g s)
   in-column found h q =
-      ap At (q ∙ ap (λ (b : Best). get_or (keep (top_at openedOnly b.top w) (range (b.at * rows) (b.at * rows + rows))) 0 0) e)
+      ap Some (q ∙ ap (λ (b : Best). get_or (keep (top_at openedOnly b.top w) (range (b.at * rows) (b.at * rows + rows))) 0 0) e)
       ∙ best_found openedOnly rows columns g s old w t (subst (λ (b : Best). b.at < columns) e h)
 
 pub returns-then-column-columns : goal.returns-then-column-columns

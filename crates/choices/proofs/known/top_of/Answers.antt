@@ -8,7 +8,7 @@ use Rattle.choices.proofs.known.top_of.Goals as goal
 pub returns-then-kept-gt0 : goal.returns-then-kept-gt0
 returns-then-kept-gt0 c =
     let k = c.requires.has_cells.2 in
-    let e = c.wide-kept.ensures in
+    let e = c.from-kept.ensures in
     record { value = omega (arith, k.right c.args.column c.requires.has_cells.1 (λ z. omega arith), e); tops_len_unchanged = (refl, k) }
 
 pub returns : goal.returns

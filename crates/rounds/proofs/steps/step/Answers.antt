@@ -12,10 +12,10 @@ use Rattle.rounds.proofs.steps.step.Goals as goal
 pub act_at-chorded-requires : goal.act_at-chorded-requires
 act_at-chorded-requires c =
     let a = c.args in
-    record { shape = c.requires.shape; has_cells = (omega arith, top_inside a.rows a.columns a.work.now c.best-found.result a.opened_only c.in-At.index c.requires.standing c.best-found.ensures.value c.in-At.is, omega arith) }
+    record { shape = c.requires.shape; has_cells = (omega arith, top_inside a.rows a.columns a.work.now c.best-found.result a.opened_only c.in-Some.index c.requires.standing c.best-found.ensures.value c.in-Some.is, omega arith) }
 
-pub returns-in-At : goal.returns-in-At
-returns-in-At c =
+pub returns-in-Some : goal.returns-in-Some
+returns-in-Some c =
     let a = c.args in
     let tops = c.best-found.new.tops in
     let y = c.act_at-chorded in
@@ -23,11 +23,11 @@ returns-in-At c =
     (top_taken a.rows a.columns a.work.now c.best-found.result g s
     (λ (ms : List Move) (column : ℕ). MadeKnown a.opened_only a.rows a.columns g s old ms a.list.now a.work.now tops a.state y.new.work y.new.list y.new.tops y.result
     × (a.from ≡ column))
-    a.opened_only a.from (c.best-found.ensures.value g s old st) c.in-At.index p c.in-At.is (λ t z. (y.ensures a.opened_only g s old st p t z e, refl)))
+    a.opened_only a.from (c.best-found.ensures.value g s old st) c.in-Some.index p c.in-Some.is (λ t z. (y.ensures a.opened_only g s old st p t z e, refl)))
     c.best-found.ensures.tops_len_unchanged.1
 
-pub returns-in-Nothing : goal.returns-in-Nothing
-returns-in-Nothing c =
+pub returns-in-None : goal.returns-in-None
+returns-in-None c =
     let a = c.args in
     let tops = c.best-found.new.tops in
     let y = c.click_lowest in
@@ -35,5 +35,5 @@ returns-in-Nothing c =
     (click_taken a.rows a.columns a.work.now c.best-found.result g s
     (λ (ms : List Move) (column : ℕ). MadeKnown a.opened_only a.rows a.columns g s old ms a.list.now a.work.now tops a.state y.new.work y.new.list y.new.tops y.result.state
     × (y.result.from ≡ column))
-    a.opened_only a.from (c.best-found.ensures.value g s old st) p n c.in-Nothing.is (λ l q. y.ensures a.opened_only g s old st p l q e))
+    a.opened_only a.from (c.best-found.ensures.value g s old st) p n c.in-None.is (λ l q. y.ensures a.opened_only g s old st p l q e))
     c.best-found.ensures.tops_len_unchanged.1
