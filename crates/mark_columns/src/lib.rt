@@ -1,41 +1,29 @@
 // Columns marked: one, those near a column, those from a column on that have one of two labels. A mark is a byte of 0.
 #![tactic(auto)]
 
-ghost use Rattle.std.specs.Prelude.{◌≡◌, ℕ, ◌+◌, ◌*◌, ◌<◌, ◌≤◌, min, length};
+ghost use Rattle.std.specs.Prelude.{◌≡◌, ℕ, ◌+◌, ◌*◌, ◌<◌, ◌≤◌, length};
 ghost use Rattle.area.specs.Numbers.{HasCells};
 ghost use Rattle.area.specs.Stages.{Shape};
 ghost use Rattle.mark_columns.specs.Columns.{Far, MarkedOr, Parted};
 
 use mark_tests::has_label;
 
-// The place so many on from another, at most n.
-fn onward(from: usize, steps: usize, n: usize) -> usize
-    ensures { result ≡ min (from + steps) n }
-{
-    if from < area::take_away(n, steps) {
-        return from + steps;
-    }
-    n
-}
-
 // Marks the columns up to two from a column.
 pub fn mark_near(tops: &mut [u8], column: usize)
     ensures { (length tops.new ≡ length tops.old) × ((c : ℕ) → MarkedOr (Far c column) tops.old tops.new c) }
 {
-    let last = onward(column, 3, tops.len());
-    for near in area::take_away(column, 2)..last {
-        tops[near] = 0;
-    }
+    let last = column.saturating_add(3).min(tops.len());
+    let first = column.saturating_sub(2).min(last);
+    tops[first..last].fill(0);
 }
 
 // Marks one column.
 pub fn mark_one(tops: &mut [u8], column: usize)
     ensures { (length tops.new ≡ length tops.old) × ((c : ℕ) → MarkedOr (c ≡ column → ⊥) tops.old tops.new c) }
 {
-    if column >= tops.len() {
-        return;
+    if column < tops.len() {
+        tops[column] = 0;
     }
-    tops[column] = 0;
 }
 
 // Marks the columns before a column, from there to the left until one has no cell with one of two labels.
@@ -53,9 +41,7 @@ pub fn mark_left(
     ensures { (length tops.new ≡ length tops.old)
         × ((c : ℕ) → MarkedOr (c < column → Parted work.now rows first second c column) tops.old tops.new c) }
 {
-    let mut left = column;
-    while 0 < left {
-        left -= 1;
+    for left in (0..column).rev() {
         if !has_label(work, rows, columns, left, first, second) {
             return;
         }
@@ -63,6 +49,7 @@ pub fn mark_left(
     }
 }
 
+// Not one function with mark_left: both are one loop, and they differ in its order and in what each promises.
 // Marks the columns from a column on to the right until one has no cell with one of two labels.
 pub fn mark_right(
     work: &[i32],
