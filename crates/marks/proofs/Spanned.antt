@@ -149,13 +149,6 @@ module _ (rows columns : ℕ) (g : Grid) (s : Position) (old w : List ℤ) (i : 
 
   -- ---- what one L marks
 
-  pub clicked_opening : (tops tops' : List ℕ) → Marked g s i tops tops' → Clicked g s i tops tops'
-  clicked_opening tops tops' f =
-      record { long = f.long; marks = λ c. marked_also tops tops' c (λ k. record { other = away c k.far; quiet = λ _. k }) (f.marks c) }
-    where
-      away : (c : ℕ) → Far c (column_of g i) → c ≡ column_of g i → ⊥
-      away c k e = ⊎_elim (λ l. omega arith) (λ l. omega arith) k
-
   pub clicked_one : (tops tops' : List ℕ) → (content_at w i ≡ 1 → ⊥) → length tops' ≡ length tops → ((c : ℕ) → MarkedOr (c ≡ i / rows → ⊥) tops tops' c) → Clicked g s i tops tops'
   clicked_one tops tops' n l m =
       record {

@@ -32,7 +32,7 @@ pub fn mark(work: &[i32], rows: usize, columns: usize, tops: &mut [u8], index: u
         rows,
         columns,
         tops,
-        area::take_away(column, 2),
+        column.saturating_sub(2),
         first,
         second,
     );

@@ -1,15 +1,11 @@
 -- `marks::mark`: the columns near the cell's own, and both walks from there on if a closed 0-cell is near, which no cell without label has. Assumes nothing.
 use native.Mathlib.Omega.{arith}
 use mathlib.Core.Path.{◌∙◌, sym}
-use mathlib.Core.List.{[]}
-use Rattle.area.specs.Numbers.{grid_of}
-use Rattle.game.proofs.Squares.{column_lt}
 use Rattle.marks.proofs.Spanned.{marks_near, marks_spanned, none_borders}
 use Rattle.marks.proofs.mark.Goals as goal
 
 pub returns-then-first-eq0 : goal.returns-then-first-eq0
 returns-then-first-eq0 c =
-    let n = c.before.before.before.before in
     let a = c.args in
     let f = c.mark_near in
     λ g p old t. marks_near a.rows a.columns g p old a.work.now a.index c.requires.has_cells.1 t a.tops.now f.new.tops
@@ -17,30 +13,14 @@ returns-then-first-eq0 c =
 
 pub returns-then-not-borders_closed : goal.returns-then-not-borders_closed
 returns-then-not-borders_closed c =
-    let b = c.before in
-    let n = b.before.before.before.before.before in
     let a = c.args in
     let f = c.mark_near in
     λ g p old t. marks_near a.rows a.columns g p old a.work.now a.index c.requires.has_cells.1 t a.tops.now f.new.tops
     (sym c.if-not-borders_closed.true ∙ c.borders_closed.ensures g p old t) f.ensures.0 f.ensures.1
 
-pub mark_left-requires : goal.mark_left-requires
-mark_left-requires c =
-    record { shape = c.requires.shape; has_cells = (c.requires.has_cells.0, omega (arith, column_lt (grid_of c.args.rows c.args.columns []) c.args.index c.requires.has_cells.1, c.take_away.ensures)) }
-
-pub overflow_add-column : goal.overflow_add-column
-overflow_add-column c =
-    omega (arith, column_lt (grid_of c.args.rows c.args.columns []) c.args.index c.requires.has_cells.1, c.requires.shape.few_columns)
-
 pub returns : goal.returns
 returns c =
-    let r = c.before.before in
-    let l = r.before.before.before.before in
-    let m = l.before in
-    let k = m.before.before in
-    let d = k.before.before.before.before in
-    let n = d.before.before.before in
     let a = c.args in
-    λ g p old t. marks_spanned a.rows a.columns g p old a.work.now a.index c.requires.has_cells.1 t c.first_label-first.result c.second_label-second.result c.take_away.result _
+    λ g p old t. marks_spanned a.rows a.columns g p old a.work.now a.index c.requires.has_cells.1 t c.first_label-first.result c.second_label-second.result c.saturating_sub.result _
     a.tops.now c.mark_near.new.tops c.mark_left.new.tops c.mark_right.new.tops c.first_label-first.ensures.0 c.second_label-second.ensures.0
-    c.mark_near.ensures c.mark_left.ensures c.mark_right.ensures (omega (arith, c.take_away.ensures)) (omega arith)
+    c.mark_near.ensures c.mark_left.ensures c.mark_right.ensures (omega arith) (omega arith)
