@@ -6,10 +6,9 @@ use mathlib.Core.Path.{◌∙◌, ◌≡◌, ap}
 use mathlib.Core.Bool.{Bool, cond}
 use mathlib.Core.List.{List}
 use borrow.Author.Tests.{le-ltb, lt-ltb}
-use lib.IntN.{ℤ}
-use lib.ListN.{get_or, length, length-set, set}
+use lib.ListN.{get_or, length, set}
 use lib.Seq.{get_or-set_other, get_or-set_same}
-use Rattle.choices.specs.Tops.{TopsKnown, column_top, kept_of}
+use Rattle.choices.specs.Tops.{kept_of}
 
 -- what is found of it is kept, where 1 more is a byte
 pub byte_again : (f : ℕ → ℕ) (bytes : List ℕ) (columns column : ℕ) → columns ≤ length bytes
@@ -27,12 +26,3 @@ byte_again f bytes columns column room right c h n =
 
     here : column < columns → (get_or (set bytes column (kept_of (f column))) column 0 ≡ 0 → ⊥) → get_or (set bytes column (kept_of (f column))) column 0 ≡ f column + 1
     here h n = let s = get_or-set_same bytes column (kept_of (f column)) 0 (omega (arith, room)) in s ∙ byte (dec_lt (f column) 255) (λ z. n (s ∙ z))
-
--- its highest premium
-pub kept_again : (openedOnly : Bool) (w : List ℤ) (rows columns : ℕ) (tops : List ℕ) (column : ℕ) → TopsKnown openedOnly w rows columns tops
-    → TopsKnown openedOnly w rows columns (set tops column (kept_of (column_top openedOnly w rows column)))
-kept_again openedOnly w rows columns tops column k =
-    record {
-      room = rw (length-set tops column (kept_of (column_top openedOnly w rows column))) k.room;
-      right = byte_again (column_top openedOnly w rows) tops columns column k.room k.right;
-    }

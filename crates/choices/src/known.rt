@@ -16,10 +16,7 @@ use crate::{Best, highest};
 pub fn kept_of(top: usize) -> u8
     ensures { result ≡ kept_of top }
 {
-    if top < 255 {
-        return (top + 1) as u8;
-    }
-    0
+    u8::try_from(top.saturating_add(1)).unwrap_or(0)
 }
 
 // The higher premium so far, and the first column that has it, once a column's is known.

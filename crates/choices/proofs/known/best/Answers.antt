@@ -29,16 +29,12 @@ module _ (openedOnly : Bool) (w : List ℤ) (rows columns : ℕ) (first : Best) 
       ap Some (q ∙ ap (λ (b : Best). get_or (keep (top_at openedOnly b.top w) (range (b.at * rows) (b.at * rows + rows))) 0 0) e)
       ∙ best_found openedOnly rows columns g s old w t (subst (λ (b : Best). b.at < columns) e h)
 
-pub returns-then-column-columns : goal.returns-then-column-columns
-returns-then-column-columns c =
+pub returns-then-column-columns-clause-value : goal.returns-then-column-columns-clause-value
+returns-then-column-columns-clause-value c =
     let a = c.args in
-    record { tops_len_unchanged = c.first_column-first.ensures.tops_len_unchanged; value = λ g s old t. no_column a.opened_only a.work.now a.rows a.columns c.first_column-first.result c.first_column-first.ensures.value g s old t c.if-column-columns.true }
+    λ g s old t. no_column a.opened_only a.work.now a.rows a.columns c.first_column-first.result c.first_column-first.ensures.value g s old t c.if-column-columns.true
 
-pub returns : goal.returns
-returns c =
-    let x = c.before in
-    let a = c.args in record {
-      tops_len_unchanged = c.first_column-first.ensures.tops_len_unchanged;
-      value = λ g s old t.
-          in-column a.opened_only a.work.now a.rows a.columns c.first_column-first.result c.first_column-first.ensures.value g s old t c.first_row.result c.if-column-columns.false c.first_row.ensures;
-    }
+pub returns-clause-value : goal.returns-clause-value
+returns-clause-value c =
+    let a = c.args in
+    λ g s old t. in-column a.opened_only a.work.now a.rows a.columns c.first_column-first.result c.first_column-first.ensures.value g s old t c.first_row.result c.if-column-columns.false c.first_row.ensures

@@ -1,5 +1,4 @@
 -- `choices::known::first_column`: the first of the columns passed that has the highest premium. Assumes nothing.
-use Prim.Native.Nat.{◌-◌, ◌≤◌}
 use mathlib.Core.Path.{◌≡◌}
 use lib.ListN.{length}
 use Rattle.choices.specs.Tops.{TopsKnown, first_of}
@@ -7,7 +6,4 @@ use Rattle.choices.proofs.known.first_column.Given as goal
 
 abbrev pub invariant-loop-column : goal.invariant-loop-column
 invariant-loop-column l =
-    (l.column ≤ l.columns) × (length l.tops ≡ length l.initial.tops) × TopsKnown l.opened_only l.work l.rows l.columns l.tops × (l.found ≡ first_of l.opened_only l.work l.rows l.columns l.column)
-
-abbrev pub decreases-loop-column : goal.decreases-loop-column
-decreases-loop-column l = l.columns - l.column
+    (length l.tops ≡ length l.initial.tops) × TopsKnown l.opened_only l.work l.rows l.columns l.tops × (l.found ≡ first_of l.opened_only l.work l.rows l.columns l.column)

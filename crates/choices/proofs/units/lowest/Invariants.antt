@@ -1,5 +1,5 @@
 -- `choices::units::lowest`: no cell passed is a closed unit; the search ends past the last column, or at the first one. Assumes nothing.
-use Prim.Native.Nat.{◌+◌, ◌*◌, ◌≤◌, ◌<◌}
+use Prim.Native.Nat.{◌+◌, ◌*◌, ◌<◌}
 use Rattle.choices.specs.Tests.{NoUnitBelow}
 use Rattle.choices.proofs.units.lowest.Given as goal
 
