@@ -3,5 +3,4 @@ pub mod Held
 pub mod Columns
 pub mod Tops
 pub mod Below
-pub mod Bytes
 pub mod Firsts

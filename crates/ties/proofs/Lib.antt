@@ -1,3 +1,2 @@
 pub mod Skips
-pub mod Units
 pub mod Telling

@@ -60,7 +60,7 @@ fn skipped(tops: &[u8], top: usize, column: usize) -> bool
     requires { column < length tops.now }
     ensures { result ≡ skipped_at top tops.now column }
 {
-    let kept = known::wide(tops[column]);
+    let kept = usize::from(tops[column]);
     if kept == 0 {
         return false;
     }
@@ -90,7 +90,7 @@ fn units_of(work: &[i32], rows: usize, columns: usize, units: &mut [u8], column:
     ensures value { (result ≡ column_units work.now rows column) × (result ≤ rows) }
     ensures units_len_unchanged { (length units.new ≡ length units.old) × UnitsKnown work.now rows columns units.new units.new }
 {
-    let kept = known::wide(units[column]);
+    let kept = usize::from(units[column]);
     if kept > 0 {
         return kept - 1;
     }

@@ -1,5 +1,5 @@
 -- `ties::count_cells`: the candidates counted so far are those passed. Assumes nothing.
-use Prim.Native.Nat.{◌*◌, ◌+◌, ◌-◌, ◌≤◌}
+use Prim.Native.Nat.{◌*◌, ◌+◌, ◌≤◌}
 use mathlib.Core.Path.{◌≡◌}
 use Rattle.game.specs.Lists.{count, range}
 use Rattle.ties.specs.Candidates.{candidate_at}
@@ -7,7 +7,4 @@ use Rattle.ties.proofs.count_cells.Given as goal
 
 abbrev pub invariant-loop-row : goal.invariant-loop-row
 invariant-loop-row l =
-    (l.row ≤ l.rows) × (l.candidates ≡ count (candidate_at l.top l.work) (range (l.column * l.rows) (l.column * l.rows + l.row))) × (l.candidates ≤ l.row)
-
-abbrev pub decreases-loop-row : goal.decreases-loop-row
-decreases-loop-row l = l.rows - l.row
+    (l.candidates ≡ count (candidate_at l.top l.work) (range (l.column * l.rows) (l.column * l.rows + l.row))) × (l.candidates ≤ l.row)

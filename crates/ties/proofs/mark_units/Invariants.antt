@@ -1,8 +1,8 @@
 -- `ties::mark_units`: the columns passed that are marked for their premiums are marked. Assumes nothing.
-use Prim.Native.Nat.{ℕ, ◌-◌, ◌<◌, ◌≤◌}
+use Prim.Native.Nat.{ℕ, ◌<◌}
 use mathlib.Core.Path.{◌≡◌}
 use mathlib.Core.List.{List}
-use lib.ListN.{get_or, length}
+use lib.ListN.{get_or}
 use Rattle.mark_columns.specs.Columns.{MarkedOr}
 use Rattle.ties.proofs.mark_units.Given as goal
 
@@ -12,7 +12,4 @@ Shown tops column c = c < column → get_or tops c 0 ≡ 0 → ⊥
 
 abbrev pub invariant-loop-column : goal.invariant-loop-column
 invariant-loop-column l =
-    (l.column ≤ l.columns) × (length l.units ≡ length l.initial.units) × ((c : ℕ) → MarkedOr (Shown l.tops l.column c) l.initial.units l.units c)
-
-abbrev pub decreases-loop-column : goal.decreases-loop-column
-decreases-loop-column l = l.columns - l.column
+    (c : ℕ) → MarkedOr (Shown l.tops l.column c) l.initial.units l.units c
