@@ -12,11 +12,11 @@ use Rattle.moves.specs.declared.State.{State}
 use Rattle.area.specs.Stages.{Stands}
 use Rattle.game.specs.Area.{list_of}
 use Rattle.game.specs.Demands.{Sound}
-use Rattle.game.specs.Grid.{Grid, cells}
+use Rattle.game.specs.Grid.{Grid}
 use Rattle.game.specs.Moves.{Move, after, word}
 use Rattle.game.specs.Openings.{three_bv}
 use Rattle.game.specs.Position.{Position, Tidy, closed_units, untouched}
-use Rattle.game.specs.Rounds.{first_steps, moves_of, opening_clicks, round_steps, steps_from, steps_on}
+use Rattle.game.specs.Rounds.{first_steps, moves_of, round_steps, steps_from, steps_on}
 use Rattle.moves.specs.Promises.{Made}
 use Rattle.rounds.specs.Promises.{Fresh, Going, RoundPlayed}
 use Rattle.game.proofs.Onwards.{first_falls, round_on}
@@ -24,27 +24,7 @@ use Rattle.game.proofs.Rounds.{greedy_sound, openings_first_sound}
 use Rattle.game.proofs.Runs.{moves_append}
 use Rattle.game.proofs.Tidy.{untouched_tidy}
 use Rattle.game.proofs.Units.{units_untouched}
-use Rattle.moves.proofs.Joins.{made_both, made_none}
-
--- ---- the first steps
-
-module _ (rows columns : ℕ) (g : Grid) (s : Position) (old : List ℤ) (list : List ℕ) (t : State) where
-  pub begun_first : (first : Bool) (w' : List ℤ) (list' : List ℕ) (t' : State) → first ≡ true
-      → Made rows columns g s old (moves_of (opening_clicks g s (cells g))) list t w' list' t'
-      → Made rows columns g s old (moves_of (first_steps first g s)) list t w' list' t'
-  begun_first first w' list' t' e m = rw e m
-
-  pub begun_bare : (first : Bool) (w : List ℤ) → first ≡ false → Stands rows columns g s old w → Tidy g s → t.units ≡ closed_units g s
-      → Made rows columns g s old (moves_of (first_steps first g s)) list t w list t
-  begun_bare first w e st f c = rw e (made_none rows columns g s old w list t st f c)
-
--- the work area after some moves
-pub still_going : (rows columns : ℕ) (w : List ℤ) (list : List ℕ) (w' : List ℤ) (list' : List ℕ) (t t' : State) (begins : Grid → Position → List Move) → Going rows columns w t
-    → ((g : Grid) (s : Position) (old : List ℤ) → Stands rows columns g s old w → Tidy g s → t.units ≡ closed_units g s → Made rows columns g s old (begins g s) list t w' list' t')
-    → Going rows columns w' t'
-still_going rows columns w list w' list' t t' begins u q =
-    let m = q u.grid u.position u.old u.stands u.tidy u.counts in
-    record { grid = u.grid; position = after u.grid u.position (begins u.grid u.position); old = u.old; stands = m.stands; tidy = m.tidy; counts = m.left_units }
+use Rattle.moves.proofs.Joins.{made_both}
 
 -- ---- from a position on
 

@@ -1,7 +1,7 @@
 -- The cell that a step takes is the first that was found: of highest premium, or a closed unit. Assumes nothing.
 use Prim.Native.Nat.{ℕ, ◌*◌, ◌<◌, ◌≤◌}
 use native.Mathlib.Omega.{arith}
-use mathlib.Core.Path.{◌≡◌, ap, ap₂, refl, subst, sym}
+use mathlib.Core.Path.{◌≡◌, ap₂, refl, subst, sym}
 use mathlib.Core.Bool.{Bool}
 use mathlib.Core.List.{List, [], ◌∷◌}
 use lib.Dec.{T}
@@ -60,10 +60,6 @@ module _ (rows columns : ℕ) (w : List ℤ) (r : Option ℕ) where
         let h = found_has (unit_cells g s) r i e f in
         let u = unit→ g s i h.0 in
         rw h.1 (q u.is_safe u.is_closed)
-
-    pub unit_missing : r ≡ None → r ≡ found_first (unit_cells g s) → 1 ≤ length (unit_cells g s)
-        → P (left (get_or (unit_cells g s) 0 0) ∷ []) (column_of g (get_or (unit_cells g s) 0 0))
-    unit_missing e f h = absurd (omega (arith, ap (λ (xs : List ℕ). length xs) (found_none (unit_cells g s) r e f)))
 
     -- ---- a step
 

@@ -33,6 +33,7 @@ pub fn play_on(
 {
     let mut current = state;
     let mut from = 0;
+    // A while: how many steps there are shows only as they are made.
     while 0 < current.units {
         let stepped = steps::step(work, rows, columns, list, tops, current, from, opened_only);
         current = stepped.state;

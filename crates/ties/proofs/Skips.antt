@@ -1,8 +1,8 @@
 -- A column that is passed over has no candidate: all of its premiums are lower. Assumes nothing.
 use Prim.Native.Nat.{ℕ, ◌*◌, ◌+◌, ◌-◌, ◌<◌, ◌≤◌, suc, zero}
 use native.Mathlib.Omega.{arith}
-use native.Mathlib.Nat.{add-sub_of_le, add-zero, mul-le-mul_right, zero-mul}
-use mathlib.Core.Path.{◌∙◌, ◌≡◌, ap, subst, sym}
+use native.Mathlib.Nat.{add-sub_of_le, add-zero}
+use mathlib.Core.Path.{◌≡◌, ap, subst, sym}
 use mathlib.Core.Bool.{Bool, cond, false, not}
 use mathlib.Core.List.{List}
 use borrow.Author.Tests.{eq-eqb, le-ltb}
@@ -10,9 +10,6 @@ use lib.Dec.{T, eqb, eqb→eq, ltb, ltb→lt}
 use lib.IntN.{ℤ}
 use lib.ListN.{get_or}
 use Rattle.area.specs.Numbers.{premium_at}
-use Rattle.area.specs.Stages.{Shape}
-use Rattle.area.proofs.Cells.{cells_few}
-use Rattle.area.proofs.Tests.{count_none_yet}
 use Rattle.game.specs.Lists.{count, range}
 use Rattle.game.proofs.Counts.{count_more, count_none}
 use Rattle.game.proofs.Members.{has_range, range_none}
@@ -67,15 +64,7 @@ count_join f b (suc k) =
     up : (b k : ℕ) → b + k + 1 ≡ b + suc k
     up b k = omega arith
 
--- no column yet
-pub count_no_column : (f : ℕ → Bool) (rows : ℕ) → 0 ≡ count f (range 0 (0 * rows))
-count_no_column f rows = count_none_yet f 0 ∙ ap (λ (k : ℕ). count f (range 0 k)) (sym (zero-mul rows))
-
 -- one column more
 pub count_column_more : (f : ℕ → Bool) (rows column m n : ℕ) → m ≡ count f (range 0 (column * rows)) → n ≡ count f (range (column * rows) (column * rows + rows))
     → m + n ≡ count f (range 0 (column * rows + rows))
 count_column_more f rows column m n e q = omega (arith, e, q, count_join f (column * rows) rows)
-
--- so many columns have few cells
-pub passed_few : (rows columns column : ℕ) → Shape rows columns → column < columns → column * rows + rows ≤ 65025
-passed_few rows columns column s h = omega (arith, cells_few rows columns s, mul-le-mul_right rows h)

@@ -9,10 +9,10 @@ use Rattle.rounds.proofs.Columns.{step_kept}
 use Rattle.rounds.proofs.Takes.{click_taken, top_inside, top_taken}
 use Rattle.rounds.proofs.steps.step.Goals as goal
 
-pub act_at-chorded-requires : goal.act_at-chorded-requires
-act_at-chorded-requires c =
+pub act_at-chorded-requires-clause-has_cells : goal.act_at-chorded-requires-clause-has_cells
+act_at-chorded-requires-clause-has_cells c =
     let a = c.args in
-    record { shape = c.requires.shape; has_cells = (omega arith, top_inside a.rows a.columns a.work.now c.best-found.result a.opened_only c.in-Some.index c.requires.standing c.best-found.ensures.value c.in-Some.is, omega arith) }
+    (omega arith, top_inside a.rows a.columns a.work.now c.best-found.result a.opened_only c.in-Some.index c.requires.standing c.best-found.ensures.value c.in-Some.is, omega arith)
 
 pub returns-in-Some : goal.returns-in-Some
 returns-in-Some c =

@@ -1,20 +1,10 @@
 -- `rounds::whole::go_on`: the first steps and the steps to the end are the defined ones. Assumes nothing.
-use native.Mathlib.Omega.{arith}
-use Rattle.area.proofs.Cells.{cells_few}
 use Rattle.rounds.proofs.Columns.{none_kept}
-use Rattle.rounds.proofs.Ending.{still_going, went_on}
-use borrow.Author.Rules.{rules}
+use Rattle.rounds.proofs.Ending.{went_on}
 use Rattle.rounds.proofs.whole.go_on.Goals as goal
 
-pub play_on-requires : goal.play_on-requires
-play_on-requires c =
-    let a = c.args in
-    let x = c.begin-begun in record {
-      shape = c.requires.shape;
-      has_cells = (search rules, omega (arith, x.ensures.moves_bound, cells_few a.rows a.columns c.requires.shape));
-      going = still_going a.rows a.columns a.work.now a.list.now x.new.work x.new.list a.state x.result _ c.requires.going x.ensures.made;
-      tops_known = none_kept a.openings_first x.new.work a.rows a.columns 255 c.requires.shape.few_columns;
-    }
+pub play_on-requires-clause-tops_known : goal.play_on-requires-clause-tops_known
+play_on-requires-clause-tops_known c = let a = c.args in none_kept a.openings_first c.begin-begun.new.work a.rows a.columns 255 c.requires.shape.few_columns
 
 pub returns : goal.returns
 returns c =

@@ -1,13 +1,10 @@
 -- `rounds::whole::round`: from the untouched position on, the steps are the defined round. Assumes nothing.
-use native.Mathlib.Omega.{arith}
 use mathlib.Core.Path.{refl}
 use Rattle.rounds.proofs.Ending.{fresh_going, rounded}
 use Rattle.rounds.proofs.whole.round.Goals as goal
 
-pub go_on-done-requires : goal.go_on-done-requires
-go_on-done-requires c =
-    let a = c.args in
-    record { shape = c.requires.shape; has_cells = (c.requires.has_cells, omega arith); going = fresh_going a.rows a.columns a.work.now _ c.requires.fresh }
+pub go_on-done-requires-clause-going : goal.go_on-done-requires-clause-going
+go_on-done-requires-clause-going c = let a = c.args in fresh_going a.rows a.columns a.work.now _ c.requires.fresh
 
 pub returns : goal.returns
 returns c =
