@@ -23,17 +23,14 @@ pub fn reader<'a>(bytes: &'a [u8], place: usize) -> DrawReader<'a>
 }
 
 // Where the next draw reads: after this one, or where it was if the bytes are short.
-pub fn place_after(drawn: Drawn, place: usize) -> usize
+pub fn place_after(drawn: Option<Drawn>, place: usize) -> usize
     ensures { result ≡ place_after (drawn_of drawn) place }
 {
-    match drawn {
-        Drawn::Place(_, next) => next,
-        Drawn::Short => place,
-    }
+    drawn.map_or(place, |taken| taken.next)
 }
 
 // The reader is lent: one draw among n in a mode, and it stands at the next place.
-pub fn next_draw<'s, 'a>(reader: &'s mut DrawReader<'a>, mode: Mode, n: usize) -> Drawn
+pub fn next_draw<'s, 'a>(reader: &'s mut DrawReader<'a>, mode: Mode, n: usize) -> Option<Drawn>
     ensures { (drawn_of result ≡ draw (mode_of mode) reader.old.bytes.now reader.old.place n) × (reader.new ≡ moved_on (mode_of mode) reader.old n) }
 {
     let drawn = draws::draw(reader.bytes, reader.place, mode, n);
@@ -42,7 +39,7 @@ pub fn next_draw<'s, 'a>(reader: &'s mut DrawReader<'a>, mode: Mode, n: usize) -
 }
 
 // A draw among n in a mode by a reader at a place of the bytes: whoever calls it needs no walk.
-pub fn draw_from(bytes: &[u8], place: usize, mode: Mode, n: usize) -> Drawn
+pub fn draw_from(bytes: &[u8], place: usize, mode: Mode, n: usize) -> Option<Drawn>
     ensures { drawn_of result ≡ draw (mode_of mode) bytes.now place n }
 {
     let mut standing = reader(bytes, place);

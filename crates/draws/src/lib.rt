@@ -13,18 +13,11 @@ pub enum Mode {
     Fair,
 }
 
-// The place that is taken and where the next draw reads on, or too few bytes.
-#[derive(Clone, Copy)]
-pub enum Drawn {
-    Place(usize, usize),
-    Short,
-}
-
-// A byte as a wider number.
-fn wide(byte: u8) -> usize
-    ensures { (result ≡ byte) × (result < 256) }
-{
-    byte as usize
+// The place that is taken and where the next draw reads on.
+#[derive(Clone, Copy, PartialEq, Eq, Debug)]
+pub struct Drawn {
+    pub place: usize,
+    pub next: usize,
 }
 
 // Four bytes, low byte first.
@@ -32,10 +25,7 @@ pub fn four(bytes: &[u8], at: usize) -> usize
     requires { at + 4 ≤ length bytes.now }
     ensures { (result ≡ four_bytes bytes.now at) × (result < 4294967296) }
 {
-    wide(bytes[at])
-        + 256 * wide(bytes[at + 1])
-        + 65536 * wide(bytes[at + 2])
-        + 16777216 * wide(bytes[at + 3])
+    u32::from_le_bytes([bytes[at], bytes[at + 1], bytes[at + 2], bytes[at + 3]]) as usize
 }
 
 // Words below the bound are taken among n: in the old mode each is, in the fair mode as many as there are for each place.
@@ -50,33 +40,33 @@ pub fn bound(mode: Mode, n: usize) -> usize
 }
 
 // The first of so many words, from a place on, that is below the bound: its place among n.
-fn first_taken(bytes: &[u8], at: usize, words: usize, bound: usize, n: usize) -> Drawn
+fn first_taken(bytes: &[u8], at: usize, words: usize, bound: usize, n: usize) -> Option<Drawn>
     requires { (at + 4 * words ≤ length bytes.now) × (1 ≤ n) }
     ensures { (mode : Game.Mode) → Bounds mode n bound → drawn_of result ≡ first_taken (four_bytes bytes.now) mode n words at }
 {
-    let mut place = at;
-    let mut left = words;
-    while 0 < left {
+    for k in 0..words {
+        let place = at + 4 * k;
         let word = four(bytes, place);
         if word < bound {
-            return Drawn::Place(word % n, place + 4);
+            return Some(Drawn {
+                place: word % n,
+                next: place + 4,
+            });
         }
-        place = place + 4;
-        left = left - 1;
     }
-    Drawn::Short
+    None
 }
 
 // A draw among n: one candidate uses no bytes, more use four for the word taken and for each that was spent before it.
-pub fn draw(bytes: &[u8], at: usize, mode: Mode, n: usize) -> Drawn
+pub fn draw(bytes: &[u8], at: usize, mode: Mode, n: usize) -> Option<Drawn>
     ensures { drawn_of result ≡ draw (mode_of mode) bytes.now at n }
 {
     if n <= 1 {
-        return Drawn::Place(0, at);
+        return Some(Drawn { place: 0, next: at });
     }
     let len = bytes.len();
     if len < at {
-        return Drawn::Short;
+        return None;
     }
     first_taken(bytes, at, (len - at) / 4, bound(mode, n), n)
 }

@@ -1,8 +1,8 @@
 -- `draws::four`: each byte at its place, low byte first. Assumes nothing.
-use native.Mathlib.Omega.{arith}
+use borrow.Author.Rules.{rules}
 use Rattle.game.specs.Draws.{four_bytes}
 use Rattle.draws.proofs.four.Goals as goal
 
 pub returns : goal.returns
 unfolding four_bytes
-returns c = omega arith
+returns c = search rules
