@@ -6,7 +6,7 @@ ghost use Rattle.game.specs.Keys.{blank, given_by, mix_left, mix_right, next_key
 ghost use Rattle.keys.specs.Stands.{key_of};
 
 // Five words and a counter.
-#[derive(Clone, Copy)]
+#[derive(Clone, Copy, PartialEq, Eq, Debug)]
 pub struct Key {
     pub x: u32,
     pub y: u32,
@@ -25,6 +25,7 @@ fn mixed(first: u32, last: u32) -> u32
 }
 
 // The key after one word more: the counter wraps.
+#[tactic(auto, unfolding(game::specs::Keys::next_key))]
 pub fn next_key(key: Key) -> Key
     ensures { key_of result ≡ next_key (key_of key) }
 {
@@ -34,32 +35,21 @@ pub fn next_key(key: Key) -> Key
         z: key.w,
         w: key.v,
         v: mixed(key.x, key.v),
-        counter: std::num::wrapping_add_u32(key.counter, 362437),
+        counter: key.counter.wrapping_add(362437),
     }
 }
 
 // The word that a key has just given: the counter plus the last word, which wraps.
+#[tactic(auto, unfolding(game::specs::Keys::given_by))]
 pub fn given_by(key: Key) -> usize
     ensures { (result ≡ given_by (key_of key)) × (result < 4294967296) }
 {
-    std::num::wrapping_add_u32(key.counter, key.v) as usize
+    key.counter.wrapping_add(key.v) as usize
 }
 
 // Whether the five words are all 0.
 pub fn is_blank(key: Key) -> bool
     ensures { result ≡ blank (key_of key) }
 {
-    if key.x != 0 {
-        return false;
-    }
-    if key.y != 0 {
-        return false;
-    }
-    if key.z != 0 {
-        return false;
-    }
-    if key.w != 0 {
-        return false;
-    }
-    key.v == 0
+    key.x == 0 && key.y == 0 && key.z == 0 && key.w == 0 && key.v == 0
 }
