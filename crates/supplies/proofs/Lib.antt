@@ -1,4 +1,2 @@
-pub mod Growth
 pub mod KeyTurns
-pub mod Bytes
 pub mod Standing

@@ -2,8 +2,5 @@
 use Rattle.supplies.proofs.KeyTurns.{Midway}
 use Rattle.supplies.proofs.first_of_key.Given as goal
 
-abbrev pub invariant-loop-left : goal.invariant-loop-left
-invariant-loop-left l = Midway l.n l.bound l.initial.key l.initial.used l.key l.used l.left
-
-abbrev pub decreases-loop-left : goal.decreases-loop-left
-decreases-loop-left l = l.left
+abbrev pub invariant-loop-turn : goal.invariant-loop-turn
+invariant-loop-turn l = Midway l.n l.bound l.initial.last l.used l.last l.turn
