@@ -10,9 +10,8 @@ use lib.ListN.{get_or, length, length-map, set}
 use lib.Seq.{get_or-set_other, length-sets, sets}
 use Rattle.moves.specs.declared.State.{State}
 use Rattle.random.specs.declared.Onward.{Onward}
-use Rattle.random.specs.declared.DrawnStep.{DrawnStep}
-use Rattle.random.specs.declared.DrawnStep.TheVariants as Steps
-use Rattle.random.specs.declared.Finish.TheVariants as Finishes
+use Rattle.std.specs.Prelude as Code
+use Rattle.std.specs.Prelude.{None, Some}
 use Rattle.area.specs.Stages.{Stands}
 use Rattle.game.specs.Draws.{Drawn, Mode, Places, Source}
 use Rattle.supplies.specs.declared.Supply.{Supply}
@@ -115,23 +114,23 @@ module _ (rows columns : ℕ) (g : Grid) (old : List ℤ) (origin : Origin) (sou
   here = after g (untouched g) o.done
 
   -- no unit is closed
-  pub course_ends : u.units ≡ 0 → Rolling rows columns g old origin (random_round g source at) list v l (Finishes.Ended u.moves rest)
+  pub course_ends : u.units ≡ 0 → Rolling rows columns g old origin (random_round g source at) list v l (Some (record { clicks = u.moves; supply = rest }))
   course_ends z =
       let k = o.rest in
       let e = draws_none o.left_over g source here rest.used (all_done g here o.made.tidy (omega (arith, o.made.left_units))) in
       let m : u.moves ≡ length (moves_of k.steps) = omega (arith, o.made.clicks, ap (λ (ms : List Move). length ms) k.moves_are) in
-      subst (λ (x : Option Round). Rolling rows columns g old origin x list v l (Finishes.Ended u.moves rest))
+      subst (λ (x : Option Round). Rolling rows columns g old origin x list v l (Some (record { clicks = u.moves; supply = rest })))
       (sym (k.all ∙ ap (ahead k.steps) e ∙ ap (λ (ts : List Step). some (record { steps = ts; next = rest.used })) (append-nil k.steps)))
       (record {
         supply = rest;
-        answer = ap (λ (n : ℕ). Finishes.Ended n rest) m;
+        answer = ap (λ (n : ℕ). Some (record { clicks = n; supply = rest })) m;
         reads = c.reads;
         stands = subst (λ (ms : List Move). Stands rows columns g (after g (untouched g) ms) old v) k.moves_are o.made.stands;
         none_left = ap (λ (ms : List Move). closed_units g (after g (untouched g) ms)) (sym k.moves_are) ∙ sym o.made.left_units ∙ z;
         noted = o.made.noted ∙ ap (λ (ms : List Move). sets list 0 (map word ms)) k.moves_are;
       })
 
-  module _ (w' : List ℤ) (list' : List ℕ) (r : DrawnStep) (h : 0 < u.units)
+  module _ (w' : List ℤ) (list' : List ℕ) (r : Code.Option Onward) (h : 0 < u.units)
       (q : (s : Position) (next : ℕ) → Stands rows columns g s old v → Tidy g s → 1 ≤ closed_units g s → u.units ≡ closed_units g s → Reads origin next rest
       → Stepping rows columns g s old origin (source next (width (choice false g s))) l u v w' list' r) where
     some_closed : 1 ≤ closed_units g here
@@ -144,15 +143,15 @@ module _ (rows columns : ℕ) (g : Grid) (old : List ℤ) (origin : Origin) (sou
     came = q here rest.used o.made.stands o.made.tidy some_closed o.made.left_units c.reads
 
     -- the draws ran dry
-    pub course_breaks : r ≡ Steps.Dry → Rolling rows columns g old origin (random_round g source at) list w' list' Finishes.Dry
+    pub course_breaks : r ≡ None → Rolling rows columns g old origin (random_round g source at) list w' list' None
     course_breaks y = go (source rest.used (width (choice false g here))) refl came
       where
         go : (x : Option Drawn) → source rest.used (width (choice false g here)) ≡ x → Stepping rows columns g here old origin x l u v w' list' r
-            → Rolling rows columns g old origin (random_round g source at) list w' list' Finishes.Dry
+            → Rolling rows columns g old origin (random_round g source at) list w' list' None
         go none e k =
             let n = partway_more rows columns g (untouched g) old list (fresh units) (Left g source at rest.used) v l u o some_closed in
             let f = k.same-list ∙ o.made.noted in
-            subst (λ (x : Option Round). Rolling rows columns g old origin x list w' list' Finishes.Dry)
+            subst (λ (x : Option Round). Rolling rows columns g old origin x list w' list' None)
             (sym (n.1.all ∙ ap (ahead n.1.steps) (draws_on n.0 g source here rest.used some_safe ∙ ap (by_draw n.0 g source here) e)))
             (record {
               answer = refl;
@@ -165,7 +164,7 @@ module _ (rows columns : ℕ) (g : Grid) (old : List ℤ) (origin : Origin) (sou
         go (some d) e k = let z : ◌≡◌ {A = ℕ} 0 1 = cc (k.answer, y) in absurd (omega arith)
 
     -- the step went
-    module _ (p : Places source) (t' : Onward) (y : r ≡ Steps.Went t') where
+    module _ (p : Places source) (t' : Onward) (y : r ≡ Some t') where
       drew : (d : Drawn) × (source rest.used (width (choice false g here)) ≡ some d)
           × Went rows columns g here old origin (step_of g here (choice false g here) d.place).moves d.next l u w' list' r
       drew = go (source rest.used (width (choice false g here))) refl came

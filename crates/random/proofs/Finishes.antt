@@ -1,21 +1,21 @@
 -- What a random round or search came to, told apart by its answer; by a key, the supply's key is the one after the bytes used. Assumes nothing.
-use Prim.Native.Nat.{ℕ}
-use native.Mathlib.Omega.{arith}
 use mathlib.Core.Path.{◌≡◌, ap, refl}
 use mathlib.Core.List.{◌∷◌}
+use mathlib.Core.Option as Rules
+use Rattle.std.specs.Prelude.{None, Option, Some}
 use Rattle.game.specs.Calls.{gives, hands_key}
 use Rattle.game.specs.Keys.{Key, key_numbers}
-use Rattle.supplies.specs.Origins.{key_given}
-use Rattle.supplies.specs.declared.Supply.{Supply}
-use Rattle.random.specs.Promises.{HandsOn, finish_answer, key_finish_answer}
+use Rattle.keys.specs.declared.Key as Code
+use Rattle.supplies.specs.Origins.{key_drawn, key_given}
+use Rattle.random.specs.Promises.{HandsOn, finish_answer, key_finish_answer, key_left}
 use Rattle.random.specs.declared.Finish.{Finish}
-use Rattle.random.specs.declared.Finish.TheVariants.{Dry, Ended}
 
--- one that ended did not run dry
-pub differ : (n : ℕ) (s : Supply) → Ended n s ≡ Dry → ⊥
-differ n s e = let q : ◌≡◌ {A = ℕ} 0 6 = ap (λ (r : Finish). (finish_answer r).number) e in omega arith
+-- the key of a supply that draws from one
+drawn_left : (key : Option Code.Key) (k : Key) → key_drawn key ≡ Rules.some k → key_left key ≡ k
+drawn_left (Some key) k e = cc e
+drawn_left None k e = cc e
 
 -- one that hands a key on answers the key after the bytes used
-pub key_handed : (k : Key) (r : Finish) → HandsOn (key_given k) r → key_finish_answer r ≡ hands_key k (finish_answer r)
-key_handed k (Ended clicks s) h = ap (λ (key : Key). gives (clicks ∷ s.used ∷ key_numbers key)) (h.ended clicks s refl).from.1
-key_handed k Dry h = refl
+pub key_handed : (k : Key) (r : Option Finish) → HandsOn (key_given k) r → key_finish_answer r ≡ hands_key k (finish_answer r)
+key_handed k (Some f) h = ap (λ (key : Key). gives (f.clicks ∷ f.supply.used ∷ key_numbers key)) (drawn_left f.supply.key _ (h.ended f refl).from)
+key_handed k None h = refl

@@ -9,7 +9,8 @@ use Rattle.game.proofs.Draws.{lent_places}
 use Rattle.game.proofs.Keys.{keyed_places}
 use Rattle.supplies.specs.declared.Supply.{Supply}
 use Rattle.supplies.specs.Origins.{GrownBy, KeyRoom, Origin, bytes_lent, key_given, source_of}
-use Rattle.random.specs.declared.Finish.TheVariants as Finishes
+use Rattle.random.specs.declared.Finish.{Finish}
+use Rattle.std.specs.Prelude.{None, Some, is_some}
 use Rattle.random.specs.Promises.{RoundGrows}
 
 -- either origin draws among the places
@@ -21,8 +22,8 @@ origin_places mode bytes (key_given k) = keyed_places mode k
 
 -- in a round: at most 64 words for each unit that is taken
 pub record Spent (s : Supply) (units : ℕ) (s' : Supply) (closed : ℕ) : Type 0 where
-  pub same_kind : s'.keyed ≡ s.keyed
-  pub most : s.keyed ≡ true → s'.used + 256 * closed ≤ s.used + 256 * units
+  pub same_kind : is_some s'.key ≡ is_some s.key
+  pub most : is_some s.key ≡ true → s'.used + 256 * closed ≤ s.used + 256 * units
 
 -- before any step
 pub spent_none : (s : Supply) (units : ℕ) → Spent s units s units
@@ -36,18 +37,22 @@ module _ (s : Supply) (units : ℕ) (s' : Supply) (closed : ℕ) (p : Spent s un
 
   -- there is room for a step while a unit is closed
   pub step_room : units ≤ 65025 → KeyRoom (2 ^ 24) s → 0 < closed → KeyRoom 256 s'
-  step_room f k h = record { room = λ t. let u : s.keyed ≡ true = sym p.same_kind ∙ t in omega (arith, p.most u, k.room u) }
+  step_room f k h = record { room = λ t. let u : is_some s.key ≡ true = sym p.same_kind ∙ t in omega (arith, p.most u, k.room u) }
 
   -- and at the end
   pub round_grew : units ≤ 65025 → GrownBy (2 ^ 24) s s'
   round_grew f = record { same_kind = p.same_kind; grows = λ t. omega (arith, p.most t) }
 
 -- what the answer of a round tells
-pub round_ended : (s : Supply) (clicks : ℕ) (s' : Supply) → GrownBy (2 ^ 24) s s' → RoundGrows s (Finishes.Ended clicks s')
-round_ended s clicks s' g = record { ended = λ n t e. let q : s' ≡ t = cc e in subst (GrownBy (2 ^ 24) s) q g }
+pub round_ended : (s : Supply) (finish : Finish) → GrownBy (2 ^ 24) s finish.supply → RoundGrows s (Some finish)
+round_ended s finish g = record { ended = λ f e. let q : finish ≡ f = cc e in subst (λ (x : Finish). GrownBy (2 ^ 24) s x.supply) q g }
 
-pub round_dry : (s : Supply) → RoundGrows s Finishes.Dry
-round_dry s = record { ended = λ n t e. let z : ◌≡◌ {A = ℕ} 0 1 = cc e in absurd (omega arith) }
+pub round_dry : (s : Supply) → RoundGrows s None
+round_dry s = record { ended = λ f e. cc e }
+
+-- as much room by another name
+pub room_kept : (more more' : ℕ) (s : Supply) → more ≡ more' → KeyRoom (2 ^ 24 * more) s → KeyRoom (2 ^ 24 * more') s
+room_kept more more' s e k = rw (← e) k
 
 -- in a search there is room for a round while one is left
 pub round_room : (left : ℕ) (s : Supply) → KeyRoom (2 ^ 24 * left) s → 0 < left → KeyRoom (2 ^ 24) s
@@ -56,4 +61,4 @@ round_room left s k h = record { room = λ t. omega (arith, k.room t) }
 -- and, after it, for those that are left then
 pub rounds_room : (left left' : ℕ) (s s' : Supply) → KeyRoom (2 ^ 24 * left) s → GrownBy (2 ^ 24) s s' → left' < left → KeyRoom (2 ^ 24 * left') s'
 rounds_room left left' s s' k g h =
-    record { room = λ t. let u : s.keyed ≡ true = sym g.same_kind ∙ t in omega (arith, k.room u, g.grows u) }
+    record { room = λ t. let u : is_some s.key ≡ true = sym g.same_kind ∙ t in omega (arith, k.room u, g.grows u) }

@@ -1,9 +1,10 @@
 -- A step at a drawn cell: the draw is among the cells of the choice, and the cell at the drawn place may be taken. Assumes nothing.
 use Rattle.moves.specs.declared.State.{State}
+use Rattle.random.specs.declared.Onward.{Onward}
 use Rattle.supplies.specs.declared.Supply.{Supply}
 use Rattle.supplies.specs.declared.Dealt.{Dealt}
-use Rattle.supplies.specs.declared.Dealt.TheVariants as Deals
-use Rattle.random.specs.declared.DrawnStep.TheVariants.{Dry, Went}
+use Rattle.std.specs.Prelude as Code
+use Rattle.std.specs.Prelude.{None, Some}
 use Prim.Native.Nat.{ℕ, ◌*◌, ◌<◌, ◌≤◌}
 use native.Mathlib.Omega.{arith}
 use native.Mathlib.Decide.{dec_lt}
@@ -122,46 +123,48 @@ module _ (g : Grid) (s : Position) (w : List ℤ) (cells top : ℕ) (tells : Tel
       (subst (λ (ms : List Move). Made rows columns g s old ms list t w' list' r) a.same b.made, b.kept kept, b.units_kept units units_kept)
 
 -- what a step comes to, by what a supply dealt among as many as the choice is among
-module _ (rows columns : ℕ) (g : Grid) (s : Position) (old w : List ℤ) (origin : Origin) (source : Source) (at n : ℕ) (list : List ℕ) (t : State) (r : Dealt)
+module _ (rows columns : ℕ) (g : Grid) (s : Position) (old w : List ℤ) (origin : Origin) (source : Source) (at n : ℕ) (list : List ℕ) (t : State) (r : Code.Option Dealt)
     (wide : n ≡ width (choice false g s)) (dealt : Dealing origin (source at n) r) where
   dealt_so : Dealing origin (source at (width (choice false g s))) r
   dealt_so = subst (λ (k : ℕ). Dealing origin (source at k) r) wide dealt
 
-  pub step_dry : r ≡ Deals.Dry → Stepping rows columns g s old origin (source at (width (choice false g s))) list t w w list Dry
+  pub step_dry : r ≡ None → Stepping rows columns g s old origin (source at (width (choice false g s))) list t w w list None
   step_dry e = go (source at (width (choice false g s))) dealt_so
     where
-      go : (o : Option Drawn) → Dealing origin o r → Stepping rows columns g s old origin o list t w w list Dry
+      go : (o : Option Drawn) → Dealing origin o r → Stepping rows columns g s old origin o list t w w list None
       go none q = record { answer = refl; same-work = refl; same-list = refl }
       go (some d) q = let z : ◌≡◌ {A = ℕ} 0 1 = cc (q.answer, e) in absurd (omega arith)
 
-  module _ (p : ℕ) (rest : Supply) (e : r ≡ Deals.Place p rest) where
-    drew : (d : Drawn) × (source at (width (choice false g s)) ≡ some d) × (d.place ≡ p) × Reads origin d.next rest
+  module _ (dealt' : Dealt) (e : r ≡ Some dealt') where
+    drew : (d : Drawn) × (source at (width (choice false g s)) ≡ some d) × (d.place ≡ dealt'.place) × Reads origin d.next dealt'.supply
     drew = go (source at (width (choice false g s))) refl dealt_so
       where
-        go : (o : Option Drawn) → source at (width (choice false g s)) ≡ o → Dealing origin o r → (d : Drawn) × (source at (width (choice false g s)) ≡ some d) × (d.place ≡ p) × Reads origin d.next rest
+        go : (o : Option Drawn) → source at (width (choice false g s)) ≡ o → Dealing origin o r → (d : Drawn) × (source at (width (choice false g s)) ≡ some d) × (d.place ≡ dealt'.place) × Reads origin d.next dealt'.supply
         go none f q = let z : ◌≡◌ {A = ℕ} 0 1 = cc (q, e) in absurd (omega arith)
-        go (some d) f q = (d, f, cc (q.answer, e), let z : q.supply ≡ rest = cc (q.answer, e) in subst (Reads origin d.next) z q.reads)
+        go (some d) f q =
+            let z : record { place = d.place; supply = q.supply } ≡ dealt' = cc (q.answer, e) in
+            (d, f, ap (λ (x : Dealt). x.place) z, subst (λ (x : Dealt). Reads origin d.next x.supply) z q.reads)
 
-    pub drawn_inside : Places source → Tidy g s → 1 ≤ closed_units g s → p < width (choice false g s)
+    pub drawn_inside : Places source → Tidy g s → 1 ≤ closed_units g s → dealt'.place < width (choice false g s)
     drawn_inside c f h = rw (← drew.2) (c.inside at (width (choice false g s)) drew.0 (never_stuck false g s f (safe_left g s f h)) drew.1)
 
-    pub step_went : (w' : List ℤ) (list' : List ℕ) (t' : State) → Made rows columns g s old (step_of g s (choice false g s) p).moves list t w' list' t'
-        → Stepping rows columns g s old origin (source at (width (choice false g s))) list t w w' list' (Went (record { state = t'; supply = rest }))
+    pub step_went : (w' : List ℤ) (list' : List ℕ) (t' : State) → Made rows columns g s old (step_of g s (choice false g s) dealt'.place).moves list t w' list' t'
+        → Stepping rows columns g s old origin (source at (width (choice false g s))) list t w w' list' (Some (record { state = t'; supply = dealt'.supply }))
     step_went w' list' t' m =
-        subst (λ (o : Option Drawn). Stepping rows columns g s old origin o list t w w' list' (Went (record { state = t'; supply = rest }))) (sym drew.1)
+        subst (λ (o : Option Drawn). Stepping rows columns g s old origin o list t w w' list' (Some (record { state = t'; supply = dealt'.supply }))) (sym drew.1)
         (record {
           state = t';
-          supply = rest;
+          supply = dealt'.supply;
           answer = refl;
           reads = drew.3;
           made = subst (λ (k : ℕ). Made rows columns g s old (step_of g s (choice false g s) k).moves list t w' list' t') (sym drew.2) m;
         })
 
 -- a step that went uses as much of a key as its draw
-pub went_grows : (s : Supply) (r : Dealt) (p : ℕ) (rest : Supply) (t : State) → DrawGrows s r → r ≡ Deals.Place p rest → StepGrows s (Went (record { state = t; supply = rest }))
-went_grows s r p rest t d e =
-    record { went = λ o f. let q : rest ≡ o.supply = cc f in subst (GrownBy 256 s) q (d.took p rest e) }
+pub went_grows : (s : Supply) (r : Code.Option Dealt) (dealt : Dealt) (t : State) → DrawGrows s r → r ≡ Some dealt → StepGrows s (Some (record { state = t; supply = dealt.supply }))
+went_grows s r dealt t d e =
+    record { went = λ o f. let q : record { state = t; supply = dealt.supply } ≡ o = cc f in subst (λ (x : Onward). GrownBy 256 s x.supply) q (d.took dealt e) }
 
 -- one that ran dry says nothing of it
-pub dry_grows : (s : Supply) → StepGrows s Dry
-dry_grows s = record { went = λ o f. let z : ◌≡◌ {A = ℕ} 0 1 = cc f in absurd (omega arith) }
+pub dry_grows : (s : Supply) → StepGrows s None
+dry_grows s = record { went = λ o f. cc f }

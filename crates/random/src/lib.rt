@@ -35,18 +35,11 @@ pub struct Onward {
     pub supply: Supply,
 }
 
-// A step was made, or the draws ran dry.
-#[derive(Drop)]
-pub enum DrawnStep {
-    Went(Onward),
-    Dry,
-}
-
-// How a round or a search ends: its clicks and the supply after the last draw, or the draws ran dry.
-#[derive(Clone, Copy)]
-pub enum Finish {
-    Ended(usize, Supply),
-    Dry,
+// How a round or a search ends: its clicks and the supply after the last draw.
+#[derive(Clone, Copy, PartialEq, Eq, Debug)]
+pub struct Finish {
+    pub clicks: usize,
+    pub supply: Supply,
 }
 
 // The moves of a step at the cell that it took: one L where the highest raised premium is below 10.
@@ -128,7 +121,7 @@ pub fn step(
     units: &mut [u8],
     state: State,
     supply: Supply,
-) -> DrawnStep
+) -> Option<Onward>
     requires shape { Shape rows columns }
     requires has_cells { HasCells work.old (rows * columns) × (state.moves ≤ 2 ^ 45) }
     requires tops_known { TopsKnown false work.old rows columns tops.old × UnitsKnown work.old rows columns tops.old units.old }
@@ -143,14 +136,21 @@ pub fn step(
     let candidates = count_candidates(work, rows, columns, tops, units);
     let count = candidates.count;
     let top = candidates.top;
-    let dealt = supplies::draw(draws, mode, supply, count);
-    let Dealt::Place(place, rest) = dealt else {
-        return DrawnStep::Dry;
-    };
-    let taken = take_place(work, rows, columns, list, tops, units, state, top, place);
-    DrawnStep::Went(Onward {
+    let dealt = supplies::draw(draws, mode, supply, count)?;
+    let taken = take_place(
+        work,
+        rows,
+        columns,
+        list,
+        tops,
+        units,
+        state,
+        top,
+        dealt.place,
+    );
+    Some(Onward {
         state: taken,
-        supply: rest,
+        supply: dealt.supply,
     })
 }
 
@@ -166,7 +166,7 @@ fn roll_on(
     column_units: &mut [u8],
     units: usize,
     supply: Supply,
-) -> Finish
+) -> Option<Finish>
     requires shape { Shape rows columns }
     requires has_cells { HasCells work.old (rows * columns) }
     requires fresh { Fresh rows columns work.old units }
@@ -178,8 +178,9 @@ fn roll_on(
 {
     let mut state = State { moves: 0, units };
     let mut rest = supply;
+    // A while: how many steps there are shows only as they are made.
     while 0 < state.units {
-        let stepped = step(
+        let onward = step(
             work,
             rows,
             columns,
@@ -190,14 +191,14 @@ fn roll_on(
             column_units,
             state,
             rest,
-        );
-        let DrawnStep::Went(onward) = stepped else {
-            return Finish::Dry;
-        };
+        )?;
         state = onward.state;
         rest = onward.supply;
     }
-    Finish::Ended(state.moves, rest)
+    Some(Finish {
+        clicks: state.moves,
+        supply: rest,
+    })
 }
 
 // A round from the position before any move, of so many units, that draws from a supply.
@@ -210,7 +211,7 @@ pub fn round(
     mode: Mode,
     units: usize,
     supply: Supply,
-) -> Finish
+) -> Option<Finish>
     requires shape { Shape rows columns }
     requires has_cells { HasCells work.old (rows * columns) }
     requires fresh { Fresh rows columns work.old units }
@@ -244,7 +245,7 @@ fn unlisted(
     mode: Mode,
     units: usize,
     supply: Supply,
-) -> Finish
+) -> Option<Finish>
     requires shape { Shape rows columns }
     requires has_cells { HasCells work.old (rows * columns) }
     requires fresh { Fresh rows columns work.old units }
@@ -266,7 +267,7 @@ fn again(
     mode: Mode,
     units: usize,
     supply: Supply,
-) -> Finish
+) -> Option<Finish>
     requires shape { Shape rows columns }
     requires has_cells { HasCells work.old (rows * columns) }
     requires counts_units { CountsUnits rows columns work.old units }
@@ -279,14 +280,7 @@ fn again(
     unlisted(work, rows, columns, draws, mode, units, supply)
 }
 
-// The rounds still to play: none after one that used nothing, since each later one would be the same.
-fn rounds_left(rounds: usize, began: usize, next: usize) -> usize
-    ensures { (result ≡ cond (eqb next began) 0 rounds) × (result ≤ rounds) }
-{
-    if next == began { 0 } else { rounds }
-}
-
-// So many rounds more, after those that came to these least clicks and this supply.
+// So many rounds more, after those that came to this: none after one that used nothing, since each later one would be the same.
 fn search_on(
     work: &mut [i32],
     rows: usize,
@@ -294,30 +288,29 @@ fn search_on(
     draws: &[u8],
     mode: Mode,
     units: usize,
-    clicks: usize,
-    supply: Supply,
+    before: Finish,
     more: usize,
-) -> Finish
+) -> Option<Finish>
     requires shape { Shape rows columns }
     requires has_cells { HasCells work.old (rows * columns) }
     requires counts_units { CountsUnits rows columns work.old units }
-    requires key_room { KeyRoom (2 ^ 24 * more) supply × Somewhere supply }
-    ensures { (g : Grid) (old : List ℤ) (ms : List Move) (origin : Origin) (at : ℕ) → Stands rows columns g (after g (untouched g) ms) old work.old → units ≡ three_bv g → Reads origin at supply
-        → Searching rows columns g old origin (search_from more g (source_of (mode_of mode) draws.now origin) (record { least = clicks; next = at; moves = ms })) work.new result }
+    requires key_room { KeyRoom (2 ^ 24 * more) before.supply × Somewhere before.supply }
+    ensures { (g : Grid) (old : List ℤ) (ms : List Move) (origin : Origin) (at : ℕ) → Stands rows columns g (after g (untouched g) ms) old work.old → units ≡ three_bv g → Reads origin at before.supply
+        → Searching rows columns g old origin (search_from more g (source_of (mode_of mode) draws.now origin) (record { least = before.clicks; next = at; moves = ms })) work.new result }
 {
-    let mut least = clicks;
-    let mut rest = supply;
-    let mut left = more;
-    while 0 < left {
-        let rolled = again(work, rows, columns, draws, mode, units, rest);
-        let Finish::Ended(paid, onward) = rolled else {
-            return Finish::Dry;
+    let mut best = before;
+    for _ in 0..more {
+        let began = best.supply.used;
+        let ended = again(work, rows, columns, draws, mode, units, best.supply)?;
+        best = Finish {
+            clicks: best.clicks.min(ended.clicks),
+            supply: ended.supply,
         };
-        least = area::fewer(least, paid);
-        left = rounds_left(left - 1, rest.used, onward.used);
-        rest = onward;
+        if best.supply.used == began {
+            return Some(best);
+        }
     }
-    Finish::Ended(least, rest)
+    Some(best)
 }
 
 // So many rounds one after another through the same draws: the least clicks.
@@ -330,7 +323,7 @@ pub fn search(
     units: usize,
     supply: Supply,
     rounds: usize,
-) -> Finish
+) -> Option<Finish>
     requires shape { Shape rows columns }
     requires has_cells { HasCells work.old (rows * columns) × (1 ≤ rounds) }
     requires fresh { Fresh rows columns work.old units }
@@ -338,10 +331,9 @@ pub fn search(
     ensures { (g : Grid) (old : List ℤ) (origin : Origin) → Stands rows columns g (untouched g) old work.old → units ≡ three_bv g → Reads origin 0 supply
         → Searching rows columns g old origin (random_search g (source_of (mode_of mode) draws.now origin) rounds) work.new result }
 {
-    let rolled = unlisted(work, rows, columns, draws, mode, units, supply);
-    let Finish::Ended(clicks, rest) = rolled else {
-        return Finish::Dry;
-    };
-    let more = rounds_left(rounds - 1, supply.used, rest.used);
-    search_on(work, rows, columns, draws, mode, units, clicks, rest, more)
+    let first = unlisted(work, rows, columns, draws, mode, units, supply)?;
+    if first.supply.used == supply.used {
+        return Some(first);
+    }
+    search_on(work, rows, columns, draws, mode, units, first, rounds - 1)
 }

@@ -8,7 +8,7 @@ use Rattle.moves.proofs.Partway.{partway_few}
 use Rattle.draws.specs.Answers.{mode_of}
 use Rattle.supplies.specs.Origins.{source_of}
 use Rattle.random.proofs.Courses.{course_breaks, course_ends, course_falls, course_goes_on, fresh, midway_begins, units_few}
-use Rattle.random.proofs.Supplies.{origin_places, round_dry, round_ended, round_grew, spent_more, spent_none, step_room}
+use Rattle.random.proofs.Supplies.{origin_places, round_ended, round_grew, spent_more, spent_none, step_room}
 use Rattle.random.proofs.roll_on.Goals as goal
 
 pub loop-state-init : goal.loop-state-init
@@ -24,8 +24,8 @@ loop-state-init c =
       spent_none a.supply a.units,
     )
 
-pub step-stepped-requires : goal.step-stepped-requires
-step-stepped-requires c =
+pub step-requires : goal.step-requires
+step-requires c =
     let a = c.args in
     let f = c.requires.fresh in
     let i = c.requires.key_room.1 in record {
@@ -42,13 +42,11 @@ step-stepped-requires c =
       key_room = step_room a.supply a.units c.loop-state.rest c.loop-state.state.units c.loop-state.invariant.7 (units_few a.rows a.columns a.work.now a.units f) c.requires.key_room.0 c.loop-state-test.true;
     }
 
-pub returns-in_default : goal.returns-in_default
-returns-in_default c =
-    let a = c.args in record {
-      round_grows = round_dry a.supply;
-      rolling = λ g old origin at st z d. course_breaks a.rows a.columns g old origin (source_of (mode_of a.mode) a.draws.now origin) a.units at a.list.now c.loop-state.work c.loop-state.list c.loop-state.state c.loop-state.rest
-          (c.loop-state.invariant.4.course g old origin at st z d) c.step-stepped.new.work c.step-stepped.new.list c.step-stepped.result c.loop-state-test.true (λ s n v f h e q. (c.step-stepped.ensures.stepping g s old origin n v f h e q).0) c.in_default.is;
-    }
+pub returns-in_err-onward-clause-rolling : goal.returns-in_err-onward-clause-rolling
+returns-in_err-onward-clause-rolling c =
+    let a = c.args in
+    λ g old origin at st z d. rw c.from_residual.ensures (course_breaks a.rows a.columns g old origin (source_of (mode_of a.mode) a.draws.now origin) a.units at a.list.now c.loop-state.work c.loop-state.list c.loop-state.state c.loop-state.rest
+    (c.loop-state.invariant.4.course g old origin at st z d) c.step.new.work c.step.new.list c.step.result c.loop-state-test.true (λ s n v f h e q. (c.step.ensures.stepping g s old origin n v f h e q).0) c.in_err-onward.was)
 
 pub loop-state-smaller : goal.loop-state-smaller
 loop-state-smaller c =
@@ -56,8 +54,8 @@ loop-state-smaller c =
     let f = c.requires.fresh in
     let i = c.requires.key_room.1 in
     course_falls a.rows a.columns f.grid f.old i.origin (source_of (mode_of a.mode) a.draws.now i.origin) a.units a.supply.used a.list.now c.loop-state.work c.loop-state.list c.loop-state.state c.loop-state.rest
-    (c.loop-state.invariant.4.course f.grid f.old i.origin a.supply.used f.stands f.counts i.reads) c.step-stepped.new.work c.step-stepped.new.list c.step-stepped.result c.loop-state-test.true
-    (λ s n v p h e q. (c.step-stepped.ensures.stepping f.grid s f.old i.origin n v p h e q).0) (origin_places (mode_of a.mode) a.draws.now i.origin) _ c.in-Went.is
+    (c.loop-state.invariant.4.course f.grid f.old i.origin a.supply.used f.stands f.counts i.reads) c.step.new.work c.step.new.list c.step.result c.loop-state-test.true
+    (λ s n v p h e q. (c.step.ensures.stepping f.grid s f.old i.origin n v p h e q).0) (origin_places (mode_of a.mode) a.draws.now i.origin) _ c.in_ok-onward.was
 
 pub loop-state-preserved : goal.loop-state-preserved
 loop-state-preserved c =
@@ -67,7 +65,7 @@ loop-state-preserved c =
     let o = c.loop-state.invariant.4.course f.grid f.old i.origin a.supply.used f.stands f.counts i.reads in
     let m = o.way.made in
     -- what is kept of the columns stays right in a step
-    let kept = c.step-stepped.ensures.stepping f.grid (after f.grid (untouched f.grid) o.way.done) f.old i.origin c.loop-state.rest.used m.stands m.tidy (omega (arith, m.left_units, c.loop-state-test.true)) m.left_units o.reads in (
+    let kept = c.step.ensures.stepping f.grid (after f.grid (untouched f.grid) o.way.done) f.old i.origin c.loop-state.rest.used m.stands m.tidy (omega (arith, m.left_units, c.loop-state-test.true)) m.left_units o.reads in (
       search rules,
       search rules,
       search rules,
@@ -75,19 +73,19 @@ loop-state-preserved c =
       let a = c.args in
           record {
             course = λ g old origin at st z d. course_goes_on a.rows a.columns g old origin (source_of (mode_of a.mode) a.draws.now origin) a.units at a.list.now c.loop-state.work c.loop-state.list c.loop-state.state c.loop-state.rest
-                (c.loop-state.invariant.4.course g old origin at st z d) c.step-stepped.new.work c.step-stepped.new.list c.step-stepped.result c.loop-state-test.true
-                (λ s n v f h e q. (c.step-stepped.ensures.stepping g s old origin n v f h e q).0) (origin_places (mode_of a.mode) a.draws.now origin) _ c.in-Went.is;
+                (c.loop-state.invariant.4.course g old origin at st z d) c.step.new.work c.step.new.list c.step.result c.loop-state-test.true
+                (λ s n v f h e q. (c.step.ensures.stepping g s old origin n v f h e q).0) (origin_places (mode_of a.mode) a.draws.now origin) _ c.in_ok-onward.was;
           },
       kept.1,
       kept.2,
       let a = c.args in
-          spent_more a.supply a.units c.loop-state.rest c.loop-state.state.units c.loop-state.invariant.7 _ _ (c.step-stepped.ensures.step_grows.went _ c.in-Went.is) (loop-state-smaller c),
+          spent_more a.supply a.units c.loop-state.rest c.loop-state.state.units c.loop-state.invariant.7 _ _ (c.step.ensures.step_grows.went _ c.in_ok-onward.was) (loop-state-smaller c),
     )
 
 pub returns : goal.returns
 returns c =
     let a = c.args in record {
-      round_grows = round_ended a.supply c.loop-state.state.moves c.loop-state.rest
+      round_grows = round_ended a.supply _
           (round_grew a.supply a.units c.loop-state.rest c.loop-state.state.units c.loop-state.invariant.7 (units_few a.rows a.columns a.work.now a.units c.requires.fresh));
       rolling = λ g old origin at st z d. course_ends a.rows a.columns g old origin (source_of (mode_of a.mode) a.draws.now origin) a.units at a.list.now c.loop-state.work c.loop-state.list c.loop-state.state c.loop-state.rest
           (c.loop-state.invariant.4.course g old origin at st z d) (omega arith);

@@ -1,4 +1,5 @@
--- `random::search_on`: so far the rounds are those of the definition; fewer are left after each, and a key has room for them. Assumes nothing.
+-- `random::search_on`: so far the rounds are those of the definition; one fewer is left after each, and a key has room for them. Assumes nothing.
+use Prim.Native.Nat.{◌+◌, ◌-◌}
 use native.Mathlib.Omega.{arith}
 use mathlib.Core.Path.{refl}
 use borrow.Author.Rules.{rules}
@@ -7,52 +8,54 @@ use Rattle.game.specs.Position.{untouched}
 use Rattle.game.specs.Rounds.{search_from}
 use Rattle.draws.specs.Answers.{mode_of}
 use Rattle.supplies.specs.Origins.{source_of}
-use Rattle.random.proofs.Searches.{midway_begins, search_breaks, search_ends, search_goes_on, still_counted, turns_fall}
-use Rattle.random.proofs.Supplies.{round_room, rounds_room}
+use Rattle.random.proofs.Searches.{midway_begins, search_breaks, search_ends, search_goes_on, search_stays, still_counted}
+use Rattle.random.proofs.Supplies.{room_kept, round_room, rounds_room}
 use Rattle.random.proofs.search_on.Goals as goal
 
-pub loop-left-init : goal.loop-left-init
-loop-left-init c =
-    let a = c.args in
-    (refl, midway_begins a.rows a.columns a.work.now (mode_of a.mode) a.draws.now a.units a.clicks a.supply a.more, c.requires.key_room.0)
+pub loop-init : goal.loop-init
+loop-init c =
+    (refl, midway_begins _ _ _ _ _ _ _ _ _ (omega arith), room_kept _ _ _ (omega arith) c.requires.key_room.0)
 
-pub again-rolled-requires : goal.again-rolled-requires
-again-rolled-requires c =
-    let a = c.args in
-    let t = still_counted a.rows a.columns a.work.now (mode_of a.mode) a.draws.now a.units a.clicks a.supply a.more c.loop-left.work c.loop-left.least c.loop-left.rest c.loop-left.left
-    c.loop-left.invariant.1 c.requires.key_room.1 c.requires.counts_units in
-    record { shape = c.requires.shape; has_cells = omega arith; counts_units = t.0; key_room = (round_room c.loop-left.left c.loop-left.rest c.loop-left.invariant.2 (omega arith), t.1) }
+pub again-requires-clause-counts_units : goal.again-requires-clause-counts_units
+again-requires-clause-counts_units c = (still_counted _ _ _ _ _ _ _ _ _ _ _ c.loop.invariant.1 c.requires.key_room.1 c.requires.counts_units).0
 
-pub returns-in_default : goal.returns-in_default
-returns-in_default c =
+pub again-requires-clause-key_room : goal.again-requires-clause-key_room
+again-requires-clause-key_room c = (
+  round_room (c.args.more - c.loop.counter) _ c.loop.invariant.2 (omega arith),
+  (still_counted _ _ _ _ _ _ _ _ _ _ _ c.loop.invariant.1 c.requires.key_room.1 c.requires.counts_units).1,
+)
+
+pub returns-in_err-ended : goal.returns-in_err-ended
+returns-in_err-ended c =
     let a = c.args in
     λ g old ms origin at st n d.
     let source = source_of (mode_of a.mode) a.draws.now origin in
-    let f = c.loop-left.invariant.1.sofar g old ms origin at st n d in
-    search_breaks a.rows a.columns g old origin source (search_from a.more g source (record { least = a.clicks; next = at; moves = ms })) c.loop-left.work c.loop-left.least c.loop-left.rest c.loop-left.left f
-    c.again-rolled.new.work c.again-rolled.result (c.again-rolled.ensures.searching g (after g (untouched g) f.moves) old origin c.loop-left.rest.used f.stands n f.reads) (omega arith) c.in_default.is
+    let f = c.loop.invariant.1.sofar g old ms origin at st n d in
+    rw c.from_residual.ensures
+    (search_breaks a.rows a.columns g old origin source (search_from a.more g source (record { least = a.before.clicks; next = at; moves = ms })) c.loop.work c.loop.best (a.more - c.loop.counter) f
+    c.again.new.work c.again.result (c.again.ensures.searching g (after g (untouched g) f.moves) old origin c.loop.best.supply.used f.stands n f.reads) (omega arith) c.in_err-ended.was)
 
-pub loop-left-smaller : goal.loop-left-smaller
-loop-left-smaller c =
+pub returns-then-best-began : goal.returns-then-best-began
+returns-then-best-began c =
     let a = c.args in
-    let t = still_counted a.rows a.columns a.work.now (mode_of a.mode) a.draws.now a.units a.clicks a.supply a.more c.loop-left.work c.loop-left.least c.loop-left.rest c.loop-left.left
-    c.loop-left.invariant.1 c.requires.key_room.1 c.requires.counts_units in
-    turns_fall a.rows a.columns (mode_of a.mode) a.draws.now c.loop-left.work c.again-rolled.new.work c.loop-left.rest c.again-rolled.result a.units t.0 t.1 c.again-rolled.ensures.searching
-    _ _ c.loop-left.left c.rounds_left-left.result c.in-Ended.is (omega arith) c.rounds_left-left.ensures.0 (omega (arith, c.rounds_left-left.ensures.1))
+    λ g old ms origin at st n d.
+    let source = source_of (mode_of a.mode) a.draws.now origin in
+    let f = c.loop.invariant.1.sofar g old ms origin at st n d in
+    search_stays a.rows a.columns g old origin source (search_from a.more g source (record { least = a.before.clicks; next = at; moves = ms })) c.loop.work c.loop.best (a.more - c.loop.counter) f
+    c.again.new.work c.again.result (c.again.ensures.searching g (after g (untouched g) f.moves) old origin c.loop.best.supply.used f.stands n f.reads) (omega arith) c.in_ok-ended.ended c.min.result c.in_ok-ended.was c.min.ensures c.if-best-began.true
 
-pub loop-left-preserved : goal.loop-left-preserved
-loop-left-preserved c =
+pub loop-preserved : goal.loop-preserved
+loop-preserved c =
     let a = c.args in (
       search rules,
       record {
         sofar = λ g old ms origin at st n d.
             let source = source_of (mode_of a.mode) a.draws.now origin in
-            let f = c.loop-left.invariant.1.sofar g old ms origin at st n d in
-            search_goes_on a.rows a.columns g old origin source (search_from a.more g source (record { least = a.clicks; next = at; moves = ms })) c.loop-left.work c.loop-left.least c.loop-left.rest c.loop-left.left f
-            c.again-rolled.new.work c.again-rolled.result (c.again-rolled.ensures.searching g (after g (untouched g) f.moves) old origin c.loop-left.rest.used f.stands n f.reads) (omega arith)
-            _ _ c.fewer-least.result c.rounds_left-left.result c.in-Ended.is c.fewer-least.ensures c.rounds_left-left.ensures.0;
+            let f = c.loop.invariant.1.sofar g old ms origin at st n d in
+            search_goes_on a.rows a.columns g old origin source (search_from a.more g source (record { least = a.before.clicks; next = at; moves = ms })) c.loop.work c.loop.best (a.more - c.loop.counter) f
+            c.again.new.work c.again.result (c.again.ensures.searching g (after g (untouched g) f.moves) old origin c.loop.best.supply.used f.stands n f.reads) (omega arith) c.in_ok-ended.ended c.min.result c.in_ok-ended.was c.min.ensures (a.more - (c.loop.counter + 1)) (omega arith);
       },
-      rounds_room c.loop-left.left c.rounds_left-left.result c.loop-left.rest _ c.loop-left.invariant.2 (c.again-rolled.ensures.round_grows.ended _ _ c.in-Ended.is) (omega (arith, c.rounds_left-left.ensures.1)),
+      rounds_room (a.more - c.loop.counter) _ _ _ c.loop.invariant.2 (c.again.ensures.round_grows.ended _ c.in_ok-ended.was) (omega arith),
     )
 
 pub returns : goal.returns
@@ -60,5 +63,5 @@ returns c =
     let a = c.args in
     λ g old ms origin at st n d.
     let source = source_of (mode_of a.mode) a.draws.now origin in
-    search_ends a.rows a.columns g old origin source (search_from a.more g source (record { least = a.clicks; next = at; moves = ms })) c.loop-left.work c.loop-left.least c.loop-left.rest c.loop-left.left
-    (c.loop-left.invariant.1.sofar g old ms origin at st n d) (omega arith)
+    search_ends a.rows a.columns g old origin source (search_from a.more g source (record { least = a.before.clicks; next = at; moves = ms })) c.loop.work c.loop.best (a.more - c.loop.counter)
+    (c.loop.invariant.1.sofar g old ms origin at st n d) (omega arith)
