@@ -9,7 +9,7 @@ ghost use Rattle.answers.specs.Answers.{KeepsList, key_rolled_answer, priced_ans
 ghost use Rattle.record_checks.specs.Promises.{KeepsRecords, keyed_records_call, price_records_call, random_records_call, replay_records_call, strict_keyed_records_call, strict_price_records_call, strict_random_records_call, strict_replay_records_call};
 ghost use Rattle.record_trials.specs.Readings.{Twice};
 
-use draws::{Drawn, Mode};
+use draws::Mode;
 use keys::Key;
 use records::MoveRecord;
 use trials::plain;
@@ -1071,11 +1071,11 @@ fn drawn(rt: HostRuntime, bytes: &[u8], place: usize, mode: Mode, n: usize) {
     let draw = draw_reader::draw_from(bytes, place, mode, n);
     trials::print_number(rt, place as u64);
     match draw {
-        Drawn::Place(taken, _) => {
+        Some(taken) => {
             trials::print(rt, b": takes");
-            trials::print_number(rt, taken as u64);
+            trials::print_number(rt, taken.place as u64);
         }
-        Drawn::Short => {
+        None => {
             trials::print(rt, b": short");
         }
     }
