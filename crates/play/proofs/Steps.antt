@@ -9,18 +9,9 @@ use lib.IntN.{pos, ℤ}
 use lib.Seq.{get_or-set_other}
 use Rattle.area.specs.Squares.{shifted, square_of}
 use Rattle.game.specs.Lists.{bit, fold}
-use Rattle.area.specs.Numbers.{content_at, first_at, first_place, natural, number_at, premium_at, premium_place, put_at, put_premium, put_state, second_at, state_at, state_place}
+use Rattle.area.specs.Numbers.{content_at, first_at, first_place, natural, number_at, premium_at, premium_place, put_at, put_premium, put_state, state_at, state_place}
 use Rattle.play.specs.Walks.{CellSwept, labelled_at, opened_one, swept_cell}
-use borrow.Author.Tests.{eq-eqb, ne_eqb}
-
--- ---- a label is looked for
-
-module _ (label : ℕ) (w : List ℤ) (i a : ℕ) (e : a ≡ first_at w i) where
-  pub label_first : a ≡ label → true ≡ labelled_at label w i
-  label_first t = rw (← e, eq-eqb a label t)
-
-  pub label_second : (b : ℕ) → (a ≡ label → ⊥) → b ≡ second_at w i → eqb b label ≡ labelled_at label w i
-  label_second b t f = rw (← e, ne_eqb a label t, ← f)
+use borrow.Author.Tests.{ne_eqb}
 
 -- ---- a cell is swept
 

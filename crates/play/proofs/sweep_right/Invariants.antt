@@ -1,13 +1,8 @@
 -- `play::sweep_right`: the columns passed are one run of cells; a column without the label ends the walk. Assumes nothing.
-use Prim.Native.Nat.{◌≤◌, ◌*◌, ◌-◌}
-use mathlib.Core.Path.{◌≡◌}
-use lib.ListN.{length}
+use Prim.Native.Nat.{◌*◌}
 use Rattle.play.specs.Walks.{SweptOver}
 use Rattle.play.proofs.sweep_right.Given as goal
 
 abbrev pub invariant-loop-right : goal.invariant-loop-right
 invariant-loop-right l =
-    (l.column ≤ l.right) × (l.right ≤ l.columns) × (length l.work ≡ length l.initial.work) × SweptOver l.label (l.column * l.rows) (l.right * l.rows) l.initial.work l.work
-
-abbrev pub decreases-loop-right : goal.decreases-loop-right
-decreases-loop-right l = l.columns - l.right
+    SweptOver l.label (l.column * l.rows) (l.right * l.rows) l.initial.work l.work
