@@ -47,10 +47,6 @@ Makes rows columns word q r w v =
     (g : Grid) (s : Position) (old : List ℤ) → Moving rows columns g s old w → Sane g s → q.closed ≡ closed_safe g s → q.lost ≡ lost g s
     → Making rows columns g s old (legal_read g s (read_move word)) (read_move word) r w v
 
-pub begins : (rows columns : ℕ) (w : List ℤ) (ms : List ℕ) (safe : ℕ) → ReplayMidway rows columns w ms safe 0 (record { closed = safe; lost = false }) w
-begins rows columns w ms safe =
-    record { onward = λ g s old t f n e. record { position = s; moving = t; sane = f; counts = record { closed_are = e; lost_is = sym n }; rest = refl } }
-
 -- one turn of a replay
 turn_is : (g : Grid) (k : ℕ) (t : Position) (x : ℕ) (xs : List ℕ) (b : Bool) → legal_read g t (read_move x) ≡ b
     → replay_from g k t (x ∷ xs) ≡ elim b as (λ _. Replayed) [ true ↦ replay_from g (suc k) (play_read g t (read_move x)) xs | false ↦ stopped k t ]
@@ -88,21 +84,6 @@ module _ (rows columns : ℕ) (w₀ : List ℤ) (ms : List ℕ) (safe place : �
                   ∙ ap (λ (j : ℕ). replay_from g j (play_read g o.position (read_move word)) (drop j ms)) (sym (add-one place));
             }
         on g s old o false k a = let z : ◌≡◌ {A = ℕ} 0 1 = cc (e, a.answer) in absurd (omega arith)
-
-    -- a move that isn't
-    pub stops : r ≡ None → (g : Grid) (s : Position) (old : List ℤ) → Moving rows columns g s old w₀ → Sane g s → lost g s ≡ false → safe ≡ closed_safe g s
-        → Replaying rows columns g old (replay_from g 0 s ms) (Err (record { place = place })) v
-    stops e g s old t f n d =
-        let o = m.onward g s old t f n d in
-        at_it o (legal_read g o.position (read_move word)) refl (made g o.position old o.moving o.sane o.counts.closed_are o.counts.lost_is)
-      where
-        at_it : (o : Onward rows columns g s old ms place q w) (b : Bool)
-            → legal_read g o.position (read_move word) ≡ b → Making rows columns g o.position old b (read_move word) r w v
-            → Replaying rows columns g old (replay_from g 0 s ms) (Err (record { place = place })) v
-        at_it o true k a = let z : ◌≡◌ {A = ℕ} 0 1 = cc (e, a.answer) in absurd (omega arith)
-        at_it o false k a =
-            rw (o.rest ∙ ap (replay_from g place o.position) next ∙ turn_is g place o.position word (drop (suc place) ms) false k)
-            (record { answer = refl; moving = rw a.unchanged o.moving })
 
   -- the list's end
   pub ends : length ms ≤ place → (n : Ending) → n ≡ ending_by q.closed q.lost

@@ -1,10 +1,10 @@
 -- `replay::clicks::click_row`: the cells of the row before the column were clicked one after the other. Assumes nothing.
 use Prim.Native.Nat.{◌*◌, ◌+◌, ◌<◌}
 use native.Mathlib.Omega.{arith}
-use mathlib.Core.Path.{◌∙◌, ◌≡◌, refl}
+use mathlib.Core.Path.{◌∙◌, refl}
 use mathlib.Core.List.{[], ◌∷◌}
 use Rattle.area.specs.Squares.{row_cells}
-use Rattle.area.proofs.Cells.{cell_below, cells_few}
+use Rattle.area.proofs.Cells.{cell_below}
 use Rattle.area.proofs.Rows.{row_more, row_none}
 use Rattle.replay.proofs.Clicking.{clicked_both, clicked_none}
 use Rattle.replay.proofs.clicks.click_row.Goals.{In-loop-column}
@@ -19,21 +19,6 @@ cell : (c : In-loop-column) → c.loop-column.column * c.args.rows + c.args.row 
 cell c = let a = c.args in
     cell_below a.rows a.columns a.row c.loop-column.column (omega arith) (omega arith)
 
-pub overflow_mul-column : goal.overflow_mul-column
-overflow_mul-column c = omega (arith, cell c.before, cells_few c.args.rows c.args.columns c.requires.shape)
-
-pub overflow_add-column : goal.overflow_add-column
-overflow_add-column c = omega (arith, cell c.before, cells_few c.args.rows c.args.columns c.requires.shape)
-
-pub click-so-requires : goal.click-so-requires
-click-so-requires c = record { shape = c.requires.shape; has_cells = (omega arith, cell c.before) }
-
-pub overflow_step-column : goal.overflow_step-column
-overflow_step-column c = omega arith
-
-pub loop-column-smaller : goal.loop-column-smaller
-loop-column-smaller c = omega arith
-
 pub loop-column-preserved : goal.loop-column-preserved
 loop-column-preserved c = let a = c.args in
     let l = c.loop-column in
@@ -45,11 +30,3 @@ loop-column-preserved c = let a = c.args in
           (clicked_both a.rows a.columns a.mines a.work.now l.work u.new.work (row_cells a.rows a.row a.from l.column) ((l.column * a.rows + a.row) ∷ [])
           a.left l.so u.result l.invariant.3 u.ensures),
     )
-
-pub shape_of-work : goal.shape_of-work
-shape_of-work c = c.loop-column.invariant.2
-
-pub returns : goal.returns
-returns c = let a = c.args in
-    let e : c.loop-column.column ≡ a.to = omega arith in
-    rw e at c.loop-column.invariant.3

@@ -1,27 +1,15 @@
 -- `replay::clicks::click_square`: the rows before the row were clicked one after the other; all rows are the square. Assumes nothing.
 use native.Mathlib.Omega.{arith}
-use mathlib.Core.Path.{◌∙◌, ◌≡◌, refl}
+use mathlib.Core.Path.{◌∙◌, refl}
 use Rattle.area.specs.Squares.{block_cells, row_cells}
 use Rattle.area.proofs.Rows.{block_more, block_none}
 use Rattle.replay.proofs.Clicking.{clicked_both, clicked_none}
 use Rattle.replay.proofs.clicks.click_square.Goals as goal
 
-pub around-sides-requires : goal.around-sides-requires
-around-sides-requires c = omega arith
-
 pub loop-row-init : goal.loop-row-init
 loop-row-init c = let a = c.args in
     let q = c.around-sides.result in
     (omega arith, omega arith, refl, rw (block_none a.rows q.first q.from q.to) (clicked_none a.rows a.columns a.mines a.work.now a.left))
-
-pub click_row-so-requires : goal.click_row-so-requires
-click_row-so-requires c = record { shape = c.requires.shape; has_cells = omega arith }
-
-pub overflow_step-row : goal.overflow_step-row
-overflow_step-row c = omega arith
-
-pub loop-row-smaller : goal.loop-row-smaller
-loop-row-smaller c = omega arith
 
 pub loop-row-preserved : goal.loop-row-preserved
 loop-row-preserved c = let q = c.around-sides.result in
@@ -34,11 +22,3 @@ loop-row-preserved c = let q = c.around-sides.result in
           (clicked_both a.rows a.columns a.mines a.work.now c.loop-row.work u.new.work (block_cells a.rows q.first c.loop-row.row q.from q.to) (row_cells a.rows c.loop-row.row q.from q.to)
           a.left c.loop-row.so u.result c.loop-row.invariant.3 u.ensures),
     )
-
-pub shape_of-work : goal.shape_of-work
-shape_of-work c = c.loop-row.invariant.2
-
-pub returns : goal.returns
-returns c = let h = c.around-sides.ensures in
-    let e : c.loop-row.row ≡ c.around-sides.result.last = omega arith in
-    rw h.cells (rw e at c.loop-row.invariant.3)

@@ -1,7 +1,6 @@
 -- `replay::flags::flags_row`: the flags of the cells passed are counted. Assumes nothing.
 use Prim.Native.Nat.{◌≤◌, ◌<◌, ◌+◌, ◌*◌}
 use native.Mathlib.Omega.{arith}
-use mathlib.Core.Path.{◌≡◌}
 use Rattle.replay.specs.Clicks.{flagged_at}
 use Rattle.area.proofs.Cells.{cell_below}
 use Rattle.area.proofs.Rows.{count_row, row_none}
@@ -26,24 +25,6 @@ one c =
     let a = c.args in
     rw c.flagged-flags.ensures (bit_small (flagged_at a.work.now (c.loop-column.column * a.rows + a.row)))
 
-pub overflow_mul-column : goal.overflow_mul-column
-overflow_mul-column c = omega (arith, cell c)
-
-pub overflow_add-column : goal.overflow_add-column
-overflow_add-column c = omega (arith, cell c)
-
-pub flagged-flags-requires : goal.flagged-flags-requires
-flagged-flags-requires c = omega (arith, cell c)
-
-pub overflow_add-flags : goal.overflow_add-flags
-overflow_add-flags c = omega (arith, one c)
-
-pub overflow_step-column : goal.overflow_step-column
-overflow_step-column c = omega arith
-
-pub loop-column-smaller : goal.loop-column-smaller
-loop-column-smaller c = omega arith
-
 pub loop-column-preserved : goal.loop-column-preserved
 loop-column-preserved c = let a = c.args in (
   omega arith,
@@ -51,8 +32,3 @@ loop-column-preserved c = let a = c.args in (
   omega (arith, one c),
   count_row (flagged_at a.work.now) a.rows a.row a.from c.loop-column.column c.loop-column.flags c.flagged-flags.result c.loop-column.invariant.0 c.loop-column.invariant.3 c.flagged-flags.ensures,
 )
-
-pub returns : goal.returns
-returns c = let a = c.args in
-    let e : c.loop-column.column ≡ a.to = omega arith in
-    (omega arith, rw e at c.loop-column.invariant.3)

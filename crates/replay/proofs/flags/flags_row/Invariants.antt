@@ -9,6 +9,3 @@ use Rattle.replay.proofs.flags.flags_row.Given as goal
 abbrev pub invariant-loop-column : goal.invariant-loop-column
 invariant-loop-column l =
     (l.from ≤ l.column) × (l.column ≤ l.to) × (l.flags ≤ l.column - l.from) × (l.flags ≡ count (flagged_at l.work) (row_cells l.rows l.row l.from l.column))
-
-abbrev pub decreases-loop-column : goal.decreases-loop-column
-decreases-loop-column l = l.to - l.column

@@ -9,6 +9,3 @@ use Rattle.replay.proofs.flags.flags_square.Given as goal
 abbrev pub invariant-loop-row : goal.invariant-loop-row
 invariant-loop-row l =
     (l.first ≤ l.row) × (l.row ≤ l.last) × (l.flags ≤ 255 * (l.row - l.first)) × (l.flags ≡ count (flagged_at l.work) (block_cells l.rows l.first l.row l.from l.to))
-
-abbrev pub decreases-loop-row : goal.decreases-loop-row
-decreases-loop-row l = l.last - l.row

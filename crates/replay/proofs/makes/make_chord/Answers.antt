@@ -1,11 +1,6 @@
 -- `replay::makes::make_chord`: a chord that may not be played is refused; else the cells of the square are clicked. Assumes nothing.
-use Rattle.replay.proofs.Making.{chord_played, chord_refused}
+use Rattle.replay.proofs.Making.{chord_played}
 use Rattle.replay.proofs.makes.make_chord.Goals as goal
-
-pub returns-then-not-chordable : goal.returns-then-not-chordable
-returns-then-not-chordable c = let a = c.args in
-    let q = c.chordable in
-    λ g s old t f k. chord_refused a.rows a.columns g s old a.work.now a.index c.requires.has_cells.1 t q.result (q.ensures g s old t f) c.if-not-chordable.true
 
 pub returns : goal.returns
 returns c = let a = c.args in
