@@ -16,6 +16,7 @@ ghost use Rattle.moves.specs.Walks.{Over, flags_from};
 use crate::State;
 use kinds::Kind;
 use play::Opened;
+use squares::Square;
 
 // Notes a move, if the list has room for it.
 pub fn note(list: &mut [u32], at: usize, kind: Kind, index: usize)
@@ -106,29 +107,6 @@ pub fn flag_mine(
     carry_on(list, state, Kind::Flag, index, Opened { units: 0 })
 }
 
-// F on each mine without flag of one row, in the columns given.
-fn flag_row(
-    work: &mut [i32],
-    rows: usize,
-    columns: usize,
-    list: &mut [u32],
-    state: State,
-    row: usize,
-    from: usize,
-    to: usize,
-) -> State
-    requires shape { Shape rows columns }
-    requires has_cells { HasCells work.old (rows * columns) × (row < rows) × (from ≤ to) × (to ≤ columns) × (state.moves ≤ 2 ^ 47) }
-    ensures moves_bound { result.moves ≤ state.moves + (to - from) }
-    ensures over { Over flags_from (row_cells rows row from to) rows columns work.old list.old state work.new list.new result }
-{
-    let mut flagged = state;
-    for column in from..to {
-        flagged = flag_mine(work, rows, columns, list, flagged, column * rows + row);
-    }
-    flagged
-}
-
 // F on each mine without flag of a square, by row, then column.
 pub fn flag_around(
     work: &mut [i32],
@@ -144,14 +122,9 @@ pub fn flag_around(
     ensures made { (g : Grid) (s : Position) (old : List ℤ) → Stands rows columns g s old work.old → Tidy g s → state.units ≡ closed_units g s
         → Made rows columns g s old (map flag (keep (unflagged g s) (square g index))) list.old state work.new list.new result }
 {
-    let sides = area::around(rows, columns, index);
-    let first = sides.first;
-    let last = sides.last;
-    let from = sides.from;
-    let to = sides.to;
     let mut flagged = state;
-    for row in first..last {
-        flagged = flag_row(work, rows, columns, list, flagged, row, from, to);
+    for near in Square::around(rows, columns, index) {
+        flagged = flag_mine(work, rows, columns, list, flagged, near);
     }
     flagged
 }
