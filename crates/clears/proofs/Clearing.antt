@@ -1,12 +1,12 @@
 -- A run filled one entry after the other, and lent memory after DRAWS or an early count. Assumes nothing.
-use Prim.Native.Nat.{ℕ, ◌+◌, ◌*◌, ◌<◌, ◌≤◌}
+use Prim.Native.Nat.{ℕ, ◌*◌, ◌≤◌}
 use native.Mathlib.Omega.{arith}
-use native.Mathlib.Decide.{dec_le, ℕ_discrete}
+use native.Mathlib.Decide.{dec_le}
 use mathlib.Core.Path.{◌≡◌, ap, refl, sym, ◌∙◌}
 use mathlib.Core.List.{List}
 use lib.IntN.{ℤ, pos}
-use lib.ListN.{get_or, get_or-replicate, length, length-replicate, length-set, replicate, set}
-use lib.Seq.{ext_get_or, get_or-set_other, get_or-set_same}
+use lib.ListN.{get_or, get_or-replicate, length, length-replicate, replicate}
+use lib.Seq.{ext_get_or}
 use Rattle.game.specs.Grid.{Grid, size}
 use Rattle.game.specs.Position.{Position}
 use Rattle.game.specs.Area.{cleared, cleared_area, cleared_list}
@@ -16,21 +16,6 @@ use Rattle.area.proofs.Held.{length_held}
 use Rattle.clears.specs.Clearing.{Cleared}
 
 module _ {A : Type 0} (nought : A) (old : List A) where
-  pub cleared_none : Cleared nought 0 old old
-  cleared_none = record { long = refl; front = λ k h. absurd (omega arith); past = λ k h. refl }
-
-  pub cleared_more : (i : ℕ) (w : List A) → Cleared nought i old w → i < length old → Cleared nought (i + 1) old (set w i nought)
-  cleared_more i w c h =
-      record {
-        long = length-set w i nought ∙ c.long;
-        front = λ k b. at_front k b (ℕ_discrete k i);
-        past = λ k b. get_or-set_other w i k nought nought (λ e. omega arith) ∙ c.past k (omega arith);
-      }
-    where
-      at_front : (k : ℕ) → k < i + 1 → Dec (k ≡ i) → get_or (set w i nought) k nought ≡ nought
-      at_front k b (yes e) = ap (λ (m : ℕ). get_or (set w i nought) m nought) e ∙ get_or-set_same w i nought nought (omega (arith, c.long))
-      at_front k b (no e) = get_or-set_other w i k nought nought e ∙ c.front k (omega arith)
-
   -- it is the only such run
   pub cleared_only : (n : ℕ) (new : List A) → n ≤ length old → Cleared nought n old new → new ≡ cleared nought n old
   cleared_only n new h c = ext_get_or nought new (cleared nought n old) (c.long ∙ sym (length_begun (replicate n nought) old (omega (arith, length-replicate n nought)))) (λ k b. same_at k (dec_le n k))

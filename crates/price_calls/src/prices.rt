@@ -3,10 +3,9 @@ ghost use Rattle.std.specs.Prelude.{◌≡◌, [], ◌∷◌, ◌*◌, ◌≤◌
 ghost use Rattle.game.specs.Calls.{gives, greedy_call, openings_first_call, price_call, priced_round};
 ghost use Rattle.area.specs.Numbers.{HasCells, grid_of};
 ghost use Rattle.area.specs.Stages.{Shape};
-ghost use Rattle.answers.specs.Answers.{KeepsList, priced_answer};
+ghost use Rattle.answers.specs.Answers.{KeepsList, counted_answer};
 
-use answers::Priced;
-use refusals::Checked;
+use refusals::Refusal;
 
 // A round whose input has been checked. Answers its clicks.
 fn price_checked(
@@ -35,17 +34,11 @@ pub fn price(
     work: &mut [i32],
     list: &mut [u32],
     openings_first: bool,
-) -> Priced
-    ensures { KeepsList (price_call openings_first (grid_of rows columns grid.now) work.old list.old) (priced_answer result) work.new list.new }
+) -> Result<usize, Refusal>
+    ensures { KeepsList (price_call openings_first (grid_of rows columns grid.now) work.old list.old) (counted_answer result) work.new list.new }
 {
-    let checked = checks::check_room(rows, columns, grid, work, list.len());
-    match checked {
-        Checked::Refused(refusal) => Priced::Refused(refusal),
-        Checked::Fine => {
-            let clicks = price_checked(rows, columns, grid, work, list, openings_first);
-            Priced::Clicks(clicks)
-        }
-    }
+    checks::check_room(rows, columns, grid, work, list.len())?;
+    Ok(price_checked(rows, columns, grid, work, list, openings_first))
 }
 
 // Greedy ZiNi: its clicks, and its moves in the list.
@@ -55,8 +48,8 @@ pub fn greedy(
     grid: &[i32],
     work: &mut [i32],
     list: &mut [u32],
-) -> Priced
-    ensures { KeepsList (greedy_call (grid_of rows columns grid.now) work.old list.old) (priced_answer result) work.new list.new }
+) -> Result<usize, Refusal>
+    ensures { KeepsList (greedy_call (grid_of rows columns grid.now) work.old list.old) (counted_answer result) work.new list.new }
 {
     price(rows, columns, grid, work, list, false)
 }
@@ -68,8 +61,8 @@ pub fn openings_first(
     grid: &[i32],
     work: &mut [i32],
     list: &mut [u32],
-) -> Priced
-    ensures { KeepsList (openings_first_call (grid_of rows columns grid.now) work.old list.old) (priced_answer result) work.new list.new }
+) -> Result<usize, Refusal>
+    ensures { KeepsList (openings_first_call (grid_of rows columns grid.now) work.old list.old) (counted_answer result) work.new list.new }
 {
     price(rows, columns, grid, work, list, true)
 }
