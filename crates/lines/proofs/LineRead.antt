@@ -11,6 +11,9 @@ use Rattle.game.specs.Grid.{Grid, size}
 use Rattle.game.specs.Area.{begun}
 use Rattle.game.specs.Calls.{Answer, Refusal, gives, number_of, refuses}
 use Rattle.game.proofs.Checks.{numbered}
+use Rattle.std.specs.Prelude.{Result, Ok, Err}
+use Rattle.refusals.specs.Names.{answer_of, named}
+use Rattle.refusals.specs.declared.Refusal as Refused
 use Rattle.lines.specs.BoardLine.{board_line_call, line_grid, line_refusal}
 use Rattle.lines.specs.Answers.{KeepsGrid}
 use Rattle.lines.proofs.Calls.{board_read, board_refused}
@@ -19,6 +22,11 @@ use Rattle.lines.proofs.Verdict.{length_values, passed}
 -- a refusal is no answer with values
 pub no_refusal : (f : Refusal) (n : ℕ) (ns : List ℕ) → refuses f ≡ gives (n ∷ ns) → ⊥
 no_refusal f n ns e = omega (arith, numbered f, ap (λ (a : Answer). a.number) e)
+
+-- an answer of one value is given
+pub given_one : (r : Result ℕ Refused.Refusal) (n : ℕ) → answer_of (λ (k : ℕ). k ∷ []) r ≡ gives (n ∷ []) → r ≡ Ok n
+given_one (Ok m) n e = ap (λ (a : Answer). Ok (get_or a.values 0 0)) e
+given_one (Err f) n e = absurd (no_refusal (named f) n [] e)
 
 module _ (line : List ℕ) (lent : List ℤ) (room : 2048 ≤ length lent) where
   -- a line that no check refuses is read

@@ -6,11 +6,15 @@ use mathlib.Core.Bool.{◌||◌, not}
 use mathlib.Core.List.{List, [], ◌∷◌, ◌++◌}
 use mathlib.Core.Option.{Option, none}
 use lib.IntN.{ℤ}
-use lib.ListN.{get_or, length, take}
+use lib.ListN.{length, take}
 use borrow.Author.Tests.{eq-eqb}
+use Rattle.std.specs.Prelude.{Result}
+use Rattle.std.specs.Result.{result_unwrap_or}
+use Rattle.refusals.specs.declared.Refusal as Refused
+use Rattle.mbf_write.specs.Answers.{file_written_answer}
 use Rattle.game.specs.Grid.{Grid, cells, mine, size}
 use Rattle.game.specs.Area.{begun}
-use Rattle.game.specs.Calls.{Answer, Refusal, board_checks, first_given, gives, refuses}
+use Rattle.game.specs.Calls.{Refusal, board_checks, first_given, gives, refuses}
 use Rattle.game.proofs.Checks.{none_given}
 use Rattle.game.proofs.Counts.{count_le}
 use Rattle.game.proofs.Squares.{length_cells}
@@ -19,7 +23,7 @@ use Rattle.hex_digits.specs.Hex.{byte_digits}
 use Rattle.lines.specs.Answers.{KeepsGrid}
 use Rattle.lines.specs.BoardLine.{board_line_call, line_grid, line_refusal}
 use Rattle.lines.specs.Outputs.{KeepsRun, RunOutcome}
-use Rattle.lines.proofs.LineRead.{accepted, enough_values, no_refusal, refused_so, same-grid}
+use Rattle.lines.proofs.LineRead.{accepted, enough_values, given_one, refused_so, same-grid}
 use Rattle.lines.proofs.Verdict.{length_values, passed, side_fine}
 use Rattle.mbf_form.specs.Form.{file_of}
 use Rattle.mbf_form.specs.Calls.{write_file_call}
@@ -34,15 +38,12 @@ module _ (g : Grid) (lent : List ℕ) (passes : first_given (board_checks g) ≡
   writes : write_file_call g lent ≡ record { answer = gives (length (file_of g) ∷ []); run = begun (file_of g) lent }
   writes = write_whole g lent passes (omega (arith, file_length g, count_le (mine g) (cells g), length_cells g))
 
-  pub file_printed : (n : ℕ) (run : List ℕ) → KeepsRun (write_file_call g lent) (gives (n ∷ [])) run → Printed (file_of g) n lent run
-  file_printed n run k =
+  pub file_printed : (r : Result ℕ Refused.Refusal) (run : List ℕ) → KeepsRun (write_file_call g lent) (file_written_answer r) run → Printed (file_of g) (result_unwrap_or r 0) lent run
+  file_printed r run k =
       record {
-        counts = ap (λ (a : Answer). get_or a.values 0 0) (k.answers ∙ ap (λ (o : RunOutcome). o.answer) writes);
+        counts = ap (λ (x : Result ℕ Refused.Refusal). result_unwrap_or x 0) (given_one r (length (file_of g)) (k.answers ∙ ap (λ (o : RunOutcome). o.answer) writes));
         leaves = k.leaves ∙ ap (λ (o : RunOutcome). o.run) writes;
       }
-
-  pub file_not_refused : (f : Refusal) (run : List ℕ) → KeepsRun (write_file_call g lent) (refuses f) run → ⊥
-  file_not_refused f run k = no_refusal f (length (file_of g)) [] (k.answers ∙ ap (λ (o : RunOutcome). o.answer) writes)
 
 -- ---- a line read
 

@@ -16,8 +16,7 @@ ghost use Rattle.mbf_checks.specs.Marks.{BitsOf, no_bits};
 ghost use Rattle.mbf_lines.specs.Conversions.{Printed, file_line, first_line, line_file, refusal_line, small_file_refusal};
 
 use lines::board::Board;
-use mbf_write::FileWritten;
-use refusals::{Checked, Refusal};
+use refusals::Refusal;
 
 // A refusal's two digits and a line feed, at the start of a lent run: three bytes.
 fn put_refusal(out: &mut [u8], refusal: Refusal) -> usize
@@ -31,28 +30,25 @@ fn put_refusal(out: &mut [u8], refusal: Refusal) -> usize
 }
 
 // SIZE for over 2,048 cells, then the checks of the mines, for a file whose sides pass.
-fn check_cells(file: &[u8], bits: &mut [u8]) -> Checked
+fn check_cells(file: &[u8], bits: &mut [u8]) -> Result<(), Refusal>
     requires { (first_given (side_checks file.now) ≡ none) × (bits.old ≡ no_bits) }
     ensures { (refusal_of result ≡ small_file_refusal file.now) × (refusal_of result ≡ none → BitsOf (mine_places file.now) bits.new) }
 {
     let columns = mbf_checks::byte(file, 0);
     let rows = mbf_checks::byte(file, 1);
     if 2048 < rows * columns {
-        return Checked::Refused(Refusal::Size);
+        return Err(Refusal::Size);
     }
     mbf_checks::check_mines(file, bits)
 }
 
 // The checks of a file that is to be a line, in their order; where none is given, the bits of the mines are set.
-fn check_file(file: &[u8], bits: &mut [u8]) -> Checked
+fn check_file(file: &[u8], bits: &mut [u8]) -> Result<(), Refusal>
     requires { bits.old ≡ no_bits }
     ensures { (refusal_of result ≡ small_file_refusal file.now) × (refusal_of result ≡ none → BitsOf (mine_places file.now) bits.new) }
 {
-    let checked = mbf_checks::check_sides(file);
-    match checked {
-        Checked::Refused(refusal) => Checked::Refused(refusal),
-        Checked::Fine => check_cells(file, bits),
-    }
+    mbf_checks::check_sides(file)?;
+    check_cells(file, bits)
 }
 
 // The digits of the first bytes of a run, after those of rows and columns.
@@ -86,10 +82,9 @@ pub fn line_of_file(file: &[u8], out: &mut [u8; 517]) -> usize
     ensures { Printed (file_line file.now) result out.old out.new }
 {
     let mut bits = [0u8; 8192];
-    let checked = check_file(file, &mut bits);
-    match checked {
-        Checked::Refused(refusal) => put_refusal(out, refusal),
-        Checked::Fine => put_line(file, &bits, out),
+    match check_file(file, &mut bits) {
+        Err(refusal) => put_refusal(out, refusal),
+        Ok(()) => put_line(file, &bits, out),
     }
 }
 
@@ -97,26 +92,20 @@ pub fn line_of_file(file: &[u8], out: &mut [u8; 517]) -> usize
 fn first_line(input: &[u8]) -> usize
     ensures { (result ≤ length input.now) × (take result input.now ≡ first_line input.now) }
 {
-    let mut k = 0;
-    while k < input.len() {
-        if hex_digits::is_end(input[k]) {
+    for (k, byte) in input.iter().enumerate() {
+        if hex_digits::is_end(*byte) {
             return k;
         }
-        k += 1;
     }
-    k
+    input.len()
 }
 
-// The file of a board of at most 2,048 cells: how many bytes, at the start of a lent run.
+// The file of a board of at most 2,048 cells, which is never refused: how many bytes, at the start of a lent run.
 fn put_file(rows: usize, columns: usize, grid: &[i32], out: &mut [u8]) -> usize
     requires { (first_given (board_checks (grid_of rows columns grid.now)) ≡ none) × (rows * columns ≤ 2048) × (4100 ≤ length out.old) }
     ensures { Printed (file_of (grid_of rows columns grid.now)) result out.old out.new }
 {
-    let written = mbf_write::write(rows, columns, grid, out);
-    match written {
-        FileWritten::Bytes(count) => count,
-        FileWritten::Refused(_) => 0,
-    }
+    mbf_write::write(rows, columns, grid, out).unwrap_or(0)
 }
 
 // What line_to_mbf writes for an input: how many bytes, at the start of the lent run.
@@ -125,10 +114,9 @@ pub fn file_of_line(input: &[u8], out: &mut [u8; 4100]) -> usize
 {
     let end = first_line(input);
     let mut grid = [0i32; 2048];
-    let board = lines::board::read_board(&input[..end], &mut grid);
-    match board {
-        Board::Refused(refusal) => put_refusal(out, refusal),
-        Board::Cells(rows, columns) => {
+    match lines::board::read_board(&input[..end], &mut grid) {
+        Err(refusal) => put_refusal(out, refusal),
+        Ok(Board { rows, columns }) => {
             let cells = rows * columns;
             put_file(rows, columns, &grid[..cells], out)
         }

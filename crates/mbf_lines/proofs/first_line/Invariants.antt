@@ -1,5 +1,5 @@
 -- `mbf_lines::first_line`: no byte passed is a line feed. Assumes nothing.
-use Prim.Native.Nat.{◌-◌, ◌≤◌}
+use Prim.Native.Nat.{◌≤◌}
 use mathlib.Core.Path.{◌≡◌}
 use mathlib.Core.List.{◌++◌}
 use lib.ListN.{drop, length, take}
@@ -8,6 +8,3 @@ use Rattle.mbf_lines.proofs.first_line.Given as goal
 
 abbrev pub invariant-loop-k : goal.invariant-loop-k
 invariant-loop-k l = (l.k ≤ length l.input) × (take l.k l.input ++ first_line (drop l.k l.input) ≡ first_line l.input)
-
-abbrev pub decreases-loop-k : goal.decreases-loop-k
-decreases-loop-k l = length l.input - l.k
