@@ -4,10 +4,10 @@ use native.Mathlib.Omega.{arith}
 use native.Mathlib.Decide.{dec_lt, ℕ_discrete}
 use native.Mathlib.Nat.{add-div_right}
 use mathlib.Core.Path.{◌∙◌, ◌≡◌, ap, refl, subst, sym}
-use mathlib.Core.Logic.{◌⊎◌, inl, inr, ⊎_elim}
-use mathlib.Core.Bool.{Bool, ◌&&◌, false, not, true}
+use mathlib.Core.Logic.{inl, inr, ⊎_elim}
+use mathlib.Core.Bool.{Bool, false, not, true}
 use mathlib.Core.List.{List}
-use lib.Dec.{T, leb, le→leb, ltb, lt→ltb}
+use lib.Dec.{T}
 use lib.IntN.{ℤ}
 use Rattle.area.specs.Numbers.{HasCells, content_at}
 use Rattle.area.specs.Squares.{square_of}
@@ -20,14 +20,14 @@ use Rattle.game.specs.Lists.{bit, has, some_of}
 use Rattle.game.specs.Openings.{unlabelled}
 use Rattle.game.proofs.Early.{found_next, found_none, lacks_some, meets}
 use Rattle.game.proofs.Reveal.{zero_labelled}
-use Rattle.game.proofs.Truth.{and_both, and_left, no→false}
+use Rattle.game.proofs.Truth.{and_left, no→false}
 use Rattle.labels.specs.Labels.{fresh_of, shaped}
 use Rattle.labels.proofs.Frees.{fresh_test, fresh_yes?}
 use Rattle.openings.specs.Numbering.{Begun, Contained, Numbered, part_five}
 use Rattle.openings.proofs.Exact.{narrow_size}
 use Rattle.openings.proofs.Numbers.{MayLabel, contained_before, numbered_more, numbered_none, past_stays}
 use Rattle.early.specs.Looks.{LooksAt, lone_at}
-use Rattle.early.specs.Walks.{Beyond, Counting, Walked, Wide}
+use Rattle.early.specs.Walks.{Beyond, Counting, Wide}
 use Rattle.early.specs.declared.looks.Tally.{Tally}
 use Rattle.early.proofs.Lones.{fresh_meets, lone_unlabelled}
 use Rattle.early.proofs.Unchanged.{beyond_same}
@@ -142,22 +142,3 @@ module _ (rows columns cells limit units : ℕ) (w₀ : List ℤ) where
               look_counts g columns limit units i old w w' t t' (rw er room) h some (omega (arith, es)) d (rw er q) c
               (λ s. (rw (← er) at ((l.labels some).parts g old er cells-there is s).1, l.tells g old er es d cells-there is s));
         }
-
-    -- a walk that does not go on
-    pub looked_all : (ltb i limit && ltb 0 t.lacking && leb t.lacking (cells - i)) ≡ false
-        → Walked rows columns cells limit units w₀ (record { cell = i; lacking = t.lacking }) w
-    looked_all e = record { inside = l.inside; beyond = l.beyond; ends = ends; tells = l.tells }
-      where
-        ends : (i ≡ limit) ⊎ ((t.lacking ≡ 0) ⊎ (cells - i < t.lacking))
-        ends =
-            elim (dec_lt i limit) [
-              | no h ↦ inl (omega (arith, l.inside))
-              | yes h ↦ elim (dec_lt 0 t.lacking) [
-                | no k ↦ inr (inl (omega arith))
-                | yes k ↦ elim (dec_lt (cells - i) t.lacking) [
-                  | yes m ↦ inr (inr m)
-                  | no m ↦ absurd (subst T e (and_both (ltb i limit && ltb 0 t.lacking) (leb t.lacking (cells - i))
-                      (and_both (ltb i limit) (ltb 0 t.lacking) (lt→ltb i limit h) (lt→ltb 0 t.lacking k)) (le→leb t.lacking (cells - i) (omega arith))))
-                ]
-              ]
-            ]

@@ -1,11 +1,12 @@
 -- Where it is certain, a count stops: there, no unit lacks, or more than there are cells ahead. Assumes nothing.
-use Prim.Native.Nat.{ℕ, ◌-◌, ◌<◌}
+use Prim.Native.Nat.{ℕ, ◌-◌, ◌<◌, ◌≤◌}
 use native.Mathlib.Omega.{arith}
 use native.Mathlib.Decide.{ℕ_discrete}
 use mathlib.Core.Path.{◌∙◌, ◌≡◌, refl, subst, sym}
 use mathlib.Core.Logic.{◌⊎◌, inl, inr, ⊎_elim}
-use mathlib.Core.Bool.{Bool, ◌||◌, true}
+use mathlib.Core.Bool.{Bool, ◌||◌, false, true}
 use mathlib.Core.List.{List}
+use borrow.Author.Tests.{eqb-false, ltb-false}
 use lib.Dec.{T, eqb, eqb→eq, ltb, ltb→lt}
 use lib.IntN.{ℤ}
 use Rattle.area.specs.Numbers.{HasCells}
@@ -13,7 +14,7 @@ use Rattle.area.specs.Stages.{loaded_five}
 use Rattle.game.specs.Area.{laid}
 use Rattle.game.specs.Grid.{Grid, size}
 use Rattle.game.proofs.Early.{lacks_more, lacks_none}
-use Rattle.game.proofs.Truth.{or_cases}
+use Rattle.game.proofs.Truth.{or_cases, or_no}
 use Rattle.early.specs.Walks.{Beyond, Counting, Glanced, Stopped, Walked}
 use Rattle.early.specs.declared.walks.Stop.{Stop}
 use Rattle.early.proofs.Looked.{nothing_counted}
@@ -26,6 +27,14 @@ Ended lacking left = (lacking ≡ 0) ⊎ (left < lacking)
 ended : (lacking left : ℕ) (r : Bool) → r ≡ (eqb lacking 0 || ltb left lacking) → r ≡ true → Ended lacking left
 ended lacking left r e t =
     ⊎_elim (λ u. inl (eqb→eq lacking 0 u)) (λ u. inr (ltb→lt left lacking u)) (or_cases (eqb lacking 0) (ltb left lacking) (subst T (sym t ∙ e) tt))
+
+-- where it is not certain, units lack, but not more than there are cells left
+pub goes_on : (lacking left : ℕ) (r : Bool) → r ≡ (eqb lacking 0 || ltb left lacking) → r ≡ false → (1 ≤ lacking) × (lacking ≤ left)
+goes_on lacking left r e f =
+    let n = or_no (eqb lacking 0) (ltb left lacking) (sym e ∙ f) in
+    let some = eqb-false lacking 0 n.0 in
+    let few = ltb-false left lacking n.1 in
+    (omega arith, omega arith)
 
 module _ (g : Grid) (units : ℕ) (old : List ℤ) where
   stopped : (r : Stop) (w : List ℤ) → Counting g units r.cell r.lacking → Ended r.lacking (size g - r.cell) → Beyond (size g) old w → Stopped g units old r w
@@ -44,10 +53,6 @@ module _ (g : Grid) (units : ℕ) (old : List ℤ) where
   stopped_at_once t e q = stopped (record { cell = 0; lacking = units }) old (nothing_counted g units) (ended units (size g - 0) t e q) (beyond_same (size g) old)
 
   module _ (r : Stop) (w : List ℤ) (glance : Glanced g units old r w) where
-    -- by a glance
-    pub stopped_glanced : (t : Bool) → t ≡ (eqb r.lacking 0 || ltb (size g - r.cell) r.lacking) → t ≡ true → Stopped g units old r w
-    stopped_glanced t e q = let d = ended r.lacking (size g - r.cell) t e q in stopped r w (glance.tells d) d glance.beyond
-
     -- by a walk over all cells after it
     pub stopped_walked : (w₁ w₂ : List ℤ) (s : Stop) → HasCells w (size g) → w₁ ≡ laid (loaded_five g) (size g) w → Walked g.rows g.columns (size g) (size g) units w₁ s w₂
         → Stopped g units old s w₂

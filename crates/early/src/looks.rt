@@ -43,12 +43,8 @@ fn zero_near(work: &[i32], rows: usize, columns: usize, index: usize) -> bool
     ensures { result ≡ some_of (zero_at work.now) (square_of rows columns index) }
 {
     let sides = area::around(rows, columns, index);
-    let first = sides.first;
-    let last = sides.last;
-    let from = sides.from;
-    let to = sides.to;
-    for row in first..last {
-        if zero_in_row(work, rows, columns, row, from, to) {
+    for row in sides.first..sides.last {
+        if zero_in_row(work, rows, columns, row, sides.from, sides.to) {
             return true;
         }
     }
@@ -56,15 +52,13 @@ fn zero_near(work: &[i32], rows: usize, columns: usize, index: usize) -> bool
 }
 
 // Whether there is a safe cell that has no label and will get none: it has none yet, and no 0-cell is near.
+#[tactic(auto, unfolding(crate::specs::Looks::lone_at))]
 fn lone(work: &[i32], rows: usize, columns: usize, index: usize) -> bool
     requires has_cells { HasCells work.now (rows * columns) × (index < rows * columns) }
     requires shape { Shape rows columns }
     ensures { result ≡ lone_at rows columns work.now index }
 {
-    if !premiums::unlabelled(work, index) {
-        return false;
-    }
-    !zero_near(work, rows, columns, index)
+    premiums::unlabelled(work, index) && !zero_near(work, rows, columns, index)
 }
 
 // The opening of a 0-cell without label is met: one unit less lacks, and if any does then, the opening is labelled.

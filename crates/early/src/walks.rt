@@ -15,18 +15,12 @@ pub struct Stop {
     pub lacking: usize,
 }
 
-// Whether a walk goes on to the cell at `index`: it is below the limit, and it is not certain yet, since units lack, but not more than there are cells ahead.
-fn goes_on(lacking: usize, index: usize, limit: usize, cells: usize) -> bool
-    requires { limit ≤ cells }
-    ensures { result ≡ (ltb index limit && ltb 0 lacking && leb lacking (cells - index)) }
+// Whether it is certain where a walk stopped: no unit lacks, or more than there are cells ahead.
+fn certain(stop: Stop, cells: usize) -> bool
+    requires { stop.cell ≤ cells }
+    ensures { result ≡ (eqb stop.lacking 0 || ltb (cells - stop.cell) stop.lacking) }
 {
-    if index >= limit {
-        return false;
-    }
-    if lacking == 0 {
-        return false;
-    }
-    lacking <= cells - index
+    stop.lacking == 0 || cells - stop.cell < stop.lacking
 }
 
 // Looks at the cells below `limit` in index order until it is certain whether there are so many units, of a grid of so many cells. The work area has the contents of the first columns.
@@ -46,26 +40,20 @@ fn walk(
         openings: 0,
         lacking: units,
     };
-    let mut index: usize = 0;
-    while goes_on(tally.lacking, index, limit, cells) {
+    for index in 0..limit {
+        let here = Stop {
+            cell: index,
+            lacking: tally.lacking,
+        };
+        if certain(here, cells) {
+            return here;
+        }
         tally = looks::look(work, rows, columns, tally, index);
-        index += 1;
     }
     Stop {
-        cell: index,
+        cell: limit,
         lacking: tally.lacking,
     }
-}
-
-// Whether it is certain where a walk stopped: no unit lacks, or more than there are cells ahead.
-fn certain(stop: Stop, cells: usize) -> bool
-    requires { stop.cell ≤ cells }
-    ensures { result ≡ (eqb stop.lacking 0 || ltb (cells - stop.cell) stop.lacking) }
-{
-    if stop.lacking == 0 {
-        return true;
-    }
-    cells - stop.cell < stop.lacking
 }
 
 // Whether a 0-cell of a column has a label.
@@ -76,10 +64,8 @@ fn labelled_in(work: &[i32], rows: usize, columns: usize, column: usize) -> bool
 {
     let first = column * rows;
     for index in first..first + rows {
-        if area::content(work, index) == 1 {
-            if area::first_label(work, index) != 0 {
-                return true;
-            }
+        if area::content(work, index) == 1 && area::first_label(work, index) != 0 {
+            return true;
         }
     }
     false

@@ -1,5 +1,5 @@
 -- `early::looks::zero_in_row`: no column passed has a 0-cell in the row. Assumes nothing.
-use Prim.Native.Nat.{ℕ, ◌*◌, ◌+◌, ◌-◌, ◌≤◌}
+use Prim.Native.Nat.{ℕ, ◌*◌, ◌+◌}
 use mathlib.Core.Path.{◌≡◌}
 use mathlib.Core.Bool.{Bool, false}
 use mathlib.Core.List.{List}
@@ -13,7 +13,5 @@ abbrev pub zero_in : List ℤ → ℕ → ℕ → ℕ → Bool
 zero_in w rows row column = zero_at w (column * rows + row)
 
 abbrev pub invariant-loop-column : goal.invariant-loop-column
-invariant-loop-column l = (l.from ≤ l.column) × (l.column ≤ l.to) × (some_of (zero_in l.work l.rows l.row) (range l.from l.column) ≡ false)
-
-abbrev pub decreases-loop-column : goal.decreases-loop-column
-decreases-loop-column l = l.to - l.column
+invariant-loop-column l =
+    some_of (zero_in l.work l.rows l.row) (range l.from l.column) ≡ false

@@ -1,5 +1,5 @@
 -- `early::looks::zero_near`: no row passed has a 0-cell of the square. Assumes nothing.
-use Prim.Native.Nat.{ℕ, ◌-◌, ◌≤◌}
+use Prim.Native.Nat.{ℕ}
 use mathlib.Core.Path.{◌≡◌}
 use mathlib.Core.Bool.{Bool, false}
 use mathlib.Core.List.{List}
@@ -14,7 +14,5 @@ abbrev pub zero_in : List ℤ → ℕ → ℕ → ℕ → ℕ → Bool
 zero_in w rows a b row = some_of (zero_at w) (row_cells rows row a b)
 
 abbrev pub invariant-loop-row : goal.invariant-loop-row
-invariant-loop-row l = (l.first ≤ l.row) × (l.row ≤ l.last) × (some_of (zero_in l.work l.rows l.from l.to) (range l.first l.row) ≡ false)
-
-abbrev pub decreases-loop-row : goal.decreases-loop-row
-decreases-loop-row l = l.last - l.row
+invariant-loop-row l =
+    some_of (zero_in l.work l.rows l.sides.from l.sides.to) (range l.sides.first l.row) ≡ false

@@ -1,21 +1,16 @@
 -- `glance`: a grid of few columns, or a 0-cell with a label in the last column loaded, leaves it undecided; else the walk's count is the grid's. Assumes nothing.
-use Prim.Native.Nat.{ℕ, ◌*◌, ◌≤◌}
+use Prim.Native.Nat.{◌*◌, ◌≤◌}
 use native.Mathlib.Omega.{arith}
 use native.Mathlib.Nat.{mul-le-mul_left}
 use mathlib.Core.Path.{◌∙◌, ◌≡◌, sym}
-use borrow.Author.Rules.{rules}
 use Rattle.area.specs.Numbers.{grid_of}
-use Rattle.area.specs.Stages.{Shape, loaded_five}
+use Rattle.area.specs.Stages.{loaded_five}
 use Rattle.game.specs.Area.{laid}
 use Rattle.start.proofs.Loaded.{loaded_first}
 use Rattle.early.proofs.Glances.{glance_beyond, glanced, undecided}
 use Rattle.early.proofs.Unchanged.{beyond_same}
 use Rattle.early.proofs.walks.glance.Goals.{After-load_columns, Else-columns-lt64}
 use Rattle.early.proofs.walks.glance.Goals as goal
-
--- the first 32 columns of more
-narrower : (rows columns : ℕ) → Shape rows columns → Shape rows 32
-narrower rows columns s = record { some_rows = s.some_rows; few_rows = s.few_rows; some_columns = omega arith; few_columns = omega arith }
 
 first-cells : (c : Else-columns-lt64) → c.args.rows * 32 ≤ c.args.rows * c.args.columns
 first-cells c = mul-le-mul_left c.args.rows (omega (arith, c.if-columns-lt64.false))
@@ -32,20 +27,6 @@ loaded_at c =
     let a = c.args in
     let k = first-cells c.before.before in
     c.load_columns.ensures ∙ loaded_first (grid_of a.rows a.columns a.grid.now) a.work.now 32 (omega (arith, c.requires.grid_len.1))
-
-pub walk-stop-requires : goal.walk-stop-requires
-walk-stop-requires c =
-    let l = c.before.before in
-    let a = c.args in
-    let k = first-cells c.before.before.before.before in
-    record { shape = narrower a.rows a.columns c.requires.shape; has_cells = (search rules, omega arith, omega arith) }
-
-pub labelled_in-requires : goal.labelled_in-requires
-labelled_in-requires c =
-    let l = c.before.before.before.before.before in
-    let a = c.args in
-    let k = first-cells c.before.before.before.before.before.before in
-    record { shape = narrower a.rows a.columns c.requires.shape; has_cells = (search rules, omega arith) }
 
 pub returns-then-labelled_in : goal.returns-then-labelled_in
 returns-then-labelled_in c =
