@@ -1,9 +1,11 @@
 // L on the cells of a square: the safe ones opened in one walk, the mines in another.
 ghost use Rattle.std.specs.Prelude.{[], ◌∷◌, ◌*◌, ◌<◌, ◌≤◌};
 ghost use Rattle.area.specs.Numbers.{HasCells};
-ghost use Rattle.area.specs.Squares.{row_cells, square_of};
+ghost use Rattle.area.specs.Squares.{square_of};
 ghost use Rattle.area.specs.Stages.{Shape};
 ghost use Rattle.replay.specs.Clicks.{Clicked};
+
+use squares::Square;
 
 // What is left after moves: the safe cells still closed, and whether a mine is open.
 #[derive(Clone, Copy, PartialEq, Eq, Debug)]
@@ -44,28 +46,6 @@ pub fn click(
     Remains { closed, lost: true }
 }
 
-// The same on each cell of one row, in the columns given.
-fn click_row(
-    work: &mut [i32],
-    rows: usize,
-    columns: usize,
-    row: usize,
-    from: usize,
-    to: usize,
-    mines: bool,
-    left: Remains,
-) -> Remains
-    requires shape { Shape rows columns }
-    requires has_cells { HasCells work.old (rows * columns) × (row < rows) × (from ≤ to) × (to ≤ columns) }
-    ensures { Clicked rows columns mines work.old (row_cells rows row from to) left result work.new }
-{
-    let mut so = left;
-    for column in from..to {
-        so = click(work, rows, columns, column * rows + row, mines, so);
-    }
-    so
-}
-
 // The same on each cell of a square, by row, then column.
 pub fn click_square(
     work: &mut [i32],
@@ -79,14 +59,9 @@ pub fn click_square(
     requires has_cells { HasCells work.old (rows * columns) × (index < rows * columns) }
     ensures { Clicked rows columns mines work.old (square_of rows columns index) left result work.new }
 {
-    let sides = area::around(rows, columns, index);
-    let first = sides.first;
-    let last = sides.last;
-    let from = sides.from;
-    let to = sides.to;
     let mut so = left;
-    for row in first..last {
-        so = click_row(work, rows, columns, row, from, to, mines, so);
+    for near in Square::around(rows, columns, index) {
+        so = click(work, rows, columns, near, mines, so);
     }
     so
 }

@@ -1,13 +1,15 @@
 // The flags of a square, and whether C may be played.
 ghost use Rattle.std.specs.Prelude.{◌≡◌, List, ◌*◌, ◌-◌, ◌<◌, ◌≤◌, ℤ};
 ghost use Rattle.area.specs.Numbers.{HasCell, HasCells};
-ghost use Rattle.area.specs.Squares.{row_cells, square_of};
+ghost use Rattle.area.specs.Squares.{square_of};
 ghost use Rattle.area.specs.Stages.{Moving, Shape};
 ghost use Rattle.game.specs.Grid.{Grid};
 ghost use Rattle.game.specs.Lists.{bit, count as count_of};
 ghost use Rattle.game.specs.Moves.{chordable as may_chord};
 ghost use Rattle.game.specs.Position.{Position, Sane};
 ghost use Rattle.replay.specs.Clicks.{flagged_at};
+
+use squares::Square;
 
 // 1 for a flagged cell.
 fn flagged(work: &[i32], index: usize) -> usize
@@ -17,32 +19,15 @@ fn flagged(work: &[i32], index: usize) -> usize
     if area::state(work, index) == 2 { 1 } else { 0 }
 }
 
-// The flags in one row, in the columns given.
-fn flags_row(work: &[i32], rows: usize, columns: usize, row: usize, from: usize, to: usize) -> usize
-    requires { HasCells work.now (rows * columns) × (row < rows) × (from ≤ to) × (to ≤ columns) }
-    ensures { (result ≤ to - from) × (result ≡ count_of (flagged_at work.now) (row_cells rows row from to)) }
-{
-    let mut flags: usize = 0;
-    for column in from..to {
-        flags += flagged(work, column * rows + row);
-    }
-    flags
-}
-
 // The flags in a square.
 fn flags_square(work: &[i32], rows: usize, columns: usize, index: usize) -> usize
     requires shape { Shape rows columns }
     requires has_cells { HasCells work.now (rows * columns) × (index < rows * columns) }
     ensures { result ≡ count_of (flagged_at work.now) (square_of rows columns index) }
 {
-    let sides = area::around(rows, columns, index);
-    let first = sides.first;
-    let last = sides.last;
-    let from = sides.from;
-    let to = sides.to;
     let mut flags: usize = 0;
-    for row in first..last {
-        flags += flags_row(work, rows, columns, row, from, to);
+    for near in Square::around(rows, columns, index) {
+        flags += flagged(work, near);
     }
     flags
 }

@@ -3,13 +3,15 @@
 
 ghost use Rattle.std.specs.Prelude.{◌≡◌, List, ◌*◌, ◌<◌, ◌≤◌, ℤ};
 ghost use Rattle.area.specs.Numbers.{HasCell, HasCells, state_at};
-ghost use Rattle.area.specs.Squares.{row_cells, square_of};
+ghost use Rattle.area.specs.Squares.{square_of};
 ghost use Rattle.area.specs.Stages.{Moving, Shape};
 ghost use Rattle.game.specs.Grid.{Grid};
 ghost use Rattle.game.specs.Lists.{fold};
 ghost use Rattle.game.specs.Moves.{reveal as revealed};
 ghost use Rattle.game.specs.Position.{Position};
 ghost use Rattle.spread.specs.Spreads.{Fits, Opens, now_spread, visited};
+
+use squares::Square;
 
 // How many cells wait until their squares are visited, and how many were opened.
 #[derive(Clone, Copy)]
@@ -41,29 +43,6 @@ fn visit(work: &mut [i32], index: usize, progress: Progress) -> Progress
     }
 }
 
-// Visits the cells of one row, in the columns `from` to before `to`.
-fn visit_row(
-    work: &mut [i32],
-    rows: usize,
-    columns: usize,
-    row: usize,
-    from: usize,
-    to: usize,
-    progress: Progress,
-) -> Progress
-    requires shape { Shape rows columns }
-    requires has_cells { HasCells work.old (rows * columns) × (row < rows) × (from ≤ to) × (to ≤ columns) }
-    requires fits { Fits (rows * columns) (now_spread work.old progress.waiting progress.opened) }
-    ensures { now_spread work.new result.waiting result.opened
-        ≡ fold visited (now_spread work.old progress.waiting progress.opened) (row_cells rows row from to) }
-{
-    let mut so = progress;
-    for column in from..to {
-        so = visit(work, column * rows + row, so);
-    }
-    so
-}
-
 // Visits the cells of a square, row after row.
 fn visit_square(
     work: &mut [i32],
@@ -78,14 +57,9 @@ fn visit_square(
     ensures { now_spread work.new result.waiting result.opened
         ≡ fold visited (now_spread work.old progress.waiting progress.opened) (square_of rows columns index) }
 {
-    let sides = area::around(rows, columns, index);
-    let first = sides.first;
-    let last = sides.last;
-    let from = sides.from;
-    let to = sides.to;
     let mut so = progress;
-    for row in first..last {
-        so = visit_row(work, rows, columns, row, from, to, so);
+    for near in Square::around(rows, columns, index) {
+        so = visit(work, near, so);
     }
     so
 }

@@ -1,24 +1,30 @@
--- `replay::clicks::click_square`: the rows before the row were clicked one after the other; all rows are the square. Assumes nothing.
+-- `replay::clicks::click_square`: the cells passed were clicked one after the other. Assumes nothing.
 use native.Mathlib.Omega.{arith}
-use mathlib.Core.Path.{◌∙◌, refl}
-use Rattle.area.specs.Squares.{block_cells, row_cells}
-use Rattle.area.proofs.Rows.{block_more, block_none}
+use mathlib.Core.Path.{◌∙◌}
+use mathlib.Core.List.{[], ◌∷◌}
+use Rattle.squares.proofs.Going.{begun, done, goes_on, on_grid}
 use Rattle.replay.proofs.Clicking.{clicked_both, clicked_none}
 use Rattle.replay.proofs.clicks.click_square.Goals as goal
 
-pub loop-row-init : goal.loop-row-init
-loop-row-init c = let a = c.args in
-    let q = c.around-sides.result in
-    (omega arith, omega arith, refl, rw (block_none a.rows q.first q.from q.to) (clicked_none a.rows a.columns a.mines a.work.now a.left))
+pub loop-near-init : goal.loop-near-init
+loop-near-init c = let a = c.args in
+    let e = c.into_iter-near-iterator.ensures.into_iter_gives ∙ c.around-near-items.ensures in
+    (begun a.rows a.columns a.index c.into_iter-near-iterator.result e (omega arith), clicked_none a.rows a.columns a.mines a.work.now a.left)
 
-pub loop-row-preserved : goal.loop-row-preserved
-loop-row-preserved c = let q = c.around-sides.result in
-    let a = c.args in
-    let u = c.click_row-so in (
-      omega arith,
-      omega arith,
-      u.auto.work ∙ c.loop-row.invariant.2,
-      rw (block_more a.rows q.first c.loop-row.row q.from q.to c.loop-row.invariant.0)
-          (clicked_both a.rows a.columns a.mines a.work.now c.loop-row.work u.new.work (block_cells a.rows q.first c.loop-row.row q.from q.to) (row_cells a.rows c.loop-row.row q.from q.to)
-          a.left c.loop-row.so u.result c.loop-row.invariant.3 u.ensures),
+pub click-so-requires : goal.click-so-requires
+click-so-requires c = let a = c.args in
+    let l = c.loop-near in
+    record { shape = c.requires.shape; has_cells = (omega arith, on_grid a.rows a.columns a.index l.yielded l.near-iterator l.invariant.0 c.in-Some.near c.next.new.self c.in-Some.ensures.steps) }
+
+pub loop-near-preserved : goal.loop-near-preserved
+loop-near-preserved c = let a = c.args in
+    let l = c.loop-near in
+    let u = c.click-so in (
+      goes_on a.rows a.columns a.index l.yielded l.near-iterator l.invariant.0 c.in-Some.near c.next.new.self c.in-Some.ensures.steps,
+      clicked_both a.rows a.columns a.mines a.work.now l.work u.new.work l.yielded (c.in-Some.near ∷ []) a.left l.so u.result l.invariant.1 u.ensures,
     )
+
+pub returns : goal.returns
+returns c = let a = c.args in
+    let l = c.loop-near in
+    let e = done a.rows a.columns a.index l.yielded l.near-iterator l.invariant.0 c.in-None.ensures.steps.0 in rw e at l.invariant.1
