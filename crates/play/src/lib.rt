@@ -2,7 +2,6 @@
 #![tactic(auto)]
 
 ghost use Rattle.std.specs.Prelude.{◌≡◌, ◌+◌, ◌*◌, ◌-◌, ◌^◌, ◌<◌, ◌≤◌, List, T, eqb, ℤ};
-ghost use Rattle.area.specs.Squares.{row_cells};
 ghost use Rattle.area.specs.Numbers.{HasCell, HasCells, first_at};
 ghost use Rattle.game.specs.Lists.{bit};
 ghost use Rattle.game.specs.Grid.{Grid, mine, zero_cell};
@@ -12,6 +11,8 @@ ghost use Rattle.game.specs.Moves.{play, flag as flag_move};
 ghost use Rattle.area.specs.Stages.{Shape, Stands};
 ghost use Rattle.play.specs.Walks.{opened_one, labelled_at, CellSwept, SweptOver, RunSwept, LeftSwept, RightSwept};
 ghost use Rattle.play.specs.Promises.{Revealing, Opens, Chording, MinesFlagged, together};
+
+use squares::Square;
 
 // What moves opened: so many units.
 #[derive(Drop)]
@@ -165,27 +166,6 @@ pub fn flag(work: &mut [i32], rows: usize, columns: usize, index: usize)
     area::shift_square(work, rows, columns, index, 1, 0);
 }
 
-// A reveal of each cell of one row, in the columns given.
-fn reveal_row(
-    work: &mut [i32],
-    rows: usize,
-    columns: usize,
-    row: usize,
-    from: usize,
-    to: usize,
-) -> Opened
-    requires shape { Shape rows columns }
-    requires has_cells { HasCells work.old (rows * columns) × (row < rows) × (from ≤ to) × (to ≤ columns) }
-    ensures { (result.units ≤ to - from) × Opens rows columns work.old (row_cells rows row from to) result work.new }
-{
-    let mut opened = Opened { units: 0 };
-    for column in from..to {
-        let more = uncover(work, rows, columns, column * rows + row);
-        opened = both(opened, more);
-    }
-    opened
-}
-
 // C where the mines are flagged: a reveal of each cell of the square, by row, then column. Answers what was opened.
 pub fn chord(work: &mut [i32], rows: usize, columns: usize, index: usize) -> Opened
     requires shape { Shape rows columns }
@@ -193,10 +173,9 @@ pub fn chord(work: &mut [i32], rows: usize, columns: usize, index: usize) -> Ope
     ensures { (g : Grid) (s : Position) (old : List ℤ) → Stands rows columns g s old work.old → Tidy g s
         → MinesFlagged g s index → Chording rows columns g s old index result work.new }
 {
-    let sides = area::around(rows, columns, index);
     let mut opened = Opened { units: 0 };
-    for row in sides.first..sides.last {
-        let more = reveal_row(work, rows, columns, row, sides.from, sides.to);
+    for near in Square::around(rows, columns, index) {
+        let more = uncover(work, rows, columns, near);
         opened = both(opened, more);
     }
     opened

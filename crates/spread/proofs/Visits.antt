@@ -9,13 +9,13 @@ use lib.Dec.{T, eqb, eqb→eq}
 use lib.IntN.{ℤ}
 use lib.ListN.{length}
 use Rattle.area.specs.Numbers.{HasCell, HasCells, content_at, grid_of, natural, put_state, put_waiting, state_at, state_place, waiting_at, waiting_place}
-use Rattle.area.specs.Squares.{row_cells, square_of}
+use Rattle.area.specs.Squares.{square_of}
 use Rattle.area.specs.Stages.{Shape}
 use Rattle.game.specs.Lists.{bit, fold, has, range}
-use Rattle.area.proofs.Cells.{cell_below, cells_few}
+use Rattle.area.proofs.Cells.{cells_few}
 use Rattle.area.proofs.Puts.{put_here, put_length, put_there}
 use Rattle.game.proofs.Counts.{count_drop, count_ext, count_le, count_one}
-use Rattle.game.proofs.Members.{fold_inv, has_cases, has_range, length_from, map_has, range_has}
+use Rattle.game.proofs.Members.{fold_inv, has_cases, length_from, range_has}
 use Rattle.game.proofs.Orders.{once_range}
 use Rattle.game.proofs.Squares.{square→}
 use Rattle.game.proofs.Truth.{T→true}
@@ -166,15 +166,6 @@ module _ (rows columns : ℕ) (shape : Shape rows columns) (p q r : Spreading) (
   -- one cell more
   pub onward_one : (i : ℕ) → i < rows * columns → r ≡ visited q i → Onward (rows * columns) p r
   onward_one i h e = onward_more (i ∷ []) (λ x t. has_cases x i [] (λ d. rw d h) (λ u. absurd u) t) e
-
-  -- a row more
-  pub onward_row : (row a b : ℕ) → row < rows → b ≤ columns → r ≡ fold visited q (row_cells rows row a b) → Onward (rows * columns) p r
-  unfolding row_cells
-  onward_row row a b h k e =
-      onward_more (row_cells rows row a b) (λ x t.
-      let m = map_has (λ column. column * rows + row) x (range a b) t in
-      rw m.2 (cell_below rows columns row m.0 h (omega (arith, has_range a b m.0 m.1))))
-      e
 
 -- what a visit asks for
 pub visit_ready : (rows columns : ℕ) → Shape rows columns → (p : Spreading) (w : List ℤ) (top n : ℕ) → HasCells p.work (rows * columns) → Onward (rows * columns) p (now_spread w top n)

@@ -1,10 +1,10 @@
--- `play::chord`: the rows passed were revealed one after the other; all rows are the square. Assumes nothing.
-use Prim.Native.Nat.{◌≤◌, ◌*◌, ◌-◌}
-use Rattle.area.specs.Squares.{block_cells}
+-- `play::chord`: the cells passed were revealed one after the other. Assumes nothing.
+use Prim.Native.Nat.{◌≤◌}
+use lib.ListN.{length}
+use Rattle.squares.proofs.Going.{Going}
 use Rattle.play.specs.Promises.{Opens}
 use Rattle.play.proofs.chord.Given as goal
 
-abbrev pub invariant-loop-row : goal.invariant-loop-row
-invariant-loop-row l =
-    (l.opened.units ≤ 255 * (l.row - l.sides.first))
-    × Opens l.rows l.columns l.initial.work (block_cells l.rows l.sides.first l.row l.sides.from l.sides.to) l.opened l.work
+abbrev pub invariant-loop-near : goal.invariant-loop-near
+invariant-loop-near l =
+    Going l.rows l.columns l.index l.yielded l.near-iterator × (l.opened.units ≤ length l.yielded) × Opens l.rows l.columns l.initial.work l.yielded l.opened l.work
