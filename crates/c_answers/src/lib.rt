@@ -7,16 +7,14 @@ ghost use Rattle.game.specs.Keys.{key_numbers};
 ghost use Rattle.draws.specs.Answers.{mode_of};
 ghost use Rattle.keys.specs.Stands.{key_of};
 ghost use Rattle.refusals.specs.Names.{named};
-ghost use Rattle.answers.specs.Answers.{counted_answer, judged_answer, key_rolled_answer, priced_answer, replayed_answer, rolled_answer};
+ghost use Rattle.answers.specs.Answers.{counted_answer, judged_answer, key_rolled_answer, replayed_answer, rolled_answer};
 ghost use Rattle.lines.specs.Answers.{board_answer};
-ghost use Rattle.mbf_write.specs.Answers.{file_written_answer};
 ghost use Rattle.c_answers.specs.Names.{Tells, TellsThree, TellsTwo, key_by, key_left, key_put, mode_by};
 
-use answers::{Counted, Judged, KeyRolled, Priced, Replayed, Rolled};
+use answers::{KeyRoll, Played, Roll, Unplayed};
 use draws::Mode;
 use keys::Key;
 use lines::board::Board;
-use mbf_write::FileWritten;
 use refusals::{Refusal, number_of};
 
 // The mode of the draws: 0 is the old one, anything else the fair one.
@@ -55,12 +53,7 @@ fn put_key(run: &mut [u32], key: Key)
     ensures { run.new ≡ key_put (key_numbers (key_of key)) run.old }
 {
     if run.len() == 6 {
-        run[0] = key.x;
-        run[1] = key.y;
-        run[2] = key.z;
-        run[3] = key.w;
-        run[4] = key.v;
-        run[5] = key.counter;
+        run.copy_from_slice(&[key.x, key.y, key.z, key.w, key.v, key.counter]);
     }
 }
 
@@ -68,125 +61,106 @@ fn put_key(run: &mut [u32], key: Key)
 fn tell_refusal(refusal: Refusal, first: &mut u64) -> u8
     ensures { Tells (refuses (named refusal)) result first.old first.new }
 {
-    match refusal {
-        Refusal::Number(cell) => {
-            *first = cell as u64;
-            number_of(refusal)
-        }
-        _ => number_of(refusal),
+    if let Refusal::Number(cell) = refusal {
+        *first = cell as u64;
     }
+    number_of(refusal)
 }
 
-// 3BV.
-pub fn tell_units(answer: Counted, units: &mut u64) -> u8
-    ensures { Tells (counted_answer answer) result units.old units.new }
+// A count: 3BV, a round's clicks, or the bytes of a file.
+pub fn tell_count(answer: Result<usize, Refusal>, count: &mut u64) -> u8
+    ensures { Tells (counted_answer answer) result count.old count.new }
 {
     match answer {
-        Counted::Units(count) => {
-            *units = count as u64;
+        Ok(counted) => {
+            *count = counted as u64;
             0
         }
-        Counted::Refused(refusal) => tell_refusal(refusal, units),
+        Err(refusal) => tell_refusal(refusal, count),
     }
 }
 
 // Whether there are so many units, 1 or 0.
-pub fn tell_enough(answer: Judged, enough: &mut u64) -> u8
+pub fn tell_enough(answer: Result<bool, Refusal>, enough: &mut u64) -> u8
     ensures { Tells (judged_answer answer) result enough.old enough.new }
 {
     match answer {
-        Judged::Enough(judged) => {
+        Ok(judged) => {
             *enough = judged as u64;
             0
         }
-        Judged::Refused(refusal) => tell_refusal(refusal, enough),
-    }
-}
-
-// A greedy or openings-first round's clicks.
-pub fn tell_clicks(answer: Priced, clicks: &mut u64) -> u8
-    ensures { Tells (priced_answer answer) result clicks.old clicks.new }
-{
-    match answer {
-        Priced::Clicks(count) => {
-            *clicks = count as u64;
-            0
-        }
-        Priced::Refused(refusal) => tell_refusal(refusal, clicks),
+        Err(refusal) => tell_refusal(refusal, enough),
     }
 }
 
 // A random round's or search's clicks, and the draw bytes used.
-pub fn tell_roll(answer: Rolled, clicks: &mut u64, used: &mut u64) -> u8
+pub fn tell_roll(answer: Result<Roll, Refusal>, clicks: &mut u64, used: &mut u64) -> u8
     ensures { TellsTwo (rolled_answer answer) result clicks.old clicks.new used.old used.new }
 {
     match answer {
-        Rolled::Clicks(count, bytes) => {
-            *clicks = count as u64;
-            *used = bytes as u64;
+        Ok(roll) => {
+            *clicks = roll.clicks as u64;
+            *used = roll.used as u64;
             0
         }
-        Rolled::Refused(refusal) => tell_refusal(refusal, clicks),
+        Err(refusal) => tell_refusal(refusal, clicks),
     }
 }
 
 // A keyed round's or search's clicks, the bytes of the key used, and the key after it in its run.
-pub fn tell_keyed(answer: KeyRolled, run: &mut [u32], clicks: &mut u64, used: &mut u64) -> u8
+pub fn tell_keyed(
+    answer: Result<KeyRoll, Refusal>,
+    run: &mut [u32],
+    clicks: &mut u64,
+    used: &mut u64,
+) -> u8
     ensures { TellsTwo (key_rolled_answer answer) result clicks.old clicks.new used.old used.new × (run.new ≡ key_left (key_rolled_answer answer) run.old) }
 {
     match answer {
-        KeyRolled::Clicks(count, bytes, key) => {
-            put_key(run, key);
-            *clicks = count as u64;
-            *used = bytes as u64;
+        Ok(keyed) => {
+            put_key(run, keyed.key);
+            *clicks = keyed.clicks as u64;
+            *used = keyed.used as u64;
             0
         }
-        KeyRolled::Refused(refusal) => tell_refusal(refusal, clicks),
+        Err(refusal) => tell_refusal(refusal, clicks),
     }
 }
 
 // A replay's moves made, or the place of the bad one, the safe cells still closed, and the ending.
-pub fn tell_replay(answer: Replayed, made: &mut u64, closed: &mut u64, ending: &mut u64) -> u8
+pub fn tell_replay(
+    answer: Result<Played, Unplayed>,
+    made: &mut u64,
+    closed: &mut u64,
+    ending: &mut u64,
+) -> u8
     ensures { TellsThree (replayed_answer answer) result made.old made.new closed.old closed.new ending.old ending.new }
 {
     match answer {
-        Replayed::Played(moves, left, end) => {
-            *made = moves as u64;
-            *closed = left as u64;
-            *ending = end as u64;
+        Ok(played) => {
+            *made = played.made as u64;
+            *closed = played.closed as u64;
+            *ending = usize::from(played.ending) as u64;
             0
         }
-        Replayed::Move(place) => {
+        Err(Unplayed::Move(place)) => {
             *made = place as u64;
             number_of(Refusal::Move)
         }
-        Replayed::Refused(refusal) => tell_refusal(refusal, made),
+        Err(Unplayed::Refused(refusal)) => tell_refusal(refusal, made),
     }
 }
 
 // The rows and columns of a file that was read.
-pub fn tell_board(answer: Board, rows: &mut u64, columns: &mut u64) -> u8
+pub fn tell_board(answer: Result<Board, Refusal>, rows: &mut u64, columns: &mut u64) -> u8
     ensures { TellsTwo (board_answer answer) result rows.old rows.new columns.old columns.new }
 {
     match answer {
-        Board::Cells(height, width) => {
-            *rows = height as u64;
-            *columns = width as u64;
+        Ok(board) => {
+            *rows = board.rows as u64;
+            *columns = board.columns as u64;
             0
         }
-        Board::Refused(refusal) => tell_refusal(refusal, rows),
-    }
-}
-
-// The bytes of a file that was written.
-pub fn tell_file(answer: FileWritten, written: &mut u64) -> u8
-    ensures { Tells (file_written_answer answer) result written.old written.new }
-{
-    match answer {
-        FileWritten::Bytes(count) => {
-            *written = count as u64;
-            0
-        }
-        FileWritten::Refused(refusal) => tell_refusal(refusal, written),
+        Err(refusal) => tell_refusal(refusal, rows),
     }
 }
