@@ -10,10 +10,7 @@ pub fn looked(work: &[i32], index: usize, opened_only: bool) -> bool
     requires { HasCell work.now index }
     ensures { result ≡ looked_at opened_only work.now index }
 {
-    if opened_only {
-        return area::state(work, index) == 1;
-    }
-    true
+    !opened_only || area::state(work, index) == 1
 }
 
 // The higher raised premium so far, once the cell has been looked at.
@@ -22,13 +19,11 @@ pub fn better(work: &[i32], index: usize, opened_only: bool, top: usize) -> usiz
     ensures { result ≡ top_with opened_only work.now top index }
 {
     let premium = area::premium(work, index);
-    if premium <= top {
-        return top;
+    if premium > top && looked(work, index, opened_only) {
+        premium
+    } else {
+        top
     }
-    if looked(work, index, opened_only) {
-        return premium;
-    }
-    top
 }
 
 // The highest raised premium of a column, at least 9.

@@ -26,10 +26,7 @@ fn higher(best: Best, top: usize, column: usize) -> Best
     if top <= best.top {
         return best;
     }
-    Best {
-        top: top,
-        at: column,
-    }
+    Best { top, at: column }
 }
 
 // A column's highest premium: the kept one, or looked at again and kept.
@@ -84,10 +81,7 @@ fn has_top(work: &[i32], index: usize, opened_only: bool, top: usize) -> bool
     requires { HasCell work.now index }
     ensures { result ≡ top_at opened_only top work.now index }
 {
-    if area::premium(work, index) != top {
-        return false;
-    }
-    highest::looked(work, index, opened_only)
+    area::premium(work, index) == top && highest::looked(work, index, opened_only)
 }
 
 // The first such cell of a column; 0 if there is none.

@@ -18,14 +18,11 @@ pub fn unit(work: &[i32], index: usize) -> bool
     if area::state(work, index) != 0 {
         return false;
     }
-    let content = area::content(work, index);
-    if content == 0 {
-        return false;
+    match area::content(work, index) {
+        0 => false,
+        1 => true,
+        _ => area::first_label(work, index) == 0,
     }
-    if content == 1 {
-        return true;
-    }
-    area::first_label(work, index) == 0
 }
 
 // The lowest of them, where there is none in the columns before from: the search leaves both loops at the first that qualifies.
@@ -44,9 +41,8 @@ pub fn lowest(work: &[i32], rows: usize, columns: usize, from: usize) -> Lowest
             }
         }
     }
-    let found = None;
     Lowest {
-        found,
+        found: None,
         column: columns,
     }
 }

@@ -1,16 +1,15 @@
 -- A closed 0-cell in a square: the nine places tell, by what the work area holds of each cell. Assumes nothing.
-use Prim.Native.Nat.{ℕ, ◌%◌, ◌*◌, ◌+◌, ◌/◌, ◌<◌, ◌≤◌, suc, zero}
+use Prim.Native.Nat.{ℕ, ◌%◌, ◌*◌, ◌+◌, ◌/◌, ◌<◌, suc, zero}
 use native.Mathlib.Omega.{arith}
 use native.Mathlib.Nat.{add-zero}
-use mathlib.Core.Path.{◌∙◌, ◌≡◌, ap, refl, subst, sym}
-use mathlib.Core.Bool.{Bool, ◌&&◌, ◌||◌, cond, false, true}
-use mathlib.Core.List.{List, [], ◌∷◌}
-use borrow.Author.Tests.{le-ltb, lt-ltb, ne_eqb, eq-eqb}
-use lib.Dec.{T, eqb}
+use mathlib.Core.Path.{◌∙◌, ◌≡◌, ap, subst, sym}
+use mathlib.Core.Bool.{Bool, ◌&&◌, ◌||◌}
+use mathlib.Core.List.{List, []}
+use lib.Dec.{T}
 use lib.IntN.{ℤ}
 use Rattle.area.proofs.Held.{held_numbers}
-use Rattle.area.specs.Numbers.{grid_of, content_at, state_at}
-use Rattle.area.specs.Squares.{near_cell, on_grid}
+use Rattle.area.specs.Numbers.{grid_of}
+use Rattle.area.specs.Squares.{near_cell}
 use Rattle.area.specs.Stages.{Stands}
 use Rattle.area.proofs.SquareSides.{nine, nine_all, nine_more}
 use Rattle.game.specs.Grid.{Grid, size, square, zero_cell}
@@ -21,30 +20,6 @@ use Rattle.game.proofs.Squares.{square→}
 use Rattle.game.proofs.Truth.{iff, or_left}
 use Rattle.mark_tests.specs.Tests.{borders_closed, closed_zero_at}
 use Rattle.mark_tests.proofs.Held.{closed_zero_there}
-
--- ---- one cell
-
-module _ (w : List ℤ) (cells i : ℕ) where
-  -- past the grid
-  pub zero_past : cells ≤ i → false ≡ some_of (closed_zero_at w) (on_grid cells i)
-  zero_past h = sym (ap (λ (b : Bool). some_of (closed_zero_at w) (cond b (i ∷ []) [])) (le-ltb i cells h))
-
-  -- of another content
-  pub zero_other : (k : ℕ) → i < cells → k ≡ content_at w i → (k ≡ 1 → ⊥) → false ≡ some_of (closed_zero_at w) (on_grid cells i)
-  zero_other k h e f =
-      sym (ap (λ (b : Bool). some_of (closed_zero_at w) (cond b (i ∷ []) [])) (lt-ltb i cells h)
-      ∙ ap (λ (b : Bool). (b && eqb (state_at w i) 0) || false) (ne_eqb (content_at w i) 1 (λ q. f (e ∙ q))))
-
-  -- a 0-cell, by its state
-  pub zero_state : (k n : ℕ) → i < cells → k ≡ content_at w i → k ≡ 1 → n ≡ state_at w i → eqb n 0 ≡ some_of (closed_zero_at w) (on_grid cells i)
-  zero_state k n h e z q =
-      sym (ap (λ (b : Bool). some_of (closed_zero_at w) (cond b (i ∷ []) [])) (lt-ltb i cells h)
-      ∙ ap (λ (b : Bool). (b && eqb (state_at w i) 0) || false) (eq-eqb (content_at w i) 1 (sym e ∙ z))
-      ∙ ap (λ (m : ℕ). eqb m 0 || false) (sym q) ∙ or_false (eqb n 0))
-    where
-      or_false : (b : Bool) → (b || false) ≡ b
-      or_false true = refl
-      or_false false = refl
 
 -- ---- the square
 

@@ -15,13 +15,7 @@ fn closed_zero(work: &[i32], cells: usize, index: usize) -> bool
     requires { HasCells work.now cells }
     ensures { result ≡ some_of (closed_zero_at work.now) (on_grid cells index) }
 {
-    if index >= cells {
-        return false;
-    }
-    if area::content(work, index) != 1 {
-        return false;
-    }
-    area::state(work, index) == 0
+    index < cells && area::content(work, index) == 1 && area::state(work, index) == 0
 }
 
 // Whether a closed 0-cell stands in the square of the cell.
@@ -44,13 +38,7 @@ pub fn borders_closed(work: &[i32], rows: usize, columns: usize, index: usize) -
 fn one_of(label: usize, first: usize, second: usize) -> bool
     ensures { result ≡ one_of first second label }
 {
-    if label == 0 {
-        return false;
-    }
-    if label == first {
-        return true;
-    }
-    label == second
+    label != 0 && (label == first || label == second)
 }
 
 // Whether the cell has one of two labels.
@@ -58,10 +46,8 @@ fn shares(work: &[i32], index: usize, first: usize, second: usize) -> bool
     requires { HasCell work.now index }
     ensures { result ≡ shares_at work.now first second index }
 {
-    if one_of(area::first_label(work, index), first, second) {
-        return true;
-    }
-    one_of(area::second_label(work, index), first, second)
+    one_of(area::first_label(work, index), first, second)
+        || one_of(area::second_label(work, index), first, second)
 }
 
 // Whether a cell of the column has one of two labels.

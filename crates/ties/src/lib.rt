@@ -61,10 +61,7 @@ fn skipped(tops: &[u8], top: usize, column: usize) -> bool
     ensures { result ≡ skipped_at top tops.now column }
 {
     let kept = usize::from(tops[column]);
-    if kept == 0 {
-        return false;
-    }
-    kept - 1 < top
+    kept > 0 && kept - 1 < top
 }
 
 // How many cells of a column the step may take: each is looked at.

@@ -7,7 +7,6 @@ use mathlib.Core.List.{[]}
 use lib.Dec.{T}
 use Rattle.area.specs.Numbers.{grid_of}
 use Rattle.area.specs.Squares.{near_cell}
-use Rattle.area.proofs.Cells.{cells_few}
 use Rattle.area.proofs.SquareSides.{near-cell, nine, nine_none}
 use Rattle.game.specs.Lists.{some_of}
 use Rattle.game.proofs.Truth.{T→true, or_right}
@@ -16,26 +15,15 @@ use Rattle.mark_tests.proofs.Borders.{borders_there, some_more, some_on}
 use Rattle.mark_tests.proofs.borders_closed.Goals.{After-closed_zero}
 use Rattle.mark_tests.proofs.borders_closed.Goals as goal
 
-pub overflow_mul-cells : goal.overflow_mul-cells
-overflow_mul-cells c = omega (arith, cells_few c.args.rows c.args.columns c.requires.shape)
-
 pub loop-place-init : goal.loop-place-init
 loop-place-init c =
     let a = c.args in
-    (omega arith, ap (some_of (closed_zero_at a.work.now)) (nine_none (grid_of a.rows a.columns []) a.index))
-
-pub near-near-requires : goal.near-near-requires
-near-near-requires c = record { shape = c.requires.shape; index_bound = (c.requires.has_cells.1, omega arith, omega arith) }
-
-pub closed_zero-requires : goal.closed_zero-requires
-closed_zero-requires c = c.requires.has_cells.0
+    ap (some_of (closed_zero_at a.work.now)) (nine_none (grid_of a.rows a.columns []) a.index)
 
 -- what the place has
-place-has : (c : After-closed_zero) → let l = c.before.before.before in let a = c.args in
+place-has : (c : After-closed_zero) → let a = c.args in
     c.closed_zero.result ≡ some_of (closed_zero_at a.work.now) (near_cell (grid_of a.rows a.columns []) a.index (c.loop-place.place / 3) (c.loop-place.place % 3))
 place-has c =
-    let n = c.before in
-    let l = n.before.before in
     let a = c.args in
     let k = c.loop-place.place in
     c.closed_zero.ensures
@@ -53,22 +41,16 @@ returns-then-closed_zero c = λ g s old t.
     sym (T→true (some_of f (nine x a.index 9)) (subst (λ (m : ℕ). T (some_of f (nine x a.index m))) e (some_on f x a.index (8 - k) (k + 1) u)))
     ∙ borders_there a.rows a.columns a.work.now a.index c.requires.has_cells.1 g s old t
 
-pub overflow_step-place : goal.overflow_step-place
-overflow_step-place c = omega arith
-
-pub loop-place-smaller : goal.loop-place-smaller
-loop-place-smaller c = omega arith
-
 pub loop-place-preserved : goal.loop-place-preserved
 loop-place-preserved c =
     let a = c.args in
     let f = closed_zero_at a.work.now in
-    (omega arith, some_more f (grid_of a.rows a.columns []) a.index c.loop-place.place ∙ ap₂ (λ (p q : Bool). p || q) c.loop-place.invariant.1 (sym (place-has c.before) ∙ c.if-closed_zero.false))
+    some_more f (grid_of a.rows a.columns []) a.index c.loop-place.place ∙ ap₂ (λ (p q : Bool). p || q) c.loop-place.invariant (sym (place-has c.before) ∙ c.if-closed_zero.false)
 
 pub returns : goal.returns
 returns c = λ g s old t.
     let l = c.loop-place in
     let a = c.args in
     let e : l.place ≡ 9 = omega arith in
-    sym l.invariant.1 ∙ ap (λ (k : ℕ). some_of (closed_zero_at a.work.now) (nine (grid_of a.rows a.columns []) a.index k)) e
+    sym l.invariant ∙ ap (λ (k : ℕ). some_of (closed_zero_at a.work.now) (nine (grid_of a.rows a.columns []) a.index k)) e
     ∙ borders_there a.rows a.columns a.work.now a.index c.requires.has_cells.1 g s old t

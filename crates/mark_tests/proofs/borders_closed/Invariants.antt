@@ -1,5 +1,4 @@
 -- `marks::borders_closed`: no place passed has a closed 0-cell; all nine are the square. Assumes nothing.
-use Prim.Native.Nat.{◌-◌, ◌≤◌}
 use mathlib.Core.Path.{◌≡◌}
 use mathlib.Core.Bool.{false}
 use mathlib.Core.List.{[]}
@@ -10,7 +9,4 @@ use Rattle.mark_tests.specs.Tests.{closed_zero_at}
 use Rattle.mark_tests.proofs.borders_closed.Given as goal
 
 abbrev pub invariant-loop-place : goal.invariant-loop-place
-invariant-loop-place l = (l.place ≤ 9) × (some_of (closed_zero_at l.work) (nine (grid_of l.rows l.columns []) l.index l.place) ≡ false)
-
-abbrev pub decreases-loop-place : goal.decreases-loop-place
-decreases-loop-place l = 9 - l.place
+invariant-loop-place l = some_of (closed_zero_at l.work) (nine (grid_of l.rows l.columns []) l.index l.place) ≡ false

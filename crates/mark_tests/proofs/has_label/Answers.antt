@@ -5,39 +5,18 @@ use Rattle.mark_tests.specs.Tests.{shares_at}
 use Rattle.mark_tests.proofs.Sharing.{column_has, column_none, none_more}
 use Rattle.mark_tests.proofs.has_label.Goals as goal
 
-pub loop-row-init : goal.loop-row-init
-loop-row-init c = (omega arith, λ k h. absurd (omega arith))
-
-pub cell-index-requires : goal.cell-index-requires
-cell-index-requires c = let s = c.requires.shape in (omega arith, omega arith, omega (arith, s.few_rows, s.few_columns), omega (arith, s.few_rows, s.few_columns))
-
-pub shares-requires : goal.shares-requires
-shares-requires c = omega (arith, c.cell-index.ensures.1)
-
 pub returns-then-shares : goal.returns-then-shares
 returns-then-shares c =
-    let t = c.before in
-    let n = t.before in
     let a = c.args in
     column_has (shares_at a.work.now a.first a.second) a.rows a.column c.loop-row.row c.cell-index.result (omega arith) c.cell-index.ensures.0 (sym c.if-shares.true ∙ c.shares.ensures)
 
-pub overflow_step-row : goal.overflow_step-row
-overflow_step-row c = omega arith
-
-pub loop-row-smaller : goal.loop-row-smaller
-loop-row-smaller c = omega arith
-
 pub loop-row-preserved : goal.loop-row-preserved
 loop-row-preserved c =
-    let t = c.before in
-    let n = t.before in
-    let a = c.args in (
-      omega arith,
-      none_more (shares_at a.work.now a.first a.second) a.rows a.column c.loop-row.row c.cell-index.result c.loop-row.invariant.1 c.cell-index.ensures.0 (sym c.shares.ensures ∙ c.if-shares.false),
-    )
+    let a = c.args in
+    none_more (shares_at a.work.now a.first a.second) a.rows a.column c.loop-row.row c.cell-index.result c.loop-row.invariant c.cell-index.ensures.0 (sym c.shares.ensures ∙ c.if-shares.false)
 
 pub returns : goal.returns
 returns c =
     let l = c.loop-row in
     let a = c.args in
-    column_none (shares_at a.work.now a.first a.second) a.rows a.column l.row (omega arith) l.invariant.1
+    column_none (shares_at a.work.now a.first a.second) a.rows a.column l.row (omega arith) l.invariant
