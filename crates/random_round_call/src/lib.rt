@@ -15,15 +15,21 @@ ghost use Rattle.area.specs.Stages.{Shape};
 ghost use Rattle.random.specs.Promises.{HandsOn, Rolling, finish_answer};
 ghost use Rattle.answers.specs.Answers.{KeepsList, key_rolled_answer, rolled_answer};
 
-use answers::{KeyRolled, Rolled};
+use answers::{KeyRoll, Roll};
 use draws::Mode;
 use keys::Key;
 use random::Finish;
-use refusals::Checked;
+use refusals::Refusal;
 use supplies::Supply;
 
 // A random round's lent memory is handed back: settled, or filled with 0 where the draws ran dry.
-fn end_round(finish: Finish, rows: usize, columns: usize, work: &mut [i32], list: &mut [u32])
+fn end_round(
+    finish: Option<Finish>,
+    rows: usize,
+    columns: usize,
+    work: &mut [i32],
+    list: &mut [u32],
+)
     requires shape { Shape rows columns }
     requires has_cells { HasCells work.old (rows * columns) × (rows * columns ≤ length list.old) }
     ensures { (g : Grid) (source : Source) (origin : Origin) (old : List ℤ) (before : List ℕ) → Places source → size g ≡ rows * columns → HasCells old (size g) → size g ≤ length before
@@ -31,8 +37,8 @@ fn end_round(finish: Finish, rows: usize, columns: usize, work: &mut [i32], list
         → KeepsList (round_by source g old before) (finish_answer finish) work.new list.new }
 {
     match finish {
-        Finish::Ended(_, _) => start::begin::settle(work, rows * columns),
-        Finish::Dry => {
+        Some(_) => start::begin::settle(work, rows * columns),
+        None => {
             clears::clear_area(work, 5 * (rows * columns));
             clears::clear_list(list, rows * columns);
         }
@@ -49,7 +55,7 @@ fn roll(
     draws: &[u8],
     mode: Mode,
     supply: Supply,
-) -> Finish
+) -> Option<Finish>
     requires shape { Shape rows columns }
     requires grid_len { (length grid.now ≡ rows * columns) × HasCells work.old (rows * columns) × (rows * columns ≤ length list.old) }
     requires key_room { KeyRoom (2 ^ 24) supply × Somewhere supply }
@@ -71,7 +77,7 @@ fn roll_checked(
     list: &mut [u32],
     draws: &[u8],
     mode: Mode,
-) -> Rolled
+) -> Result<Roll, Refusal>
     requires shape { Shape rows columns }
     requires grid_len { (length grid.now ≡ rows * columns) × HasCells work.old (rows * columns) × (rows * columns ≤ length list.old) }
     ensures { KeepsList (round_by (lent (mode_of mode) draws.now) (grid_of rows columns grid.now) work.old list.old) (rolled_answer result) work.new list.new }
@@ -90,7 +96,7 @@ fn roll_keyed(
     list: &mut [u32],
     key: Key,
     mode: Mode,
-) -> KeyRolled
+) -> Result<KeyRoll, Refusal>
     requires shape { Shape rows columns }
     requires grid_len { (length grid.now ≡ rows * columns) × HasCells work.old (rows * columns) × (rows * columns ≤ length list.old) }
     ensures { KeepsList (handing_listed (key_of key) (round_by (keyed (mode_of mode) (key_of key)) (grid_of rows columns grid.now) work.old list.old)) (key_rolled_answer result) work.new list.new }
@@ -110,14 +116,11 @@ pub fn random_round(
     list: &mut [u32],
     draws: &[u8],
     mode: Mode,
-) -> Rolled
+) -> Result<Roll, Refusal>
     ensures { KeepsList (random_round_call (mode_of mode) (grid_of rows columns grid.now) work.old list.old draws.now) (rolled_answer result) work.new list.new }
 {
-    let checked = checks::check_room(rows, columns, grid, work, list.len());
-    match checked {
-        Checked::Refused(refusal) => Rolled::Refused(refusal),
-        Checked::Fine => roll_checked(rows, columns, grid, work, list, draws, mode),
-    }
+    checks::check_room(rows, columns, grid, work, list.len())?;
+    roll_checked(rows, columns, grid, work, list, draws, mode)
 }
 
 // A single random round by a key: its clicks, its moves in the list, the bytes of the key used, and the key after it.
@@ -129,13 +132,10 @@ pub fn keyed_round(
     list: &mut [u32],
     key: Key,
     mode: Mode,
-) -> KeyRolled
+) -> Result<KeyRoll, Refusal>
     ensures { KeepsList (keyed_round_call (mode_of mode) (grid_of rows columns grid.now) work.old list.old (key_of key)) (key_rolled_answer result) work.new list.new }
 {
     let room = checks::check_room(rows, columns, grid, work, list.len());
-    let checked = checks::check_key(room, key);
-    match checked {
-        Checked::Refused(refusal) => KeyRolled::Refused(refusal),
-        Checked::Fine => roll_keyed(rows, columns, grid, work, list, key, mode),
-    }
+    checks::check_key(room, key)?;
+    roll_keyed(rows, columns, grid, work, list, key, mode)
 }

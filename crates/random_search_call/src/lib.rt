@@ -16,23 +16,23 @@ ghost use Rattle.area.specs.Stages.{Shape};
 ghost use Rattle.random.specs.Promises.{HandsOn, Searching, finish_answer};
 ghost use Rattle.answers.specs.Answers.{Keeps, key_rolled_answer, rolled_answer};
 
-use answers::{KeyRolled, Rolled};
+use answers::{KeyRoll, Roll};
 use draws::Mode;
 use keys::Key;
 use random::Finish;
-use refusals::{Checked, Refusal};
+use refusals::Refusal;
 use supplies::Supply;
 
 // A random search's lent memory is handed back: settled, or filled with 0 where the draws ran dry.
-fn end_search(finish: Finish, rows: usize, columns: usize, work: &mut [i32])
+fn end_search(finish: Option<Finish>, rows: usize, columns: usize, work: &mut [i32])
     requires shape { Shape rows columns }
     requires has_cells { HasCells work.old (rows * columns) }
     ensures { (g : Grid) (origin : Origin) (o : Option Searched) (old : List ℤ) → size g ≡ rows * columns → HasCells old (size g)
         → Searching rows columns g old origin o work.old finish → Keeps (drawn_search g o old) (finish_answer finish) work.new }
 {
     match finish {
-        Finish::Ended(_, _) => start::begin::settle(work, rows * columns),
-        Finish::Dry => clears::clear_area(work, 5 * (rows * columns)),
+        Some(_) => start::begin::settle(work, rows * columns),
+        None => clears::clear_area(work, 5 * (rows * columns)),
     }
 }
 
@@ -46,7 +46,7 @@ fn search(
     mode: Mode,
     supply: Supply,
     rounds: usize,
-) -> Finish
+) -> Option<Finish>
     requires shape { Shape rows columns }
     requires grid_len { (length grid.now ≡ rows * columns) × HasCells work.old (rows * columns) × (1 ≤ rounds) }
     requires key_room { KeyRoom (2 ^ 24 * rounds) supply × Somewhere supply }
@@ -68,7 +68,7 @@ fn search_checked(
     draws: &[u8],
     mode: Mode,
     rounds: usize,
-) -> Rolled
+) -> Result<Roll, Refusal>
     requires shape { Shape rows columns }
     requires grid_len { (length grid.now ≡ rows * columns) × HasCells work.old (rows * columns) × (1 ≤ rounds) }
     ensures { Keeps (search_by (lent (mode_of mode) draws.now) rounds (grid_of rows columns grid.now) work.old) (rolled_answer result) work.new }
@@ -87,7 +87,7 @@ fn search_keyed(
     key: Key,
     mode: Mode,
     rounds: usize,
-) -> KeyRolled
+) -> Result<KeyRoll, Refusal>
     requires shape { Shape rows columns }
     requires grid_len { (length grid.now ≡ rows * columns) × HasCells work.old (rows * columns) × (1 ≤ rounds) × (rounds ≤ 1000000) }
     ensures { Keeps (handing (key_of key) (search_by (keyed (mode_of mode) (key_of key)) rounds (grid_of rows columns grid.now) work.old)) (key_rolled_answer result) work.new }
@@ -107,14 +107,11 @@ pub fn random_search(
     draws: &[u8],
     mode: Mode,
     rounds: usize,
-) -> Rolled
+) -> Result<Roll, Refusal>
     ensures { Keeps (random_search_call (mode_of mode) (grid_of rows columns grid.now) work.old draws.now rounds) (rolled_answer result) work.new }
 {
-    let checked = checks::check_more(rows, columns, grid, work, rounds, 1, Refusal::Rounds);
-    match checked {
-        Checked::Refused(first) => Rolled::Refused(first),
-        Checked::Fine => search_checked(rows, columns, grid, work, draws, mode, rounds),
-    }
+    checks::check_more(rows, columns, grid, work, rounds, 1, Refusal::Rounds)?;
+    search_checked(rows, columns, grid, work, draws, mode, rounds)
 }
 
 // Random search over so many rounds by a key, at most 1,000,000: the least clicks, the bytes of the key used, and the key after it.
@@ -126,13 +123,10 @@ pub fn keyed_search(
     key: Key,
     mode: Mode,
     rounds: usize,
-) -> KeyRolled
+) -> Result<KeyRoll, Refusal>
     ensures { Keeps (keyed_search_call (mode_of mode) (grid_of rows columns grid.now) work.old (key_of key) rounds) (key_rolled_answer result) work.new }
 {
     let counted = checks::check_keyed_rounds(rows, columns, grid, work, rounds);
-    let checked = checks::check_key(counted, key);
-    match checked {
-        Checked::Refused(refusal) => KeyRolled::Refused(refusal),
-        Checked::Fine => search_keyed(rows, columns, grid, work, key, mode, rounds),
-    }
+    checks::check_key(counted, key)?;
+    search_keyed(rows, columns, grid, work, key, mode, rounds)
 }

@@ -1,5 +1,7 @@
 -- `random_round_call::keyed_round`: refused as the checks say, else played. Assumes nothing.
-use mathlib.Core.Path.{ap, sym, ◌∙◌}
+use mathlib.Core.Path.{◌≡◌, ap, sym, ◌∙◌}
+use borrow.Author.Rules.{rules}
+use Rattle.std.specs.Prelude.{Err}
 use mathlib.Core.List.{List, [], ◌++◌, ◌∷◌}
 use mathlib.Core.Option.{Option}
 use Prim.Native.Nat.{ℕ, ◌*◌}
@@ -35,16 +37,17 @@ come rows columns grid work list key mode =
 pub roll_keyed-requires : goal.roll_keyed-requires
 roll_keyed-requires c =
     let a = c.args in
-    let e = first_none (firsts c.args.rows c.args.columns c.args.grid.now c.args.work.now c.args.list.now) (key_check (key_of a.key) ∷ []) (sym (c.check_key-checked.ensures (firsts c.args.rows c.args.columns c.args.grid.now c.args.work.now c.args.list.now) c.check_room-room.ensures) ∙ ap refusal_of c.in-Fine.is) in
+    let e = first_none (firsts c.args.rows c.args.columns c.args.grid.now c.args.work.now c.args.list.now) (key_check (key_of a.key) ∷ []) (sym (c.check_key.ensures (firsts c.args.rows c.args.columns c.args.grid.now c.args.work.now c.args.list.now) c.check_room-room.ensures) ∙ ap refusal_of c.in_ok-check_key.was) in
     let p = all_passed (grid_of a.rows a.columns a.grid.now) a.work.now (length a.list.now) (a.rows * a.columns) trace e in
     record { shape = p.0.shaped; grid_len = (p.0.whole, p.0.room, p.1) }
 
-pub returns-in-Refused : goal.returns-in-Refused
+pub returns-in_err-check_key : goal.returns-in_err-check_key
 unfolding keyed_round_call
-returns-in-Refused c =
-    list_refused (given c.args.rows c.args.columns c.args.grid.now c.args.work.now c.args.list.now c.args.key) _ _ _ (come c.args.rows c.args.columns c.args.grid.now c.args.work.now c.args.list.now c.args.key c.args.mode) (ap refusal_of (sym c.in-Refused.is) ∙ (c.check_key-checked.ensures (firsts c.args.rows c.args.columns c.args.grid.now c.args.work.now c.args.list.now) c.check_room-room.ensures))
+returns-in_err-check_key c =
+    let told : c.from_residual.result ≡ Err c.in_err-check_key.field-0.0 = search rules in
+    rw told (list_refused (given c.args.rows c.args.columns c.args.grid.now c.args.work.now c.args.list.now c.args.key) _ _ _ (come c.args.rows c.args.columns c.args.grid.now c.args.work.now c.args.list.now c.args.key c.args.mode) (ap refusal_of (sym c.in_err-check_key.was) ∙ (c.check_key.ensures (firsts c.args.rows c.args.columns c.args.grid.now c.args.work.now c.args.list.now) c.check_room-room.ensures)))
 
-pub returns-in-Fine : goal.returns-in-Fine
+pub returns : goal.returns
 unfolding keyed_round_call
-returns-in-Fine c =
-    list_else (given c.args.rows c.args.columns c.args.grid.now c.args.work.now c.args.list.now c.args.key) _ _ _ _ _ (come c.args.rows c.args.columns c.args.grid.now c.args.work.now c.args.list.now c.args.key c.args.mode) (sym (ap refusal_of c.in-Fine.is) ∙ (c.check_key-checked.ensures (firsts c.args.rows c.args.columns c.args.grid.now c.args.work.now c.args.list.now) c.check_room-room.ensures)) c.roll_keyed.ensures
+returns c =
+    list_else (given c.args.rows c.args.columns c.args.grid.now c.args.work.now c.args.list.now c.args.key) _ _ _ _ _ (come c.args.rows c.args.columns c.args.grid.now c.args.work.now c.args.list.now c.args.key c.args.mode) (sym (ap refusal_of c.in_ok-check_key.was) ∙ (c.check_key.ensures (firsts c.args.rows c.args.columns c.args.grid.now c.args.work.now c.args.list.now) c.check_room-room.ensures)) c.roll_keyed.ensures

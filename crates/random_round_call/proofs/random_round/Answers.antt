@@ -1,5 +1,7 @@
 -- `random_round_call::random_round`: refused as the checks say, else played. Assumes nothing.
-use mathlib.Core.Path.{ap, sym, ◌∙◌}
+use mathlib.Core.Path.{◌≡◌, ap, sym, ◌∙◌}
+use borrow.Author.Rules.{rules}
+use Rattle.std.specs.Prelude.{Err}
 use mathlib.Core.List.{List, ◌++◌}
 use mathlib.Core.Option.{Option}
 use Prim.Native.Nat.{ℕ, ◌*◌}
@@ -31,15 +33,16 @@ come rows columns grid work list draws mode =
 pub roll_checked-requires : goal.roll_checked-requires
 roll_checked-requires c =
     let a = c.args in
-    let p = all_passed (grid_of a.rows a.columns a.grid.now) a.work.now (length a.list.now) (a.rows * a.columns) trace (sym c.check_room-checked.ensures ∙ ap refusal_of c.in-Fine.is) in
+    let p = all_passed (grid_of a.rows a.columns a.grid.now) a.work.now (length a.list.now) (a.rows * a.columns) trace (sym c.check_room.ensures ∙ ap refusal_of c.in_ok-check_room.was) in
     record { shape = p.0.shaped; grid_len = (p.0.whole, p.0.room, p.1) }
 
-pub returns-in-Refused : goal.returns-in-Refused
+pub returns-in_err-check_room : goal.returns-in_err-check_room
 unfolding random_round_call
-returns-in-Refused c =
-    list_refused (given c.args.rows c.args.columns c.args.grid.now c.args.work.now c.args.list.now) _ _ _ (come c.args.rows c.args.columns c.args.grid.now c.args.work.now c.args.list.now c.args.draws.now c.args.mode) (ap refusal_of (sym c.in-Refused.is) ∙ c.check_room-checked.ensures)
+returns-in_err-check_room c =
+    let told : c.from_residual.result ≡ Err c.in_err-check_room.field-0.0 = search rules in
+    rw told (list_refused (given c.args.rows c.args.columns c.args.grid.now c.args.work.now c.args.list.now) _ _ _ (come c.args.rows c.args.columns c.args.grid.now c.args.work.now c.args.list.now c.args.draws.now c.args.mode) (ap refusal_of (sym c.in_err-check_room.was) ∙ c.check_room.ensures))
 
-pub returns-in-Fine : goal.returns-in-Fine
+pub returns : goal.returns
 unfolding random_round_call
-returns-in-Fine c =
-    list_else (given c.args.rows c.args.columns c.args.grid.now c.args.work.now c.args.list.now) _ _ _ _ _ (come c.args.rows c.args.columns c.args.grid.now c.args.work.now c.args.list.now c.args.draws.now c.args.mode) (sym (ap refusal_of c.in-Fine.is) ∙ c.check_room-checked.ensures) c.roll_checked.ensures
+returns c =
+    list_else (given c.args.rows c.args.columns c.args.grid.now c.args.work.now c.args.list.now) _ _ _ _ _ (come c.args.rows c.args.columns c.args.grid.now c.args.work.now c.args.list.now c.args.draws.now c.args.mode) (sym (ap refusal_of c.in_ok-check_room.was) ∙ c.check_room.ensures) c.roll_checked.ensures

@@ -1,5 +1,7 @@
 -- `random_search_call::keyed_search`: refused as the checks say, else played. Assumes nothing.
-use mathlib.Core.Path.{ap, sym, ◌∙◌}
+use mathlib.Core.Path.{◌≡◌, ap, sym, ◌∙◌}
+use Rattle.std.specs.Prelude.{Err}
+use borrow.Author.Rules.{rules}
 use mathlib.Core.List.{List, [], ◌++◌, ◌∷◌}
 use mathlib.Core.Option.{Option}
 use Rattle.area.specs.Numbers.{grid_of}
@@ -33,20 +35,21 @@ come rows columns grid work many key mode =
 pub search_keyed-requires : goal.search_keyed-requires
 search_keyed-requires c =
     let a = c.args in
-    let p = keyed_passed (grid_of a.rows a.columns a.grid.now) a.work.now a.rounds (key_of a.key)
-    (sym (c.check_key-checked.ensures (firsts a.rows a.columns a.grid.now a.work.now a.rounds) c.check_keyed_rounds-counted.ensures) ∙ ap refusal_of c.in-Fine.is) in
+    let p = keyed_passed (grid_of a.rows a.columns a.grid.now) a.work.now a.rounds (key_of a.key) (sym (c.check_key.ensures (firsts a.rows a.columns a.grid.now a.work.now a.rounds) c.check_keyed_rounds-counted.ensures) ∙ ap refusal_of c.in_ok-check_key.was) in
     record { shape = p.0.shaped; grid_len = (p.0.whole, p.0.room, p.1, p.2) }
 
-pub returns-in-Refused : goal.returns-in-Refused
+pub returns-in_err-check_key : goal.returns-in_err-check_key
 unfolding keyed_search_call
-returns-in-Refused c =
+returns-in_err-check_key c =
     let a = c.args in
-    keeps_refused (given a.rows a.columns a.grid.now a.work.now a.rounds a.key) _ _ (come a.rows a.columns a.grid.now a.work.now a.rounds a.key a.mode)
-    (ap refusal_of (sym c.in-Refused.is) ∙ c.check_key-checked.ensures (firsts a.rows a.columns a.grid.now a.work.now a.rounds) c.check_keyed_rounds-counted.ensures)
+    let told : c.from_residual.result ≡ Err c.in_err-check_key.field-0.0 = search rules in
+    rw told
+    (keeps_refused (given a.rows a.columns a.grid.now a.work.now a.rounds a.key) _ _ (come a.rows a.columns a.grid.now a.work.now a.rounds a.key a.mode)
+    (ap refusal_of (sym c.in_err-check_key.was) ∙ c.check_key.ensures (firsts a.rows a.columns a.grid.now a.work.now a.rounds) c.check_keyed_rounds-counted.ensures))
 
-pub returns-in-Fine : goal.returns-in-Fine
+pub returns : goal.returns
 unfolding keyed_search_call
-returns-in-Fine c =
+returns c =
     let a = c.args in
     keeps_else (given a.rows a.columns a.grid.now a.work.now a.rounds a.key) _ _ _ (come a.rows a.columns a.grid.now a.work.now a.rounds a.key a.mode)
-    (sym (ap refusal_of c.in-Fine.is) ∙ c.check_key-checked.ensures (firsts a.rows a.columns a.grid.now a.work.now a.rounds) c.check_keyed_rounds-counted.ensures) c.search_keyed.ensures
+    (sym (ap refusal_of c.in_ok-check_key.was) ∙ c.check_key.ensures (firsts a.rows a.columns a.grid.now a.work.now a.rounds) c.check_keyed_rounds-counted.ensures) c.search_keyed.ensures

@@ -1,5 +1,7 @@
 -- `random_search_call::random_search`: refused as the checks say, else played. Assumes nothing.
-use mathlib.Core.Path.{ap, sym, ◌∙◌}
+use mathlib.Core.Path.{◌≡◌, ap, sym, ◌∙◌}
+use Rattle.std.specs.Prelude.{Err}
+use borrow.Author.Rules.{rules}
 use mathlib.Core.List.{◌++◌}
 use mathlib.Core.Option.{Option}
 use Rattle.area.specs.Numbers.{grid_of}
@@ -31,19 +33,21 @@ come rows columns grid work draws mode many = let g = grid_of rows columns grid 
 pub search_checked-requires : goal.search_checked-requires
 search_checked-requires c =
     let a = c.args in
-    let p = all_passed (grid_of a.rows a.columns a.grid.now) a.work.now a.rounds 1 rounds (sym c.check_more-checked.ensures ∙ ap refusal_of c.in-Fine.is) in
+    let p = all_passed (grid_of a.rows a.columns a.grid.now) a.work.now a.rounds 1 rounds (sym c.check_more.ensures ∙ ap refusal_of c.in_ok-check_more.was) in
     record { shape = p.0.shaped; grid_len = (p.0.whole, p.0.room, p.1) }
 
-pub returns-in-Refused : goal.returns-in-Refused
+pub returns-in_err-check_more : goal.returns-in_err-check_more
 unfolding random_search_call
-returns-in-Refused c =
+returns-in_err-check_more c =
     let a = c.args in
-    keeps_refused (given a.rows a.columns a.grid.now a.work.now (eqb a.rounds 0)) _ _ (come a.rows a.columns a.grid.now a.work.now a.draws.now a.mode a.rounds)
-    (ap refusal_of (sym c.in-Refused.is) ∙ c.check_more-checked.ensures ∙ ap (given a.rows a.columns a.grid.now a.work.now) (none_below a.rounds))
+    let told : c.from_residual.result ≡ Err c.in_err-check_more.field-0.0 = search rules in
+    rw told
+    (keeps_refused (given a.rows a.columns a.grid.now a.work.now (eqb a.rounds 0)) _ _ (come a.rows a.columns a.grid.now a.work.now a.draws.now a.mode a.rounds)
+    (ap refusal_of (sym c.in_err-check_more.was) ∙ c.check_more.ensures ∙ ap (given a.rows a.columns a.grid.now a.work.now) (none_below a.rounds)))
 
-pub returns-in-Fine : goal.returns-in-Fine
+pub returns : goal.returns
 unfolding random_search_call
-returns-in-Fine c =
+returns c =
     let a = c.args in
     keeps_else (given a.rows a.columns a.grid.now a.work.now (eqb a.rounds 0)) _ _ _ (come a.rows a.columns a.grid.now a.work.now a.draws.now a.mode a.rounds)
-    (sym (ap refusal_of c.in-Fine.is) ∙ c.check_more-checked.ensures ∙ ap (given a.rows a.columns a.grid.now a.work.now) (none_below a.rounds)) c.search_checked.ensures
+    (sym (ap refusal_of c.in_ok-check_more.was) ∙ c.check_more.ensures ∙ ap (given a.rows a.columns a.grid.now a.work.now) (none_below a.rounds)) c.search_checked.ensures
