@@ -1,7 +1,7 @@
 -- L on closed 0-cells in turn: what is read of a cell says whether its number is 0. Assumes nothing.
 use Prim.Native.Nat.{ℕ, ◌*◌, ◌<◌}
 use native.Mathlib.Omega.{arith}
-use mathlib.Core.Path.{◌∙◌, ◌≡◌, ap, ap₂, refl, subst, sym}
+use mathlib.Core.Path.{◌∙◌, ◌≡◌, ap, refl, subst, sym}
 use mathlib.Core.Bool.{Bool, ◌&&◌, cond, false, true}
 use mathlib.Core.List.{List, [], ◌++◌, ◌∷◌}
 use lib.Dec.{T, eqb→eq}
@@ -9,8 +9,7 @@ use lib.IntN.{ℤ}
 use Rattle.area.specs.Numbers.{content_at}
 use Rattle.moves.specs.declared.State.{State}
 use Rattle.area.specs.Stages.{Stands}
-use Rattle.game.specs.Grid.{Grid, cells, safe, zero_cell}
-use Rattle.game.specs.Lists.{range}
+use Rattle.game.specs.Grid.{Grid, safe, zero_cell}
 use Rattle.game.specs.Moves.{Move, after, left, play}
 use Rattle.game.specs.Position.{Position, Tidy, closed, closed_units}
 use Rattle.game.specs.Rounds.{after_step, click_step, moves_of, opening_clicks}
@@ -70,12 +69,3 @@ module _ (rows columns : ℕ) (w : List ℤ) (list : List ℕ) (t : State) (i : 
           let z : zero_cell g i ≡ true = sym (is_zero rows columns g s old w i h st k e) ∙ eq-eqb k 1 one in
           subst (λ (ms : List Move). Made rows columns g s old ms list t w' list' t')
           (either g s (closed s i) ∙ ap (λ (b : Bool). HitsFrom g s i [] (b && closed s i)) (sym z)) (q g s old st f v c)
-
--- ---- the grid
-
-pub hits_all : (rows columns : ℕ) (w : List ℤ) (list : List ℕ) (t : State) (w' : List ℤ) (list' : List ℕ) (t' : State)
-    → Over hits_from (range 0 (rows * columns)) rows columns w list t w' list' t'
-    → (g : Grid) (s : Position) (old : List ℤ) → Stands rows columns g s old w → Tidy g s → t.units ≡ closed_units g s
-    → Made rows columns g s old (moves_of (opening_clicks g s (cells g))) list t w' list' t'
-hits_all rows columns w list t w' list' t' h g s old st f e =
-    subst (λ (k : ℕ). Made rows columns g s old (hits_from g s (range 0 k)) list t w' list' t') (sym (ap₂ ◌*◌ st.rows_are st.columns_are)) (h.made g s old st f e)
