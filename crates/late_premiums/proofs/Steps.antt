@@ -1,16 +1,14 @@
--- One cell of each pass leaves the work area as long as it was; which cells raise, by branches. Assumes nothing.
+-- One cell of each pass leaves the work area as long as it was. Assumes nothing.
 use Prim.Native.Nat.{ℕ, ◌%◌, ◌*◌, ◌+◌, ◌/◌}
 use mathlib.Core.Path.{◌≡◌, refl}
-use mathlib.Core.Bool.{Bool, cond, false, not, true}
+use mathlib.Core.Bool.{Bool, cond, false, true}
 use mathlib.Core.List.{List}
-use lib.Dec.{eqb}
 use lib.IntN.{ℤ}
 use lib.ListN.{length}
 use Rattle.area.specs.Numbers.{content_at, first_at, premium_at, premium_place, put_premium, second_at, state_at}
 use Rattle.area.proofs.Puts.{put_length}
 use Rattle.premiums.proofs.Risen.{length_raised}
 use Rattle.late_premiums.specs.Passes.{alone_premium, closed_zero_at, halve_cell, keeper_of, lay_cell, mark_cell, mark_of, raise_near, raising_at}
-use borrow.Author.Tests.{ne_eqb}
 
 pub length_mark : (n : ℕ) (w : List ℤ) (i : ℕ) → length (mark_cell n w i) ≡ length w
 length_mark n w i = go (closed_zero_at w i)
@@ -28,14 +26,3 @@ length_halve w i = put_length w (premium_place i) (premium_at w i / 2)
 
 pub length_near : (rows columns : ℕ) (w : List ℤ) (i : ℕ) → length (raise_near rows columns w i) ≡ length w
 length_near rows columns w i = length_raised (raising_at w i) rows columns w i
-
--- ---- which cells raise
-
-pub raising_mine : (w : List ℤ) (i content state : ℕ) → content ≡ content_at w i → state ≡ state_at w i → content ≡ 0 → eqb state 2 ≡ raising_at w i
-raising_mine w i content state ek es t = rw (← ek, t, ← es)
-
-pub raising_labelled : (w : List ℤ) (i content first : ℕ) → content ≡ content_at w i → first ≡ first_at w i → (content ≡ 0 → ⊥) → (first ≡ 0 → ⊥) → false ≡ raising_at w i
-raising_labelled w i content first ek ef t f = rw (← ek, ne_eqb content 0 t, ← ef, ne_eqb first 0 f)
-
-pub raising_unlabelled : (w : List ℤ) (i content state first : ℕ) → content ≡ content_at w i → state ≡ state_at w i → first ≡ first_at w i → (content ≡ 0 → ⊥) → first ≡ 0 → not (eqb state 1) ≡ raising_at w i
-raising_unlabelled w i content state first ek es ef t f = rw (← ek, ne_eqb content 0 t, ← ef, f, ← es)

@@ -1,5 +1,5 @@
 -- `late_premiums::lay_all`: the cells passed are laid. Assumes nothing.
-use Prim.Native.Nat.{◌-◌, ◌≤◌}
+use Prim.Native.Nat.{◌≤◌}
 use mathlib.Core.Path.{◌≡◌}
 use lib.ListN.{length}
 use Rattle.game.specs.Lists.{range, fold}
@@ -8,6 +8,3 @@ use Rattle.late_premiums.proofs.lay_all.Given as goal
 
 abbrev pub invariant-loop-index : goal.invariant-loop-index
 invariant-loop-index l = (l.index ≤ l.cells) × (l.work ≡ fold (lay_cell l.cells) l.initial.work (range 0 l.index)) × (length l.work ≡ length l.initial.work)
-
-abbrev pub decreases-loop-index : goal.decreases-loop-index
-decreases-loop-index l = l.cells - l.index
