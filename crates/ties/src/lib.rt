@@ -26,6 +26,7 @@ fn mark_units(columns: usize, tops: &[u8], units: &mut [u8])
     requires { (columns ≤ length tops.now) × (columns ≤ length units.old) }
     ensures { (length units.new ≡ length units.old) × ((c : ℕ) → c < columns → MarkedOr (get_or tops.now c 0 ≡ 0 → ⊥) units.old units.new c) }
 {
+    // By index: both runs go to the columns alone, which a zip says no plainer.
     for column in 0..columns {
         units[column] = unless_marked(tops[column], units[column]);
     }
