@@ -6,16 +6,21 @@ ghost use Rattle.area.specs.Stages.{Shape};
 ghost use Rattle.answers.specs.Answers.{Keeps, replayed_answer};
 ghost use Rattle.replay_call.specs.Answered.{answered};
 
-use answers::Replayed;
-use refusals::{Checked, Refusal};
+use answers::{Played, Unplayed};
+use refusals::Refusal;
+use replay::{Stopped, Whole};
 
 // What a replay came to.
-fn replay_answer(count: usize, played: replay::Replay) -> Replayed
+fn replay_answer(count: usize, played: Result<Whole, Stopped>) -> Result<Played, Unplayed>
     ensures { result ≡ answered count played }
 {
     match played {
-        replay::Replay::Whole(closed, ending) => Replayed::Played(count, closed, ending),
-        replay::Replay::Stopped(place) => Replayed::Move(place),
+        Ok(whole) => Ok(Played {
+            made: count,
+            closed: whole.closed,
+            ending: whole.ending,
+        }),
+        Err(stopped) => Err(Unplayed::Move(stopped.place)),
     }
 }
 
@@ -27,7 +32,7 @@ fn replay_checked(
     work: &mut [i32],
     list: &[u32],
     count: usize,
-) -> Replayed
+) -> Result<Played, Unplayed>
     requires shape { Shape rows columns }
     requires grid_len { (length grid.now ≡ rows * columns) × HasCells work.old (rows * columns) × (count ≤ length list.now) }
     ensures { Keeps (replayed_list (grid_of rows columns grid.now) work.old list.now count) (replayed_answer result) work.new }
@@ -47,12 +52,9 @@ pub fn replay(
     work: &mut [i32],
     list: &[u32],
     count: usize,
-) -> Replayed
+) -> Result<Played, Unplayed>
     ensures { Keeps (replay_call (grid_of rows columns grid.now) work.old list.now count) (replayed_answer result) work.new }
 {
-    let checked = checks::check_more(rows, columns, grid, work, list.len(), count, Refusal::Trace);
-    match checked {
-        Checked::Refused(refusal) => Replayed::Refused(refusal),
-        Checked::Fine => replay_checked(rows, columns, grid, work, list, count),
-    }
+    checks::check_more(rows, columns, grid, work, list.len(), count, Refusal::Trace)?;
+    replay_checked(rows, columns, grid, work, list, count)
 }
