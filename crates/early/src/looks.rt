@@ -2,11 +2,12 @@
 ghost use Rattle.std.specs.Prelude.{◌≡◌, ◌+◌, ◌*◌, ◌<◌, ◌≤◌};
 ghost use Rattle.game.specs.Lists.{some_of};
 ghost use Rattle.area.specs.Numbers.{HasCells};
-ghost use Rattle.area.specs.Squares.{row_cells, square_of};
+ghost use Rattle.area.specs.Squares.{square_of};
 ghost use Rattle.area.specs.Stages.{Shape};
 ghost use Rattle.early.specs.Looks.{LooksAt, Meets, lone_at, zero_at};
 
 use labels::fresh;
+use squares::Square;
 
 // What goes from cell to cell: the openings labelled so far, and the units still lacking.
 #[derive(Drop)]
@@ -15,36 +16,14 @@ pub struct Tally {
     pub lacking: usize,
 }
 
-// Whether a 0-cell stands in one row, in the columns given.
-fn zero_in_row(
-    work: &[i32],
-    rows: usize,
-    columns: usize,
-    row: usize,
-    from: usize,
-    to: usize,
-) -> bool
-    requires has_cells { HasCells work.now (rows * columns) × (row < rows) × (from ≤ to) × (to ≤ columns) }
-    requires shape { Shape rows columns }
-    ensures { result ≡ some_of (zero_at work.now) (row_cells rows row from to) }
-{
-    for column in from..to {
-        if area::content(work, column * rows + row) == 1 {
-            return true;
-        }
-    }
-    false
-}
-
 // Whether a 0-cell stands in the square of a cell.
 fn zero_near(work: &[i32], rows: usize, columns: usize, index: usize) -> bool
     requires has_cells { HasCells work.now (rows * columns) × (index < rows * columns) }
     requires shape { Shape rows columns }
     ensures { result ≡ some_of (zero_at work.now) (square_of rows columns index) }
 {
-    let sides = area::around(rows, columns, index);
-    for row in sides.first..sides.last {
-        if zero_in_row(work, rows, columns, row, sides.from, sides.to) {
+    for near in Square::around(rows, columns, index) {
+        if area::content(work, near) == 1 {
             return true;
         }
     }

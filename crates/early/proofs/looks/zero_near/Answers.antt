@@ -1,25 +1,47 @@
--- `early::looks::zero_near`: no row passed has a 0-cell of the square. Assumes nothing.
+-- `early::looks::zero_near`: no cell passed is a 0-cell. Assumes nothing.
 use Prim.Native.Nat.{ℕ}
 use native.Mathlib.Omega.{arith}
-use mathlib.Core.Path.{◌∙◌, ◌≡◌, ap, sym}
-use Rattle.game.specs.Lists.{range, some_of}
+use mathlib.Core.Path.{◌∙◌, ap, ap₂, refl, sym}
+use mathlib.Core.Bool.{Bool, ◌||◌, false}
+use mathlib.Core.List.{List, [], ◌∷◌}
+use borrow.Author.Tests.{eq-eqb, ne_eqb}
+use Rattle.game.specs.Lists.{some_of}
+use Rattle.game.proofs.Members.{some_append}
+use Rattle.squares.proofs.Going.{begun, done, goes_on, on_grid}
 use Rattle.early.specs.Looks.{zero_at}
-use Rattle.game.proofs.Members.{one_there}
-use Rattle.area.proofs.Rows.{some_square}
-use Rattle.early.proofs.looks.zero_near.Invariants.{zero_in}
 use Rattle.early.proofs.looks.zero_near.Goals as goal
 
-pub returns-then-zero_in_row : goal.returns-then-zero_in_row
-returns-then-zero_in_row c =
-    let q = c.around-sides.result in
+pub loop-near-init : goal.loop-near-init
+loop-near-init c = let a = c.args in
+    let e = c.into_iter-near-iterator.ensures.into_iter_gives ∙ c.around-near-items.ensures in
+    (begun a.rows a.columns a.index c.into_iter-near-iterator.result e (omega arith), refl)
+
+pub content-requires : goal.content-requires
+content-requires c = let a = c.args in
+    let l = c.loop-near in
+    omega (arith, on_grid a.rows a.columns a.index l.yielded l.near-iterator l.invariant.0 c.in-Some.near c.next.new.self c.in-Some.ensures.steps)
+
+pub returns-then-content-eq1 : goal.returns-then-content-eq1
+returns-then-content-eq1 c =
     let a = c.args in
-    one_there (zero_in a.work.now a.rows q.from q.to) q.first c.loop-row.row q.last c.loop-row.auto.row (omega arith) (sym c.zero_in_row.ensures ∙ c.if-zero_in_row.true)
-    ∙ some_square (zero_at a.work.now) a.rows a.columns a.index q.first q.last q.from q.to c.around-sides.ensures
+    let l = c.loop-near in
+    let f = zero_at a.work.now in
+    let rest = c.next.new.self in
+    sym (ap (some_of f) (sym l.invariant.0.parts) ∙ some_append f l.yielded l.near-iterator ∙ ap (λ (xs : List ℕ). some_of f l.yielded || some_of f xs) c.in-Some.ensures.steps
+    ∙ ap₂ (λ (p q : Bool). p || (q || some_of f rest)) l.invariant.1 (eq-eqb _ _ (sym c.content.ensures.0 ∙ c.if-content-eq1.true)))
+
+pub loop-near-preserved : goal.loop-near-preserved
+loop-near-preserved c =
+    let a = c.args in
+    let l = c.loop-near in
+    let f = zero_at a.work.now in
+    let near = c.in-Some.near in (
+      goes_on a.rows a.columns a.index l.yielded l.near-iterator l.invariant.0 near c.next.new.self c.in-Some.ensures.steps,
+      some_append f l.yielded (near ∷ []) ∙ ap₂ (λ (p q : Bool). p || (q || false)) l.invariant.1 (ne_eqb _ _ (λ e. c.if-content-eq1.false (c.content.ensures.0 ∙ e))),
+    )
 
 pub returns : goal.returns
 returns c =
-    let q = c.around-sides.result in
     let a = c.args in
-    let e : c.loop-row.row ≡ q.last = omega arith in
-    sym c.loop-row.invariant ∙ ap (λ (k : ℕ). some_of (zero_in a.work.now a.rows q.from q.to) (range q.first k)) e
-    ∙ some_square (zero_at a.work.now) a.rows a.columns a.index q.first q.last q.from q.to c.around-sides.ensures
+    let l = c.loop-near in
+    sym (ap (some_of (zero_at a.work.now)) (sym (done a.rows a.columns a.index l.yielded l.near-iterator l.invariant.0 c.in-None.ensures.steps.0)) ∙ l.invariant.1)

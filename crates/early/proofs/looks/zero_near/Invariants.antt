@@ -1,18 +1,10 @@
--- `early::looks::zero_near`: no row passed has a 0-cell of the square. Assumes nothing.
-use Prim.Native.Nat.{ℕ}
+-- `early::looks::zero_near`: no cell passed is a 0-cell. Assumes nothing.
 use mathlib.Core.Path.{◌≡◌}
-use mathlib.Core.Bool.{Bool, false}
-use mathlib.Core.List.{List}
-use lib.IntN.{ℤ}
-use Rattle.area.specs.Squares.{row_cells}
-use Rattle.game.specs.Lists.{range, some_of}
+use mathlib.Core.Bool.{false}
+use Rattle.game.specs.Lists.{some_of}
+use Rattle.squares.proofs.Going.{Going}
 use Rattle.early.specs.Looks.{zero_at}
 use Rattle.early.proofs.looks.zero_near.Given as goal
 
--- a 0-cell stands in this row, in the columns from a on that are below b
-abbrev pub zero_in : List ℤ → ℕ → ℕ → ℕ → ℕ → Bool
-zero_in w rows a b row = some_of (zero_at w) (row_cells rows row a b)
-
-abbrev pub invariant-loop-row : goal.invariant-loop-row
-invariant-loop-row l =
-    some_of (zero_in l.work l.rows l.sides.from l.sides.to) (range l.sides.first l.row) ≡ false
+abbrev pub invariant-loop-near : goal.invariant-loop-near
+invariant-loop-near l = Going l.rows l.columns l.index l.yielded l.near-iterator × (some_of (zero_at l.work) l.yielded ≡ false)
