@@ -8,7 +8,7 @@ pub mod squares; // a cell by its row and column, and its square
 pub mod shifts; // the premiums of a square, up or down
 pub mod counts; // numbers alone
 
-pub use counts::{fewer, one_if_any, take_away};
+pub use counts::fewer;
 pub use five::{
     content, first_label, premium, put_content, put_first_label, put_lowered, put_premium,
     put_second_label, put_state, put_waiting, second_label, state, waiting,
@@ -16,4 +16,4 @@ pub use five::{
 pub use mines::mine_in;
 pub use numbers::{get, put};
 pub use shifts::{shift, shift_square};
-pub use squares::{Sides, around, cell, lower, near, upper};
+pub use squares::{Sides, around, cell, near, upper};

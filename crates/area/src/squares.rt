@@ -12,13 +12,6 @@ pub fn cell(rows: usize, columns: usize, row: usize, column: usize) -> usize
     column * rows + row
 }
 
-// The first of the rows or columns beside x.
-pub fn lower(x: usize) -> usize
-    ensures { result ≡ x - 1 }
-{
-    if x == 0 { 0 } else { x - 1 }
-}
-
 // The one past the last of the rows or columns beside x, of n.
 pub fn upper(x: usize, n: usize) -> usize
     requires { x < n }
