@@ -1,79 +1,44 @@
 // Cases of MBF files: a file read into a lent grid, and a grid written into a lent run of bytes.
 ghost use Rattle.std.specs.Prelude.{◌≤◌};
 
-use mbf::{Board, FileWritten};
+use mbf::Board;
+use refusals::Refusal;
 use trials::plain::Plain;
-use trials::{fields, plain};
+use trials::{Sums, fields, plain};
 
 // Whether a case is one of a file.
 pub fn is_case(text: &[u8]) -> bool {
-    if fields::is(text, 2, b"read-mbf ") {
-        return true;
-    }
-    if fields::is(text, 2, b"strict write-mbf ") {
-        return true;
-    }
-    fields::is(text, 2, b"write-mbf ")
+    fields::is(text, 2, b"read-mbf ")
+        || fields::is(text, 2, b"strict write-mbf ")
+        || fields::is(text, 2, b"write-mbf ")
 }
 
 // What reading a file answered.
-fn of_read(answer: Board) -> Plain {
+fn of_read(answer: Result<Board, Refusal>) -> Plain {
     match answer {
-        Board::Cells(rows, columns) => plain::numbers(0, rows as u64, columns as u64),
-        Board::Refused(refusal) => plain::of_refusal(refusal),
+        Ok(board) => plain::numbers(0, board.rows as u64, board.columns as u64),
+        Err(refusal) => plain::of_refusal(refusal),
     }
-}
-
-// What writing a file answered.
-fn of_written(answer: FileWritten) -> Plain {
-    match answer {
-        FileWritten::Bytes(count) => plain::numbers(0, count as u64, 0),
-        FileWritten::Refused(refusal) => plain::of_refusal(refusal),
-    }
-}
-
-// Prints bytes whole.
-fn print_whole(rt: HostRuntime, run: &[u8]) {
-    let mut k = 0;
-    while k < run.len() {
-        trials::print_number(rt, run[k] as u64);
-        k += 1;
-    }
-}
-
-// Prints what bytes come to, and what the sums up to each come to, which tells their order.
-fn print_sums(rt: HostRuntime, run: &[u8]) {
-    let mut sum: u64 = 0;
-    let mut sums: u64 = 0;
-    let mut k = 0;
-    while k < run.len() {
-        sum = std::num::wrapping_add_u64(sum, run[k] as u64);
-        sums = std::num::wrapping_add_u64(sums, sum);
-        k += 1;
-    }
-    trials::print_number(rt, sum);
-    trials::print_number(rt, sums);
 }
 
 // Prints a run of bytes: whole, or the sums of more than 255.
 fn print_bytes(rt: HostRuntime, run: &[u8]) {
     if 255 < run.len() {
-        print_sums(rt, run);
+        let sums = run
+            .iter()
+            .fold(Sums::default(), |sums, byte| sums.with(*byte as u64));
+        trials::print_sums(rt, sums);
     } else {
-        print_whole(rt, run);
+        for byte in run {
+            trials::print_number(rt, *byte as u64);
+        }
     }
     trials::print(rt, b"\n");
 }
 
 // The cell that is listed as number k where the first so many cells are listed in index order, and then the last of them again.
 fn listed_cell(k: usize, mines: usize) -> usize {
-    if k < mines {
-        return k;
-    }
-    if mines == 0 {
-        return 0;
-    }
-    mines - 1
+    k.min(mines.saturating_sub(1))
 }
 
 // A byte of what lists so many mines so: column and row of each, in a grid of so many rows.
@@ -103,8 +68,7 @@ fn listed_byte(place: usize, rows: usize, columns: usize, mines: usize, listed: 
 fn listed(text: &[u8]) -> usize
     ensures { result ≤ 65535 }
 {
-    area::fewer(fields::number(text, b"mines="), 65025)
-        + area::fewer(fields::number(text, b"again="), 510)
+    fields::number(text, b"mines=").min(65025) + fields::number(text, b"again=").min(510)
 }
 
 // A run filled with the file of a case that lists its mines so.
@@ -113,10 +77,8 @@ fn lay_listed(text: &[u8], run: &mut [u8]) {
     let columns = fields::number(text, b"columns=");
     let mines = fields::number(text, b"mines=");
     let count = listed(text);
-    let mut k = 0;
-    while k < run.len() {
-        run[k] = listed_byte(k, rows, columns, mines, count);
-        k += 1;
+    for (place, byte) in run.iter_mut().enumerate() {
+        *byte = listed_byte(place, rows, columns, mines, count);
     }
 }
 
@@ -135,7 +97,7 @@ fn file_length(text: &[u8], most: usize) -> usize
 {
     let count = listed(text);
     if 0 < count {
-        return area::fewer(4 + 2 * count, most);
+        return (4 + 2 * count).min(most);
     }
     fields::bytes(text, b"file=", most)
 }
@@ -163,7 +125,7 @@ fn read_case(rt: HostRuntime, text: &[u8]) {
 }
 
 // Writes a case's grid, strictly where the case says so.
-fn write(text: &[u8], grid: &[i32], file: &mut [u8]) -> FileWritten {
+fn write(text: &[u8], grid: &[i32], file: &mut [u8]) -> Result<usize, Refusal> {
     let rows = fields::number(text, b"rows=");
     let columns = fields::number(text, b"columns=");
     if fields::is(text, 2, b"strict ") {
@@ -176,7 +138,7 @@ fn write(text: &[u8], grid: &[i32], file: &mut [u8]) -> FileWritten {
 fn write_on(rt: HostRuntime, text: &[u8], grid: &mut [i32], file: &mut [u8]) {
     fields::lay_values(text, b"board=", grid);
     fields::lay_bytes(text, b"file=", file);
-    trials::print_answer(rt, of_written(write(text, grid, file)));
+    trials::print_answer(rt, plain::of_number(write(text, grid, file)));
     print_bytes(rt, file);
 }
 

@@ -1,38 +1,35 @@
 // Cases of a key alone: the words that it gives, and a single draw from it.
 use crate::drawn;
 use keys::Key;
-use supplies::{Dealt, Supply};
+use supplies::Dealt;
 use trials::plain::Plain;
 use trials::{fields, plain};
 
 // Whether a case is one of a key alone.
 pub fn is_case(text: &[u8]) -> bool {
-    if fields::is(text, 2, b"key-words ") {
-        return true;
-    }
-    fields::is(text, 2, b"key-draw ")
+    fields::is(text, 2, b"key-words ") || fields::is(text, 2, b"key-draw ")
 }
 
 // Prints so many words of a key.
 fn print_words(rt: HostRuntime, key: Key, count: usize) {
     let mut at = key;
-    let mut left = count;
-    while 0 < left {
+    for _ in 0..count {
         at = keys::next_key(at);
         trials::print_number(rt, keys::given_by(at) as u64);
-        left -= 1;
     }
     trials::print(rt, b"\n");
 }
 
 // A draw's place and the bytes of the key used, or DRAWS.
-fn of_dealt(dealt: Dealt, given: Key) -> Plain {
+fn of_dealt(dealt: Option<Dealt>, given: Key) -> Plain {
     match dealt {
-        Dealt::Place(place, supply) => {
-            let after = supply.key;
-            plain::key_numbers(0, place as u64, supply.used as u64, after)
-        }
-        Dealt::Dry => plain::key_numbers(6, 0, 0, given),
+        Some(Dealt { place, supply }) => plain::key_numbers(
+            0,
+            place as u64,
+            supply.used as u64,
+            supply.key.unwrap_or(given),
+        ),
+        None => plain::key_numbers(6, 0, 0, given),
     }
 }
 

@@ -46,17 +46,17 @@ fn strict_call(
     let rows = fields::number(text, b"rows=");
     let columns = fields::number(text, b"columns=");
     if fields::is(text, 9, b"3bv ") {
-        return plain::of_counted(strict::three_bv(rows, columns, grid, work));
+        return plain::of_number(strict::three_bv(rows, columns, grid, work));
     }
     if fields::is(text, 9, b"at-least ") {
         let units = fields::number(text, b"units=");
         return plain::of_judged(strict::at_least(rows, columns, grid, work, units));
     }
     if fields::is(text, 9, b"greedy ") {
-        return plain::of_priced(strict::greedy(rows, columns, grid, work, list));
+        return plain::of_number(strict::greedy(rows, columns, grid, work, list));
     }
     if fields::is(text, 9, b"openings-first ") {
-        return plain::of_priced(strict::openings_first(rows, columns, grid, work, list));
+        return plain::of_number(strict::openings_first(rows, columns, grid, work, list));
     }
     if fields::is(text, 9, b"random-round ") {
         return drawn::strict_random_round(text, rows, columns, grid, work, list, draws);
@@ -93,17 +93,17 @@ fn call(
     let rows = fields::number(text, b"rows=");
     let columns = fields::number(text, b"columns=");
     if fields::is(text, 2, b"3bv ") {
-        return plain::of_counted(count::three_bv(rows, columns, grid, work));
+        return plain::of_number(count::three_bv(rows, columns, grid, work));
     }
     if fields::is(text, 2, b"at-least ") {
         let units = fields::number(text, b"units=");
         return plain::of_judged(count::at_least(rows, columns, grid, work, units));
     }
     if fields::is(text, 2, b"greedy ") {
-        return plain::of_priced(prices::greedy(rows, columns, grid, work, list));
+        return plain::of_number(prices::greedy(rows, columns, grid, work, list));
     }
     if fields::is(text, 2, b"openings-first ") {
-        return plain::of_priced(prices::openings_first(rows, columns, grid, work, list));
+        return plain::of_number(prices::openings_first(rows, columns, grid, work, list));
     }
     if fields::is(text, 2, b"random-round ") {
         return drawn::random_round(text, rows, columns, grid, work, list, draws);
@@ -203,10 +203,7 @@ fn run_case(rt: HostRuntime, text: &[u8]) {
 
 // Whether a line is a comment or empty.
 fn is_comment(line: &[u8]) -> bool {
-    if line.len() == 0 {
-        return true;
-    }
-    line[0] == 35
+    matches!(line.first(), None | Some(b'#'))
 }
 
 // Prints the version of the library.
@@ -222,7 +219,7 @@ fn run_line(rt: HostRuntime, line: &[u8]) {
         trials::print(rt, b"\n");
         return;
     }
-    let colon = fields::until(line, 0, 58);
+    let colon = fields::until(line, 0, b':');
     trials::print(rt, &line[0..colon]);
     if files::is_case(&line[colon..]) {
         files::run_case(rt, &line[colon..]);
@@ -244,11 +241,12 @@ fn run_lines(rt: HostRuntime, text: &[u8]) -> usize
     ensures { result ≤ length text.now }
 {
     let mut from = 0;
-    let mut end = fields::until(text, 0, 10);
+    let mut end = fields::until(text, 0, b'\n');
+    // A while: how far the lines go that end is answered.
     while end < text.len() {
         run_line(rt, &text[from..end]);
         from = end + 1;
-        end = fields::until(text, from, 10);
+        end = fields::until(text, from, b'\n');
     }
     from
 }
@@ -257,11 +255,7 @@ fn run_lines(rt: HostRuntime, text: &[u8]) -> usize
 fn keep(held: &mut [u8], from: usize, count: usize)
     requires { (from ≤ count) × (count ≤ length held.old) }
 {
-    let mut k = 0;
-    while k < count - from {
-        held[k] = held[from + k];
-        k += 1;
-    }
+    held.copy_within(from..count, 0);
 }
 
 // Reads on behind the first so many bytes, and answers how many there are then.
@@ -295,18 +289,16 @@ fn run_last(rt: HostRuntime, held: &[u8], kept: usize)
     }
 }
 
-// Reads to the end of input, in blocks. A proved loop has to end, so it counts its turns down, from a number that no run uses up.
+// Reads to the end of input, in blocks. A proved loop has to end, so its turns are of a range that no run uses up.
 fn run_all(rt: HostRuntime, held: &mut [u8]) {
     let mut kept = 0;
-    let mut turns = u64::MAX;
-    while turns > 0 {
+    for _ in 0..u64::MAX {
         let count = read_on(rt, held, kept);
         if count == kept {
             run_last(rt, held, kept);
             return;
         }
         kept = run_some(rt, held, count);
-        turns -= 1;
     }
 }
 

@@ -1,7 +1,6 @@
 // Board lines answered in blocks of one size or another: the answers, or their count and a sum of them.
-ghost use Rattle.std.specs.Prelude.{◌<◌, ◌≤◌};
-
-use line_prices::Answered;
+use line_prices::Place;
+use refusals::Refusal;
 
 // What is kept of the line that goes on, how many bytes were to be printed, and a sum of them.
 #[derive(Drop)]
@@ -13,23 +12,12 @@ struct State {
 
 // 31 times a sum, and a byte.
 fn mix(total: u64, byte: u8) -> u64 {
-    let two = std::num::wrapping_add_u64(total, total);
-    let four = std::num::wrapping_add_u64(two, two);
-    let eight = std::num::wrapping_add_u64(four, four);
-    let sixteen = std::num::wrapping_add_u64(eight, eight);
-    let double = std::num::wrapping_add_u64(sixteen, sixteen);
-    std::num::wrapping_add_u64(std::num::wrapping_sub_u64(double, total), byte as u64)
+    total.wrapping_mul(31).wrapping_add(byte as u64)
 }
 
 // A run's bytes added to a sum.
 fn add_bytes(start: u64, out: &[u8]) -> u64 {
-    let mut total = start;
-    let mut i = 0;
-    while i < out.len() {
-        total = mix(total, out[i]);
-        i += 1;
-    }
-    total
+    out.iter().fold(start, |total, byte| mix(total, *byte))
 }
 
 // The bytes to be printed are added, and printed where they are to be shown.
@@ -50,19 +38,25 @@ fn tell(
     }
     State {
         count: kept,
-        bytes: std::num::wrapping_add_u64(state.bytes, written as u64),
+        bytes: state.bytes.wrapping_add(written as u64),
         total,
     }
 }
 
 // What an answer came to.
-fn told(rt: HostRuntime, answered: Answered, out: &[u8], state: State, shown: bool) -> State {
+fn told(
+    rt: HostRuntime,
+    answered: Result<Place, Refusal>,
+    out: &[u8],
+    state: State,
+    shown: bool,
+) -> State {
     match answered {
-        Answered::Refused(_) => {
+        Ok(Place { count, written }) => tell(rt, out, count, written, state, shown),
+        Err(_) => {
             trials::print(rt, b"REFUSED\n");
             state
         }
-        Answered::Kept(kept, written) => tell(rt, out, kept, written, state, shown),
     }
 }
 
@@ -80,20 +74,6 @@ fn answer_part(
     told(rt, answered, out, state, shown)
 }
 
-// Where the next block ends.
-fn next_end(at: usize, size: usize, len: usize) -> usize
-    requires { at < len }
-    ensures { (at < result) × (result ≤ len) }
-{
-    if size == 0 {
-        return len;
-    }
-    if len - at < size {
-        return len;
-    }
-    at + size
-}
-
 // An input answered in blocks of a size.
 fn read_parts(
     rt: HostRuntime,
@@ -108,11 +88,8 @@ fn read_parts(
         bytes: 0,
         total: 0,
     };
-    let mut at = 0;
-    while at < input.len() {
-        let end = next_end(at, size, input.len());
-        state = answer_part(rt, &input[at..end], held, out, state, shown);
-        at = end;
+    for block in input.chunks(size.max(1)) {
+        state = answer_part(rt, block, held, out, state, shown);
     }
     state
 }
@@ -144,10 +121,7 @@ fn report(rt: HostRuntime, input: &[u8], size: usize) {
 // The answers, then what they come to in blocks of each size.
 pub fn run_all(rt: HostRuntime, input: &[u8]) {
     run(rt, input, 4096, true);
-    report(rt, input, 1);
-    report(rt, input, 2);
-    report(rt, input, 7);
-    report(rt, input, 15);
-    report(rt, input, 517);
-    report(rt, input, 4096);
+    for size in [1, 2, 7, 15, 517, 4096] {
+        report(rt, input, size);
+    }
 }

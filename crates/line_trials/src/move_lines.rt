@@ -1,40 +1,30 @@
 // Stored move lines read and written, whole, cut and spoilt.
-use line_prices::price;
-use stored::{MovesRead, MovesWritten};
+use refusals::Refusal;
+use stored::Moves;
 
-// An answer: its number and its values.
-#[derive(Drop)]
-struct Read {
-    number: usize,
-    rows: usize,
-    columns: usize,
-    count: usize,
-}
+// What stands for a line that was refused.
+const NONE: Moves = Moves {
+    rows: 0,
+    columns: 0,
+    count: 0,
+};
 
-fn read_of(answer: MovesRead) -> Read {
+// The number of an answer, 0 for success.
+fn number_of<T: Copy>(answer: Result<T, Refusal>) -> usize {
     match answer {
-        MovesRead::Moves(rows, columns, count) => Read {
-            number: 0,
-            rows,
-            columns,
-            count,
-        },
-        MovesRead::Refused(refusal) => Read {
-            number: refusals::number_of(refusal) as usize,
-            rows: 0,
-            columns: 0,
-            count: 0,
-        },
+        Ok(_) => 0,
+        Err(refusal) => refusals::number_of(refusal) as usize,
     }
 }
 
 // A line read into a list: the answer, then the list.
 fn read_into(rt: HostRuntime, line: &[u8], list: &mut [u32]) {
-    let read = read_of(stored::read_moves(line, list));
-    trials::print_number(rt, read.number as u64);
-    trials::print_number(rt, read.rows as u64);
-    trials::print_number(rt, read.columns as u64);
-    trials::print_number(rt, read.count as u64);
+    let read = stored::read_moves(line, list);
+    trials::print_number(rt, number_of(read) as u64);
+    let moves = read.unwrap_or(NONE);
+    trials::print_number(rt, moves.rows as u64);
+    trials::print_number(rt, moves.columns as u64);
+    trials::print_number(rt, moves.count as u64);
     trials::print_list(rt, list);
 }
 
@@ -49,10 +39,8 @@ fn read_line(rt: HostRuntime, line: &[u8], room: usize) {
 
 // A line cut at every place.
 fn read_cuts(rt: HostRuntime, line: &[u8]) {
-    let mut n = 0;
-    while n < line.len() {
+    for n in 0..line.len() {
         read_line(rt, &line[..n], 4);
-        n += 1;
     }
 }
 
@@ -86,15 +74,7 @@ fn print_written(rt: HostRuntime, number: usize, digits: usize, line: &[u8]) {
 fn write_into(rt: HostRuntime, rows: usize, columns: usize, count: usize, line: &mut [u8]) {
     let list = [65537u32, 131072, 196609, 4294967295];
     let written = stored::write_moves(rows, columns, &list, count, line);
-    match written {
-        MovesWritten::Digits(digits) => print_written(rt, 0, digits, line),
-        MovesWritten::Refused(refusal) => print_written(
-            rt,
-            refusals::number_of(refusal) as usize,
-            0,
-            line,
-        ),
-    }
+    print_written(rt, number_of(written), written.unwrap_or(0), line);
 }
 
 // Moves written into a run of so many bytes, a hundred at most, which held points.
@@ -125,15 +105,14 @@ pub fn write_all(rt: HostRuntime) {
 // The number that a line is answered with.
 fn read_number(line: &[u8; 12]) -> usize {
     let mut list = [9u32; 4];
-    let read = read_of(stored::read_moves(line, &mut list));
-    read.number
+    number_of(stored::read_moves(line, &mut list))
 }
 
 // The number of a line with another byte at a place.
 fn varied(place: usize, value: u8) -> usize {
     let mut line = [48u8, 50, 48, 50, 48, 48, 48, 49, 48, 48, 48, 49];
-    if place < 12 {
-        line[place] = value;
+    if let Some(byte) = line.get_mut(place) {
+        *byte = value;
     }
     read_number(&line)
 }
@@ -143,7 +122,7 @@ fn count_of(place: usize, number: usize) -> u64 {
     let mut count: u64 = 0;
     for value in 0..=255u8 {
         if varied(place, value) == number {
-            count = std::num::wrapping_add_u64(count, 1);
+            count = count.wrapping_add(1);
         }
     }
     count

@@ -5,6 +5,7 @@ use Prim.Native.Nat.{ℕ, ◌-◌, ◌<◌, ◌≤◌, ◌^◌, zero-le}
 use native.Mathlib.Omega.{arith}
 use mathlib.Core.List.{List, [], ◌∷◌, ◌++◌}
 use mathlib.Core.Option.{Option, none, some}
+use Rattle.std.specs.Prelude.{Result, Ok, Err}
 use lib.IntN.{ℤ}
 use lib.ListN.{get_or-eq_default, drop, drop_of_length-le, get_or, length, length-drop, take}
 use lib.Seq.{take_all}
@@ -16,8 +17,8 @@ use Rattle.game.proofs.Randoms.{random-within}
 use Rattle.game.proofs.Searches.{search_within}
 use Rattle.refusals.proofs.ReadBack.{names_one}
 use Rattle.answers.specs.Answers.{rolled_answer}
-use Rattle.answers.specs.declared.Rolled.{Rolled}
-use Rattle.answers.specs.declared.Rolled.TheVariants as Rolls
+use Rattle.answers.specs.declared.Roll.{Roll}
+use Rattle.refusals.specs.declared.Refusal as Refused
 use Rattle.reader_calls.specs.Stands.{Starts, stands_at}
 
 -- the bytes from a place on
@@ -55,11 +56,11 @@ search_told mode g w bytes n = go (first_given (grid_checks g w ++ rounds_check 
     go none (some r) e = search_within g mode bytes n r e
 
 -- a place that was moved on by no more than the bytes left fits
-moved_fits : (r : Rolled) (place n : ℕ) → place < 2 ^ 64 → n < 2 ^ 64 → told (rolled_answer r) ≤ n - place → stands_at r place < 2 ^ 64
-moved_fits (Rolls.Clicks clicks used) place n k h l = omega arith
-moved_fits (Rolls.Refused f) place n k h l = k
+moved_fits : (r : Result Roll Refused.Refusal) (place n : ℕ) → place < 2 ^ 64 → n < 2 ^ 64 → told (rolled_answer r) ≤ n - place → stands_at r place < 2 ^ 64
+moved_fits (Ok roll) place n k h l = omega arith
+moved_fits (Err f) place n k h l = k
 
-module _ (r : Rolled) (place : ℕ) (bytes : List ℕ) (k : place < 2 ^ 64) (h : length bytes < 2 ^ 64) where
+module _ (r : Result Roll Refused.Refusal) (place : ℕ) (bytes : List ℕ) (k : place < 2 ^ 64) (h : length bytes < 2 ^ 64) where
   fits : (a : Answer) → rolled_answer r ≡ a → told a ≤ length (drop place bytes) → stands_at r place < 2 ^ 64
   fits a e l = moved_fits r place (length bytes) k h (subst (λ (j : ℕ). told (rolled_answer r) ≤ j) (length-drop place bytes) (subst (λ (b : Answer). told b ≤ length (drop place bytes)) (sym e) l))
 

@@ -9,13 +9,13 @@ ghost use Rattle.draws.specs.Answers.{mode_of};
 ghost use Rattle.keys.specs.Stands.{key_of};
 ghost use Rattle.refusals.specs.Names.{named, refusal_of};
 ghost use Rattle.number_check.specs.Forms.{in_form};
-ghost use Rattle.answers.specs.Answers.{Keeps, KeepsList, key_rolled_answer, priced_answer, replayed_answer, rolled_answer};
+ghost use Rattle.answers.specs.Answers.{Keeps, KeepsList, counted_answer, key_rolled_answer, replayed_answer, rolled_answer};
 ghost use Rattle.record_checks.specs.Promises.{copied_if, replay_checks, within, written_by};
 
+use answers::{KeyRoll, Played, Roll, Unplayed};
 use draws::Mode;
 use keys::Key;
-use refusals::{Checked, Refusal};
-use zini::{KeyRolled, Priced, Replayed, Rolled};
+use refusals::Refusal;
 
 // Greedy or openings-first for a run of so many records (no user calls it).
 pub fn price_within(
@@ -26,14 +26,11 @@ pub fn price_within(
     list: &mut [u32],
     room: usize,
     openings_first: bool,
-) -> Priced
-    ensures { KeepsList (within (grid_of rows columns grid.now) work.old list.old room (price_call openings_first (grid_of rows columns grid.now) work.old list.old)) (priced_answer result) work.new list.new }
+) -> Result<usize, Refusal>
+    ensures { KeepsList (within (grid_of rows columns grid.now) work.old list.old room (price_call openings_first (grid_of rows columns grid.now) work.old list.old)) (counted_answer result) work.new list.new }
 {
-    let checked = checks::check_room(rows, columns, grid, work, room);
-    match checked {
-        Checked::Refused(refusal) => Priced::Refused(refusal),
-        Checked::Fine => zini::prices::price(rows, columns, grid, work, list, openings_first),
-    }
+    checks::check_room(rows, columns, grid, work, room)?;
+    zini::prices::price(rows, columns, grid, work, list, openings_first)
 }
 
 // A single random round for a run of so many records (no user calls it).
@@ -46,16 +43,11 @@ pub fn random_within(
     draws: &[u8],
     mode: Mode,
     room: usize,
-) -> Rolled
+) -> Result<Roll, Refusal>
     ensures { KeepsList (within (grid_of rows columns grid.now) work.old list.old room (random_round_call (mode_of mode) (grid_of rows columns grid.now) work.old list.old draws.now)) (rolled_answer result) work.new list.new }
 {
-    let checked = checks::check_room(rows, columns, grid, work, room);
-    match checked {
-        Checked::Refused(refusal) => Rolled::Refused(refusal),
-        Checked::Fine => zini::random_calls::random_round(
-            rows, columns, grid, work, list, draws, mode,
-        ),
-    }
+    checks::check_room(rows, columns, grid, work, room)?;
+    zini::random_calls::random_round(rows, columns, grid, work, list, draws, mode)
 }
 
 // A keyed round for a run of so many records (no user calls it).
@@ -68,16 +60,11 @@ pub fn keyed_within(
     key: Key,
     mode: Mode,
     room: usize,
-) -> KeyRolled
+) -> Result<KeyRoll, Refusal>
     ensures { KeepsList (within (grid_of rows columns grid.now) work.old list.old room (keyed_round_call (mode_of mode) (grid_of rows columns grid.now) work.old list.old (key_of key))) (key_rolled_answer result) work.new list.new }
 {
-    let checked = checks::check_room(rows, columns, grid, work, room);
-    match checked {
-        Checked::Refused(refusal) => KeyRolled::Refused(refusal),
-        Checked::Fine => zini::random_calls::keyed_round(
-            rows, columns, grid, work, list, key, mode,
-        ),
-    }
+    checks::check_room(rows, columns, grid, work, room)?;
+    zini::random_calls::keyed_round(rows, columns, grid, work, list, key, mode)
 }
 
 // Greedy or openings-first for a run of so many records, in the strict form or as it is (no user calls it).
@@ -90,14 +77,11 @@ pub fn price_in_form(
     room: usize,
     openings_first: bool,
     strict: bool,
-) -> Priced
-    ensures { KeepsList (in_form «strict» (kept_listed work.old list.old) (grid_of rows columns grid.now) (within (grid_of rows columns grid.now) work.old list.old room (price_call openings_first (grid_of rows columns grid.now) work.old list.old))) (priced_answer result) work.new list.new }
+) -> Result<usize, Refusal>
+    ensures { KeepsList (in_form «strict» (kept_listed work.old list.old) (grid_of rows columns grid.now) (within (grid_of rows columns grid.now) work.old list.old room (price_call openings_first (grid_of rows columns grid.now) work.old list.old))) (counted_answer result) work.new list.new }
 {
-    let checked = number_check::check_form(rows, columns, grid, strict);
-    match checked {
-        Checked::Refused(refusal) => Priced::Refused(refusal),
-        Checked::Fine => price_within(rows, columns, grid, work, list, room, openings_first),
-    }
+    number_check::check_form(rows, columns, grid, strict)?;
+    price_within(rows, columns, grid, work, list, room, openings_first)
 }
 
 // A single random round for a run of so many records, in the strict form or as it is (no user calls it).
@@ -111,14 +95,11 @@ pub fn random_in_form(
     mode: Mode,
     room: usize,
     strict: bool,
-) -> Rolled
+) -> Result<Roll, Refusal>
     ensures { KeepsList (in_form «strict» (kept_listed work.old list.old) (grid_of rows columns grid.now) (within (grid_of rows columns grid.now) work.old list.old room (random_round_call (mode_of mode) (grid_of rows columns grid.now) work.old list.old draws.now))) (rolled_answer result) work.new list.new }
 {
-    let checked = number_check::check_form(rows, columns, grid, strict);
-    match checked {
-        Checked::Refused(refusal) => Rolled::Refused(refusal),
-        Checked::Fine => random_within(rows, columns, grid, work, list, draws, mode, room),
-    }
+    number_check::check_form(rows, columns, grid, strict)?;
+    random_within(rows, columns, grid, work, list, draws, mode, room)
 }
 
 // A keyed round for a run of so many records, in the strict form or as it is (no user calls it).
@@ -132,54 +113,50 @@ pub fn keyed_in_form(
     mode: Mode,
     room: usize,
     strict: bool,
-) -> KeyRolled
+) -> Result<KeyRoll, Refusal>
     ensures { KeepsList (in_form «strict» (kept_listed work.old list.old) (grid_of rows columns grid.now) (within (grid_of rows columns grid.now) work.old list.old room (keyed_round_call (mode_of mode) (grid_of rows columns grid.now) work.old list.old (key_of key)))) (key_rolled_answer result) work.new list.new }
 {
-    let checked = number_check::check_form(rows, columns, grid, strict);
-    match checked {
-        Checked::Refused(refusal) => KeyRolled::Refused(refusal),
-        Checked::Fine => keyed_within(rows, columns, grid, work, list, key, mode, room),
-    }
+    number_check::check_form(rows, columns, grid, strict)?;
+    keyed_within(rows, columns, grid, work, list, key, mode, room)
 }
 
 // How many records a refusal writes: one for each cell after DRAWS.
 fn written_on(refusal: Refusal, cells: usize) -> usize
     ensures { result ≡ written_by cells (refuses (named refusal)) }
 {
-    if refusals::number_of(refusal) == refusals::number_of(Refusal::Draws) {
-        cells
-    } else {
-        0
+    match refusal {
+        Refusal::Draws => cells,
+        _ => 0,
     }
 }
 
 // How many records a round writes (no user calls it).
-pub fn written_by(priced: Priced, cells: usize) -> usize
-    ensures { result ≡ written_by cells (priced_answer priced) }
+pub fn written_by(priced: Result<usize, Refusal>, cells: usize) -> usize
+    ensures { result ≡ written_by cells (counted_answer priced) }
 {
     match priced {
-        Priced::Clicks(clicks) => clicks,
-        Priced::Refused(refusal) => written_on(refusal, cells),
+        Ok(clicks) => clicks,
+        Err(refusal) => written_on(refusal, cells),
     }
 }
 
 // How many records a random round writes (no user calls it).
-pub fn written_by_roll(rolled: Rolled, cells: usize) -> usize
+pub fn written_by_roll(rolled: Result<Roll, Refusal>, cells: usize) -> usize
     ensures { result ≡ written_by cells (rolled_answer rolled) }
 {
     match rolled {
-        Rolled::Clicks(clicks, _) => clicks,
-        Rolled::Refused(refusal) => written_on(refusal, cells),
+        Ok(roll) => roll.clicks,
+        Err(refusal) => written_on(refusal, cells),
     }
 }
 
 // How many records a keyed round writes (no user calls it).
-pub fn written_by_key(rolled: KeyRolled, cells: usize) -> usize
+pub fn written_by_key(rolled: Result<KeyRoll, Refusal>, cells: usize) -> usize
     ensures { result ≡ written_by cells (key_rolled_answer rolled) }
 {
     match rolled {
-        KeyRolled::Clicks(clicks, _, _) => clicks,
-        KeyRolled::Refused(refusal) => written_on(refusal, cells),
+        Ok(key_roll) => key_roll.clicks,
+        Err(refusal) => written_on(refusal, cells),
     }
 }
 
@@ -192,22 +169,17 @@ fn check_counts(
     room: usize,
     words: usize,
     count: usize,
-) -> Checked
+) -> Result<(), Refusal>
     ensures { (vs ws : List ℤ) → length vs ≡ board → length ws ≡ area → refusal_of result ≡ first_given (replay_checks (grid_of rows columns vs) ws room words count) }
 {
-    let checked = checks::check_lengths(rows, columns, board, area);
-    match checked {
-        Checked::Refused(refusal) => Checked::Refused(refusal),
-        Checked::Fine => {
-            if room < count {
-                return Checked::Refused(Refusal::Trace);
-            }
-            if words < count {
-                return Checked::Refused(Refusal::Trace);
-            }
-            Checked::Fine
-        }
+    checks::check_lengths(rows, columns, board, area)?;
+    if room < count {
+        return Err(Refusal::Trace);
     }
+    if words < count {
+        return Err(Refusal::Trace);
+    }
+    Ok(())
 }
 
 // Whether a replay of count records is refused, by the grid and the lengths of the work area, the run and the list, in the strict form or as it is (no user calls it).
@@ -220,40 +192,36 @@ pub fn check_replay(
     words: usize,
     count: usize,
     strict: bool,
-) -> Checked
+) -> Result<(), Refusal>
     ensures { (ws : List ℤ) → length ws ≡ area → refusal_of result ≡ in_form «strict» some (grid_of rows columns grid.now) (first_given (replay_checks (grid_of rows columns grid.now) ws room words count)) }
 {
     let form = number_check::check_form(rows, columns, grid, strict);
-    match form {
-        Checked::Refused(refusal) => Checked::Refused(refusal),
-        Checked::Fine => check_counts(rows, columns, grid.len(), area, room, words, count),
-    }
+    form?;
+    check_counts(rows, columns, grid.len(), area, room, words, count)
 }
 
 // How many records are copied for a replay: the count, if nothing is refused (no user calls it).
-pub fn copied(checked: Checked, count: usize) -> usize
+pub fn copied(checked: Result<(), Refusal>, count: usize) -> usize
     ensures { result ≡ copied_if (refusal_of checked) count }
 {
     match checked {
-        Checked::Refused(_) => 0,
-        Checked::Fine => count,
+        Ok(()) => count,
+        Err(_) => 0,
     }
 }
 
 // Replay where nothing is refused (no user calls it).
 pub fn replay_unless(
-    checked: Checked,
+    checked: Result<(), Refusal>,
     rows: usize,
     columns: usize,
     grid: &[i32],
     work: &mut [i32],
     list: &[u32],
     count: usize,
-) -> Replayed
+) -> Result<Played, Unplayed>
     ensures { Keeps (unless (refusal_of checked) work.old (replay_call (grid_of rows columns grid.now) work.old list.now count)) (replayed_answer result) work.new }
 {
-    match checked {
-        Checked::Refused(refusal) => Replayed::Refused(refusal),
-        Checked::Fine => zini::replays::replay(rows, columns, grid, work, list, count),
-    }
+    checked?;
+    zini::replays::replay(rows, columns, grid, work, list, count)
 }

@@ -5,43 +5,30 @@ ghost use Rattle.std.specs.Prelude.{false, true};
 ghost use Rattle.area.specs.Numbers.{grid_of};
 ghost use Rattle.draws.specs.Answers.{mode_of};
 ghost use Rattle.keys.specs.Stands.{key_of};
-ghost use Rattle.answers.specs.Answers.{KeepsList, key_rolled_answer, priced_answer, replayed_answer, rolled_answer};
+ghost use Rattle.answers.specs.Answers.{KeepsList, counted_answer, key_rolled_answer, replayed_answer, rolled_answer};
 ghost use Rattle.record_checks.specs.Promises.{KeepsRecords, keyed_records_call, price_records_call, random_records_call, replay_records_call, strict_keyed_records_call, strict_price_records_call, strict_random_records_call, strict_replay_records_call};
 ghost use Rattle.record_trials.specs.Readings.{Twice};
 
+use answers::{KeyRoll, Played, Roll, Unplayed};
 use draws::Mode;
 use keys::Key;
 use records::MoveRecord;
+use refusals::Refusal;
 use trials::plain;
 use trials::plain::Plain;
-use zini::{KeyRolled, Priced, Replayed, Rolled};
 
-// What greedy or openings-first answers, and the run that was lent.
+// What a call over a run answers, and the run that was lent.
 #[derive(Drop)]
-pub struct PricedRun {
-    pub answer: Priced,
-    pub run: [MoveRecord; 9],
-}
-
-// What a random round answers, and the run that was lent.
-#[derive(Drop)]
-pub struct RolledRun {
-    pub answer: Rolled,
-    pub run: [MoveRecord; 9],
-}
-
-// What a keyed round answers, and the run that was lent.
-#[derive(Drop)]
-pub struct KeyRolledRun {
-    pub answer: KeyRolled,
+pub struct LentRun<A> {
+    pub answer: A,
     pub run: [MoveRecord; 9],
 }
 
 // What two random calls by one reader answer, and where it then stands.
 #[derive(Drop)]
 pub struct ReadTwice {
-    pub round: Rolled,
-    pub search: Rolled,
+    pub round: Result<Roll, Refusal>,
+    pub search: Result<Roll, Refusal>,
     pub place: usize,
 }
 
@@ -53,12 +40,12 @@ fn greedy_run(
     work: &mut [i32],
     list: &mut [u32],
     run: [MoveRecord; 9],
-) -> PricedRun
-    ensures { KeepsRecords (price_records_call false (grid_of rows columns grid.now) work.old list.old run) (priced_answer result.answer) work.new list.new result.run }
+) -> LentRun<Result<usize, Refusal>>
+    ensures { KeepsRecords (price_records_call false (grid_of rows columns grid.now) work.old list.old run) (counted_answer result.answer) work.new list.new result.run }
 {
     let mut lent = run;
     let answer = record_calls::greedy_records(rows, columns, grid, work, list, &mut lent);
-    PricedRun { answer, run: lent }
+    LentRun { answer, run: lent }
 }
 
 // Openings-first over a run of nine records.
@@ -69,12 +56,12 @@ fn openings_first_run(
     work: &mut [i32],
     list: &mut [u32],
     run: [MoveRecord; 9],
-) -> PricedRun
-    ensures { KeepsRecords (price_records_call true (grid_of rows columns grid.now) work.old list.old run) (priced_answer result.answer) work.new list.new result.run }
+) -> LentRun<Result<usize, Refusal>>
+    ensures { KeepsRecords (price_records_call true (grid_of rows columns grid.now) work.old list.old run) (counted_answer result.answer) work.new list.new result.run }
 {
     let mut lent = run;
     let answer = record_calls::openings_first_records(rows, columns, grid, work, list, &mut lent);
-    PricedRun { answer, run: lent }
+    LentRun { answer, run: lent }
 }
 
 // A random round over a run of nine records.
@@ -87,14 +74,14 @@ fn random_run(
     run: [MoveRecord; 9],
     draws: &[u8],
     mode: Mode,
-) -> RolledRun
+) -> LentRun<Result<Roll, Refusal>>
     ensures { KeepsRecords (random_records_call (mode_of mode) (grid_of rows columns grid.now) work.old list.old run draws.now) (rolled_answer result.answer) work.new list.new result.run }
 {
     let mut lent = run;
     let answer = record_calls::random_round_records(
         rows, columns, grid, work, list, &mut lent, draws, mode,
     );
-    RolledRun { answer, run: lent }
+    LentRun { answer, run: lent }
 }
 
 // A keyed round over a run of nine records.
@@ -107,14 +94,14 @@ fn keyed_run(
     run: [MoveRecord; 9],
     key: Key,
     mode: Mode,
-) -> KeyRolledRun
+) -> LentRun<Result<KeyRoll, Refusal>>
     ensures { KeepsRecords (keyed_records_call (mode_of mode) (grid_of rows columns grid.now) work.old list.old run (key_of key)) (key_rolled_answer result.answer) work.new list.new result.run }
 {
     let mut lent = run;
     let answer = record_calls::keyed_round_records(
         rows, columns, grid, work, list, &mut lent, key, mode,
     );
-    KeyRolledRun { answer, run: lent }
+    LentRun { answer, run: lent }
 }
 
 // The first records of a run of nine are replayed.
@@ -126,7 +113,7 @@ fn replay_run(
     list: &mut [u32],
     run: [MoveRecord; 9],
     count: usize,
-) -> Replayed
+) -> Result<Played, Unplayed>
     ensures { KeepsList (replay_records_call (grid_of rows columns grid.now) work.old list.old run count) (replayed_answer result) work.new list.new }
 {
     record_calls::replay_records(rows, columns, grid, work, list, &run, count)
@@ -164,12 +151,12 @@ fn strict_greedy_run(
     work: &mut [i32],
     list: &mut [u32],
     run: [MoveRecord; 9],
-) -> PricedRun
-    ensures { KeepsRecords (strict_price_records_call false (grid_of rows columns grid.now) work.old list.old run) (priced_answer result.answer) work.new list.new result.run }
+) -> LentRun<Result<usize, Refusal>>
+    ensures { KeepsRecords (strict_price_records_call false (grid_of rows columns grid.now) work.old list.old run) (counted_answer result.answer) work.new list.new result.run }
 {
     let mut lent = run;
     let answer = record_calls::strict_greedy_records(rows, columns, grid, work, list, &mut lent);
-    PricedRun { answer, run: lent }
+    LentRun { answer, run: lent }
 }
 
 // Openings-first in the strict form over a run of nine records.
@@ -180,14 +167,14 @@ fn strict_openings_first_run(
     work: &mut [i32],
     list: &mut [u32],
     run: [MoveRecord; 9],
-) -> PricedRun
-    ensures { KeepsRecords (strict_price_records_call true (grid_of rows columns grid.now) work.old list.old run) (priced_answer result.answer) work.new list.new result.run }
+) -> LentRun<Result<usize, Refusal>>
+    ensures { KeepsRecords (strict_price_records_call true (grid_of rows columns grid.now) work.old list.old run) (counted_answer result.answer) work.new list.new result.run }
 {
     let mut lent = run;
     let answer = record_calls::strict_openings_first_records(
         rows, columns, grid, work, list, &mut lent,
     );
-    PricedRun { answer, run: lent }
+    LentRun { answer, run: lent }
 }
 
 // A random round in the strict form over a run of nine records.
@@ -200,14 +187,14 @@ fn strict_random_run(
     run: [MoveRecord; 9],
     draws: &[u8],
     mode: Mode,
-) -> RolledRun
+) -> LentRun<Result<Roll, Refusal>>
     ensures { KeepsRecords (strict_random_records_call (mode_of mode) (grid_of rows columns grid.now) work.old list.old run draws.now) (rolled_answer result.answer) work.new list.new result.run }
 {
     let mut lent = run;
     let answer = record_calls::strict_random_round_records(
         rows, columns, grid, work, list, &mut lent, draws, mode,
     );
-    RolledRun { answer, run: lent }
+    LentRun { answer, run: lent }
 }
 
 // A keyed round in the strict form over a run of nine records.
@@ -220,14 +207,14 @@ fn strict_keyed_run(
     run: [MoveRecord; 9],
     key: Key,
     mode: Mode,
-) -> KeyRolledRun
+) -> LentRun<Result<KeyRoll, Refusal>>
     ensures { KeepsRecords (strict_keyed_records_call (mode_of mode) (grid_of rows columns grid.now) work.old list.old run (key_of key)) (key_rolled_answer result.answer) work.new list.new result.run }
 {
     let mut lent = run;
     let answer = record_calls::strict_keyed_round_records(
         rows, columns, grid, work, list, &mut lent, key, mode,
     );
-    KeyRolledRun { answer, run: lent }
+    LentRun { answer, run: lent }
 }
 
 // The first records of a run of nine are replayed in the strict form.
@@ -239,7 +226,7 @@ fn strict_replay_run(
     list: &mut [u32],
     run: [MoveRecord; 9],
     count: usize,
-) -> Replayed
+) -> Result<Played, Unplayed>
     ensures { KeepsList (strict_replay_records_call (grid_of rows columns grid.now) work.old list.old run count) (replayed_answer result) work.new list.new }
 {
     record_calls::strict_replay_records(rows, columns, grid, work, list, &run, count)
@@ -313,15 +300,9 @@ fn print_record(rt: HostRuntime, played: MoveRecord) {
 
 // What was lent, at exit: the run, the list and the work area.
 fn print_lent(rt: HostRuntime, run: [MoveRecord; 9], list: &[u32], work: &[i32]) {
-    print_record(rt, run[0]);
-    print_record(rt, run[1]);
-    print_record(rt, run[2]);
-    print_record(rt, run[3]);
-    print_record(rt, run[4]);
-    print_record(rt, run[5]);
-    print_record(rt, run[6]);
-    print_record(rt, run[7]);
-    print_record(rt, run[8]);
+    for played in run {
+        print_record(rt, played);
+    }
     trials::print(rt, b"\n");
     trials::print_list(rt, list);
     trials::print_area(rt, work);
@@ -335,7 +316,7 @@ fn greedy_in_form(
     grid: &[i32],
     work: &mut [i32],
     list: &mut [u32],
-) -> PricedRun {
+) -> LentRun<Result<usize, Refusal>> {
     if strict {
         return strict_greedy_run(rows, columns, grid, work, list, unwritten());
     }
@@ -350,7 +331,7 @@ fn openings_first_in_form(
     grid: &[i32],
     work: &mut [i32],
     list: &mut [u32],
-) -> PricedRun {
+) -> LentRun<Result<usize, Refusal>> {
     if strict {
         return strict_openings_first_run(rows, columns, grid, work, list, unwritten());
     }
@@ -367,7 +348,7 @@ fn random_in_form(
     list: &mut [u32],
     draws: &[u8],
     mode: Mode,
-) -> RolledRun {
+) -> LentRun<Result<Roll, Refusal>> {
     if strict {
         return strict_random_run(rows, columns, grid, work, list, unwritten(), draws, mode);
     }
@@ -384,7 +365,7 @@ fn keyed_in_form(
     list: &mut [u32],
     key: Key,
     mode: Mode,
-) -> KeyRolledRun {
+) -> LentRun<Result<KeyRoll, Refusal>> {
     if strict {
         return strict_keyed_run(rows, columns, grid, work, list, unwritten(), key, mode);
     }
@@ -401,7 +382,7 @@ fn replay_in_form(
     list: &mut [u32],
     run: [MoveRecord; 9],
     count: usize,
-) -> Replayed {
+) -> Result<Played, Unplayed> {
     if strict {
         return strict_replay_run(rows, columns, grid, work, list, run, count);
     }
@@ -434,7 +415,7 @@ fn round_in_form(
     bytes: &[u8],
     place: usize,
     mode: Mode,
-) -> Rolled {
+) -> Result<Roll, Refusal> {
     if strict {
         return reader_calls::strict_round_from(3, 3, grid, work, list, bytes, place, mode);
     }
@@ -450,7 +431,7 @@ fn search_in_form(
     place: usize,
     mode: Mode,
     rounds: usize,
-) -> Rolled {
+) -> Result<Roll, Refusal> {
     if strict {
         return reader_calls::strict_search_from(3, 3, grid, work, bytes, place, mode, rounds);
     }
@@ -469,10 +450,8 @@ fn greedy(
     list: &mut [u32],
 ) {
     let priced = greedy_in_form(strict, rows, columns, grid, work, list);
-    let answer = priced.answer;
-    let run = priced.run;
-    report(rt, strict, name, plain::of_priced(answer));
-    print_lent(rt, run, list, work);
+    report(rt, strict, name, plain::of_number(priced.answer));
+    print_lent(rt, priced.run, list, work);
 }
 
 // Openings-first over a run: its answer, and what was lent.
@@ -487,10 +466,8 @@ fn openings_first(
     list: &mut [u32],
 ) {
     let priced = openings_first_in_form(strict, rows, columns, grid, work, list);
-    let answer = priced.answer;
-    let run = priced.run;
-    report(rt, strict, name, plain::of_priced(answer));
-    print_lent(rt, run, list, work);
+    report(rt, strict, name, plain::of_number(priced.answer));
+    print_lent(rt, priced.run, list, work);
 }
 
 // A random round over a run: its answer, and what was lent.
@@ -507,10 +484,8 @@ fn rolls(
     mode: Mode,
 ) {
     let rolled = random_in_form(strict, rows, columns, grid, work, list, draws, mode);
-    let answer = rolled.answer;
-    let run = rolled.run;
-    report(rt, strict, name, plain::of_rolled(answer));
-    print_lent(rt, run, list, work);
+    report(rt, strict, name, plain::of_rolled(rolled.answer));
+    print_lent(rt, rolled.run, list, work);
 }
 
 // A keyed round over a run: its answer with the key after it, and what was lent.
@@ -527,10 +502,8 @@ fn key_rolls(
     mode: Mode,
 ) {
     let rolled = keyed_in_form(strict, rows, columns, grid, work, list, key, mode);
-    let answer = rolled.answer;
-    let run = rolled.run;
-    report(rt, strict, name, plain::of_key_rolled(answer, key));
-    print_lent(rt, run, list, work);
+    report(rt, strict, name, plain::of_key_rolled(rolled.answer, key));
+    print_lent(rt, rolled.run, list, work);
 }
 
 // The first records of a run are replayed: the answer, and what was lent.
@@ -778,10 +751,8 @@ fn reads(
     rounds: usize,
 ) {
     let both = twice_in_form(strict, grid, work, list, bytes, place, mode, rounds);
-    let first = both.round;
-    let second = both.search;
-    report(rt, strict, name, plain::of_rolled(first));
-    report(rt, strict, b" then a search", plain::of_rolled(second));
+    report(rt, strict, name, plain::of_rolled(both.round));
+    report(rt, strict, b" then a search", plain::of_rolled(both.search));
     trials::print(rt, b" stands at");
     trials::print_number(rt, both.place as u64);
     trials::print(rt, b"\n");
@@ -1075,9 +1046,7 @@ fn drawn(rt: HostRuntime, bytes: &[u8], place: usize, mode: Mode, n: usize) {
             trials::print(rt, b": takes");
             trials::print_number(rt, taken.place as u64);
         }
-        None => {
-            trials::print(rt, b": short");
-        }
+        None => trials::print(rt, b": short"),
     }
     trials::print(rt, b", then at");
     trials::print_number(rt, draw_reader::place_after(draw, place) as u64);
@@ -1088,9 +1057,9 @@ fn drawn(rt: HostRuntime, bytes: &[u8], place: usize, mode: Mode, n: usize) {
 fn draws_of(rt: HostRuntime, name: &[u8], bytes: &[u8]) {
     trials::print(rt, name);
     trials::print(rt, b"\n");
-    drawn(rt, bytes, 0, Mode::Old, 8);
-    drawn(rt, bytes, 4, Mode::Old, 8);
-    drawn(rt, bytes, 8, Mode::Old, 8);
+    for place in [0, 4, 8] {
+        drawn(rt, bytes, place, Mode::Old, 8);
+    }
 }
 
 // A draw among n in the old mode and in the fair one, of a word at the top with this low byte, and then one of 1.
@@ -1109,20 +1078,12 @@ fn both_modes(rt: HostRuntime, low: u8, n: usize) {
 // The highest word among 1 to 8; the bound itself among 6 and 7, and one below it among 3, 5, 6 and 7.
 fn fair_draws(rt: HostRuntime) {
     trials::print(rt, b"old, fair, and fair with a byte less\n");
-    both_modes(rt, 255, 1);
-    both_modes(rt, 255, 2);
-    both_modes(rt, 255, 3);
-    both_modes(rt, 255, 4);
-    both_modes(rt, 255, 5);
-    both_modes(rt, 255, 6);
-    both_modes(rt, 255, 7);
-    both_modes(rt, 255, 8);
-    both_modes(rt, 252, 6);
-    both_modes(rt, 252, 7);
-    both_modes(rt, 254, 3);
-    both_modes(rt, 254, 5);
-    both_modes(rt, 251, 6);
-    both_modes(rt, 251, 7);
+    for n in 1..=8 {
+        both_modes(rt, 255, n);
+    }
+    for (low, n) in [(252, 6), (252, 7), (254, 3), (254, 5), (251, 6), (251, 7)] {
+        both_modes(rt, low, n);
+    }
 }
 
 // A word's record, and the word that it is replayed as: kind and index.
@@ -1136,11 +1097,9 @@ fn there_and_back(rt: HostRuntime, word: u32, rows: usize) {
 // Words of P11, one of no kind, one past every grid, and one on no rows.
 fn words(rt: HostRuntime) {
     trials::print(rt, b"words\n");
-    there_and_back(rt, 65536 + 1, 3);
-    there_and_back(rt, 131072 + 4, 3);
-    there_and_back(rt, 196608 + 5, 3);
-    there_and_back(rt, 8, 3);
-    there_and_back(rt, 65536 + 765, 3);
+    for word in [65536 + 1, 131072 + 4, 196608 + 5, 8, 65536 + 765] {
+        there_and_back(rt, word, 3);
+    }
     there_and_back(rt, 65536 + 1, 0);
 }
 

@@ -3,19 +3,11 @@
 
 ghost use Rattle.std.specs.Prelude.{◌≤◌};
 
+use refusals::Refusal;
 use trials::fields::byte_at;
 use trials::plain;
 use trials::plain::Plain;
-use zini::Priced;
 use zini::random_calls::Mode;
-
-// What is said of a line.
-#[derive(Clone, Copy)]
-enum Seen {
-    End,
-    Right,
-    Wrong,
-}
 
 // The number of two bytes, high first.
 fn pair_at(line: &[u8], place: usize) -> usize
@@ -42,11 +34,8 @@ fn value(line: &[u8], cell: usize) -> i32 {
 
 // The grid of a line.
 fn lay_mines(line: &[u8], grid: &mut [i32]) {
-    let mut k = 0;
-    while k < grid.len() {
-        let v = value(line, k);
-        grid[k] = v;
-        k += 1;
+    for (cell, v) in grid.iter_mut().enumerate() {
+        *v = value(line, cell);
     }
 }
 
@@ -88,10 +77,8 @@ fn draw_at(line: &[u8], from: usize, place: usize) -> u8 {
 
 // The draws of a line, from a place on.
 fn take_draws(line: &[u8], from: usize, draws: &mut [u8]) {
-    let mut k = 0;
-    while k < draws.len() {
-        draws[k] = draw_at(line, from, k);
-        k += 1;
+    for (place, byte) in draws.iter_mut().enumerate() {
+        *byte = draw_at(line, from, place);
     }
 }
 
@@ -113,11 +100,8 @@ fn differs(rt: HostRuntime, number: u64, name: &[u8], ours: u64, rust: usize) ->
 }
 
 // A round's clicks, or more than any round has where it was refused.
-fn clicks_of(answer: Priced) -> u64 {
-    match answer {
-        Priced::Clicks(clicks) => clicks as u64,
-        Priced::Refused(_refusal) => 65536,
-    }
+fn clicks_of(answer: Result<usize, Refusal>) -> u64 {
+    answer.unwrap_or(65536) as u64
 }
 
 // Greedy beside the Rust.
@@ -227,34 +211,30 @@ fn price(rt: HostRuntime, number: u64, line: &[u8], grid: &mut [i32]) -> u64
 }
 
 // A line that holds no board.
-fn malformed(rt: HostRuntime, number: u64) -> Seen {
+fn malformed(rt: HostRuntime, number: u64) -> bool {
     trials::print(rt, b"line ");
     trials::print_decimal(rt, number);
     trials::print(rt, b": no board\n");
-    Seen::Wrong
+    false
 }
 
-// A line's board, priced.
-fn replay_board(rt: HostRuntime, number: u64, line: &[u8]) -> Seen {
+// A line's board, priced: whether all is as the Rust's.
+fn replay_board(rt: HostRuntime, number: u64, line: &[u8]) -> bool {
     let cells = byte_at(line, 0) * byte_at(line, 1);
     if 2048 < cells {
         return malformed(rt, number);
     }
     let mut grid = [0i32; 2048];
-    let wrong = price(rt, number, line, &mut grid[..cells]);
-    if wrong == 0 { Seen::Right } else { Seen::Wrong }
+    price(rt, number, line, &mut grid[..cells]) == 0
 }
 
 // Whether a line feed ends it.
 fn is_ended(line: &[u8]) -> bool {
-    if line.len() == 0 {
-        return false;
-    }
-    line[line.len() - 1] == 10
+    line.last() == Some(&b'\n')
 }
 
 // Reads the rest of a line, and prices its board.
-fn replay_rest(rt: HostRuntime, number: u64, line: &mut [u8]) -> Seen {
+fn replay_rest(rt: HostRuntime, number: u64, line: &mut [u8]) -> bool {
     let got = trials::read_full(rt, line);
     if got < line.len() {
         return malformed(rt, number);
@@ -266,7 +246,7 @@ fn replay_rest(rt: HostRuntime, number: u64, line: &mut [u8]) -> Seen {
 }
 
 // A line whose length was read: two digits a byte, and the line feed.
-fn replay_line(rt: HostRuntime, number: u64, bytes: usize) -> Seen {
+fn replay_line(rt: HostRuntime, number: u64, bytes: usize) -> bool {
     if 4095 < bytes {
         return malformed(rt, number);
     }
@@ -274,14 +254,14 @@ fn replay_line(rt: HostRuntime, number: u64, bytes: usize) -> Seen {
     replay_rest(rt, number, &mut line[..2 * bytes + 1])
 }
 
-// The next line, if there is one.
-fn replay_next(rt: HostRuntime, number: u64) -> Seen {
+// The next line, if there is one: whether all is as the Rust's.
+fn replay_next(rt: HostRuntime, number: u64) -> Option<bool> {
     let mut head = [0u8; 4];
     let got = trials::read_full(rt, &mut head);
     if got < 4 {
-        return Seen::End;
+        return None;
     }
-    replay_line(rt, number, pair_at(&head, 0))
+    Some(replay_line(rt, number, pair_at(&head, 0)))
 }
 
 // How many boards there were, and how many differ.
@@ -292,35 +272,18 @@ fn report(rt: HostRuntime, boards: u64, wrong: u64) {
     trials::print(rt, b" wrong\n");
 }
 
-// 1 for a line with a wrong figure.
-fn wrong_in(seen: Seen) -> u64
-    ensures { result ≤ 1 }
-{
-    match seen {
-        Seen::Wrong => 1,
-        _ => 0,
-    }
-}
-
-// Whether the input has ended.
-fn is_end(seen: Seen) -> bool {
-    match seen {
-        Seen::End => true,
-        _ => false,
-    }
-}
-
 // Every line: no input has a million of them.
 fn replay_all(rt: HostRuntime) {
     let mut boards: u64 = 0;
     let mut wrong: u64 = 0;
-    while boards < 1000000 {
-        let seen = replay_next(rt, boards + 1);
-        if is_end(seen) {
+    for board in 0..1000000 {
+        let Some(right) = replay_next(rt, board + 1) else {
             break;
+        };
+        if !right {
+            wrong += 1;
         }
-        wrong += wrong_in(seen);
-        boards += 1;
+        boards = board + 1;
     }
     report(rt, boards, wrong);
 }

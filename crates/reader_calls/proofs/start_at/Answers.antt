@@ -12,4 +12,4 @@ fewer_starts place length r e =
     }
 
 pub returns : goal.returns
-returns c = fewer_starts _ _ _ c.fewer.ensures
+returns c = fewer_starts _ _ _ c.min.ensures

@@ -3,6 +3,7 @@ use Prim.Native.Nat.{ℕ, ◌<◌, ◌≤◌}
 use mathlib.Core.Path.{◌≡◌, ap, sym, ◌∙◌}
 use mathlib.Core.List.{List, ◌++◌}
 use mathlib.Core.Option.{Option, none, some}
+use borrow.Author.Rules.{rules}
 use lib.IntN.{ℤ}
 use Rattle.game.specs.Calls.{Refusal, first_given, grid_checks, trace}
 use Rattle.game.specs.Grid.{Grid}
@@ -29,22 +30,23 @@ module _ (g : Grid) (ws : List ℤ) (room words count : ℕ) where
     nothing_refused : count ≤ room → count ≤ words → none ≡ all
     nothing_refused l m = enough (grid_checks g ws ++ reaches room count trace) words count trace (enough (grid_checks g ws) room count trace fine l) m
 
-pub returns-then-room-count : goal.returns-then-room-count
-returns-then-room-count c vs ws e₁ e₂ =
+pub returns-in_err-check_lengths : goal.returns-in_err-check_lengths
+returns-in_err-check_lengths c = λ vs ws e₁ e₂.
     let a = c.args in
-    short_run (grid_of a.rows a.columns vs) ws a.room a.words a.count (ap refusal_of (sym c.in-Fine.is) ∙ c.check_lengths-checked.ensures vs ws e₁ e₂) c.if-room-count.true
+    let told : c.from_residual.result ≡ c.check_lengths.result = search rules in
+    ap refusal_of (told ∙ c.in_err-check_lengths.was) ∙ first (grid_of a.rows a.columns vs) ws a.room a.words a.count _ (sym (ap refusal_of c.in_err-check_lengths.was) ∙ c.check_lengths.ensures vs ws e₁ e₂)
+
+pub returns-then-room-count : goal.returns-then-room-count
+returns-then-room-count c = λ vs ws e₁ e₂.
+    let a = c.args in
+    short_run (grid_of a.rows a.columns vs) ws a.room a.words a.count (sym (ap refusal_of c.in_ok-check_lengths.was) ∙ c.check_lengths.ensures vs ws e₁ e₂) c.if-room-count.true
 
 pub returns-then-words-count : goal.returns-then-words-count
-returns-then-words-count c vs ws e₁ e₂ =
+returns-then-words-count c = λ vs ws e₁ e₂.
     let a = c.args in
-    short_words (grid_of a.rows a.columns vs) ws a.room a.words a.count (ap refusal_of (sym c.in-Fine.is) ∙ c.check_lengths-checked.ensures vs ws e₁ e₂) c.if-room-count.false c.if-words-count.true
+    short_words (grid_of a.rows a.columns vs) ws a.room a.words a.count (sym (ap refusal_of c.in_ok-check_lengths.was) ∙ c.check_lengths.ensures vs ws e₁ e₂) c.if-room-count.false c.if-words-count.true
 
-pub returns-in-Refused : goal.returns-in-Refused
-returns-in-Refused c vs ws e₁ e₂ =
+pub returns : goal.returns
+returns c = λ vs ws e₁ e₂.
     let a = c.args in
-    first (grid_of a.rows a.columns vs) ws a.room a.words a.count _ (ap refusal_of (sym c.in-Refused.is) ∙ c.check_lengths-checked.ensures vs ws e₁ e₂)
-
-pub returns-else-words-count : goal.returns-else-words-count
-returns-else-words-count c vs ws e₁ e₂ =
-    let a = c.args in
-    nothing_refused (grid_of a.rows a.columns vs) ws a.room a.words a.count (ap refusal_of (sym c.in-Fine.is) ∙ c.check_lengths-checked.ensures vs ws e₁ e₂) c.if-room-count.false c.if-words-count.false
+    nothing_refused (grid_of a.rows a.columns vs) ws a.room a.words a.count (sym (ap refusal_of c.in_ok-check_lengths.was) ∙ c.check_lengths.ensures vs ws e₁ e₂) c.if-room-count.false c.if-words-count.false

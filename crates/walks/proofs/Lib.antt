@@ -1,3 +1,0 @@
--- What walks by hand share.
-pub mod Pieces
-pub mod Passed
