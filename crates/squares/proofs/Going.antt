@@ -6,7 +6,7 @@ use mathlib.Core.List.{List, [], ◌∷◌, ◌++◌, append_assoc, append-nil}
 use lib.Dec.{T}
 use lib.ListN.{length, length-append}
 use Rattle.game.specs.Lists.{has}
-use Rattle.game.proofs.Members.{has_head, has_tail}
+use Rattle.game.proofs.Members.{has_append_right, has_head, has_tail}
 use Rattle.game.proofs.Ranges.{length_square}
 use Rattle.game.proofs.Squares.{square→}
 use Rattle.area.specs.Numbers.{grid_of}
@@ -42,3 +42,9 @@ module _ (rows columns i : ℕ) (passed left : List ℕ) (g : Going rows columns
   -- at most nine are passed
   pub nine : length passed ≤ 9
   nine = omega (arith, length-append passed left, ap length g.parts, length_square (grid_of rows columns []) i)
+
+  -- it is one of the square's
+  pub in_square : (x : ℕ) (rest : List ℕ) → left ≡ x ∷ rest → T (has x (square_of rows columns i))
+  in_square x rest e =
+      subst (λ (l : List ℕ). T (has x l)) g.parts
+      (has_append_right x passed left (subst (λ (l : List ℕ). T (has x l)) (sym e) (has_head x x rest refl)))

@@ -1,23 +1,23 @@
 -- Cells put to wait and taken again: each newly labelled 0-cell waits or has its square visited. Assumes nothing.
-use Prim.Native.Nat.{ℕ, ◌+◌, ◌-◌, ◌<◌, ◌≤◌, min}
+use Prim.Native.Nat.{ℕ, ◌+◌, ◌<◌, ◌≤◌}
 use native.Mathlib.Omega.{arith}
 use native.Mathlib.Decide.{ℕ_discrete, dec_le}
 use mathlib.Core.Path.{◌∙◌, ◌≡◌, ap, refl, subst, sym}
 use mathlib.Core.Logic.{◌⊎◌, inl, inr, ⊎_elim}
 use mathlib.Core.Bool.{Bool, false, true}
-use mathlib.Core.List.{List}
+use mathlib.Core.List.{List, [], ◌∷◌, ◌++◌}
 use lib.Dec.{T}
 use lib.IntN.{pos, ℤ}
 use lib.ListN.{get_or, length-set, set}
 use lib.Seq.{get_or-set_other, get_or-set_same}
 use Rattle.area.specs.Numbers.{HasCells, first_at, first_place, content_at, content_place, natural, second_place, state_place, waiting_at, waiting_place}
-use Rattle.game.specs.Grid.{Grid, column_of, index, row_of, size, square}
+use Rattle.game.specs.Grid.{Grid, size, square}
 use Rattle.game.specs.Lists.{has}
 use Rattle.game.specs.Openings.{places}
 use Rattle.labels.specs.Labels.{Fresh, bordered, free_of, fresh_cell, put_label}
 use Rattle.labels.specs.Spread.{Change, Reach, Side, here, next}
-use Rattle.waiting.specs.Waits.{BeforeRow, InRow, InRowBefore, InSquare, Newly, Pushed, Visitable, Waited}
-use Rattle.game.proofs.Squares.{column_lt, index-column, index-lt, index_of, index-row, row_lt, square→, →square}
+use Rattle.waiting.specs.Waits.{Newly, Pushed, Visitable, Waited}
+use Rattle.game.proofs.Members.{has_append_cases, has_cases}
 use Rattle.labels.proofs.Changes.{edge_some, content_stays, contents_stay, label_change, refl_change, side_then, stays, then_side, trans_change}
 use Rattle.labels.proofs.Edges.{fresh_no, fresh_yes, labelled_first, labelled_long, labelled_other, labelled_second}
 use Rattle.labels.proofs.Frees.{free_le, free_labelled, unlabelled_before}
@@ -234,48 +234,10 @@ module _ (g : Grid) (op : ℕ) (o : 1 ≤ op) (from : ℕ) where
         places = omega (arith, p.free, v.places);
       }
 
-  -- ---- the cells of a row, and the rows of a square
+  -- before any cell of the square was passed
+  pub none_passed : (w : List ℤ) (top : ℕ) → Pushed g (content_at w) op from (λ y. T (has y [])) w top w top
+  none_passed w top = pushed_still g (content_at w) op o from (λ y. T (has y [])) w top (λ y h t. absurd t)
 
-  pub row_none : (w : List ℤ) (row top : ℕ) → from < size g → Pushed g (content_at w) op from (InRowBefore g from row (column_of g from - 1)) w top w top
-  row_none w row top h =
-      pushed_still g (content_at w) op o from (InRowBefore g from row (column_of g from - 1)) w top
-      (λ y hy p. absurd (let c = (square→ g from y h p.beside).1 in omega (arith, c.west, p.before)))
-
-  pub row_more : (y row column : ℕ) → InRowBefore g from row (column + 1) y → InRowBefore g from row column y ⊎ (y ≡ index g row column)
-  row_more y row column p =
-      elim (dec_le (column_of g y + 1) column) [
-        | yes h ↦ inl (record { beside = p.beside; in_row = p.in_row; before = omega arith })
-        | no h ↦
-            let e : column_of g y ≡ column = omega (arith, p.before) in
-            inr (sym (index_of g y) ∙ ap (index g (row_of g y)) e ∙ ap (λ (r : ℕ). index g r column) p.in_row)
-      ]
-
-  pub row_all : (row column : ℕ) → from < size g → min (column_of g from + 2) g.columns ≤ column → (y : ℕ) → y < size g → InRow g from row y → InRowBefore g from row column y
-  row_all row column h l y hy p =
-      let c = (square→ g from y h p.beside).1 in
-      record { beside = p.beside; in_row = p.in_row; before = omega (arith, c.east, column_lt g y hy) }
-
-  pub beside_at : (row column : ℕ) → from < size g → row < g.rows → row ≤ row_of g from + 1 → row_of g from ≤ row + 1 → column_of g from - 1 ≤ column
-      → column < min (column_of g from + 2) g.columns → T (has (index g row column) (square g from))
-  beside_at row column h hr a b c d =
-      let er = index-row g row column hr in
-      let ec = index-column g row column hr in
-      →square g from (index g row column) h (index-lt g row column hr (omega arith))
-      (record { north = omega arith; south = omega arith; west = omega arith; east = omega arith })
-
-  pub rows_none : (w : List ℤ) (top : ℕ) → from < size g → Pushed g (content_at w) op from (BeforeRow g from (row_of g from - 1)) w top w top
-  rows_none w top h =
-      pushed_still g (content_at w) op o from (BeforeRow g from (row_of g from - 1)) w top
-      (λ y hy p. absurd (let c = (square→ g from y h p.beside).1 in omega (arith, c.north, p.before)))
-
-  pub rows_more : (y row : ℕ) → BeforeRow g from (row + 1) y → BeforeRow g from row y ⊎ InRow g from row y
-  rows_more y row p =
-      elim (dec_le (row_of g y + 1) row) [
-        | yes h ↦ inl (record { beside = p.beside; before = omega arith })
-        | no h ↦ inr (record { beside = p.beside; in_row = omega (arith, p.before) })
-      ]
-
-  pub rows_all : (row : ℕ) → from < size g → min (row_of g from + 2) g.rows ≤ row → (y : ℕ) → y < size g → InSquare g from y → BeforeRow g from row y
-  rows_all row h l y hy p =
-      let c = (square→ g from y h p.beside).1 in
-      record { beside = p.beside; before = omega (arith, c.south, row_lt g y hy) }
+-- a cell passed is one passed before or the last
+pub last_passed : (xs : List ℕ) (x y : ℕ) → T (has y (xs ++ (x ∷ []))) → T (has y xs) ⊎ (y ≡ x)
+last_passed xs x y t = ⊎_elim (λ l. inl l) (λ r. has_cases y x [] (λ e. inr e) (λ u. absurd u) r) (has_append_cases y xs (x ∷ []) t)

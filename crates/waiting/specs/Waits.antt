@@ -1,7 +1,7 @@
 -- What the waiting form does, cell after cell: 0-cells are labelled when they are put to wait. Assumes nothing.
 use Rattle.std.specs.Prelude.{ℕ, ◌+◌, ◌<◌, ◌≤◌, ◌≡◌, List, T, ℤ, pos, get_or, set}
 use Rattle.area.specs.Numbers.{first_at, waiting_at, waiting_place}
-use Rattle.game.specs.Grid.{Grid, column_of, row_of, size, square}
+use Rattle.game.specs.Grid.{Grid, size, square}
 use Rattle.game.specs.Lists.{has}
 use Rattle.labels.specs.Labels.{Fresh, free_of, put_label}
 use Rattle.labels.specs.Spread.{Change, Side}
@@ -35,22 +35,6 @@ pub record Pushed (g : Grid) (k : ℕ → ℕ) (op from : ℕ) (P : ℕ → Type
   pub waits : (t : ℕ) → top ≤ t → t < r → Newly g k w w' (waiting_at w' t)
   pub new : (x : ℕ) → Newly g k w w' x → Waiting w' top r x
   pub sides : (y : ℕ) → y < size g → P y → Side k op w w' y
-
--- y is beside i, in a row
-pub record InRow (g : Grid) (i row y : ℕ) : Type 0 where
-  pub beside : T (has y (square g i))
-  pub in_row : row_of g y ≡ row
-
--- in a row, before a column
-pub record InRowBefore (g : Grid) (i row column y : ℕ) : Type 0 where
-  pub beside : T (has y (square g i))
-  pub in_row : row_of g y ≡ row
-  pub before : column_of g y < column
-
--- before a row
-pub record BeforeRow (g : Grid) (i row y : ℕ) : Type 0 where
-  pub beside : T (has y (square g i))
-  pub before : row_of g y < row
 
 -- beside i
 pub record InSquare (g : Grid) (i y : ℕ) : Type 0 where

@@ -1,13 +1,14 @@
 // Above 512 cells: cells wait in the work area until their squares are visited. No function calls itself.
 #![tactic(auto)]
 
-ghost use Rattle.std.specs.Prelude.{◌+◌, ◌*◌, ◌<◌, ◌≤◌, ◌%◌};
+ghost use Rattle.std.specs.Prelude.{◌+◌, ◌*◌, ◌<◌, ◌≤◌};
 ghost use Rattle.area.specs.Numbers.{HasCells, content_at};
 ghost use Rattle.labels.specs.Labels.{Ready, free_of, shaped};
 ghost use Rattle.labels.specs.Spread.{OpeningLabelled};
-ghost use Rattle.waiting.specs.Waits.{InRow, InSquare, Pushed, Visitable, Waited};
+ghost use Rattle.waiting.specs.Waits.{InSquare, Pushed, Visitable, Waited};
 
 use labels::{border, fresh, put_label};
+use squares::Square;
 
 // Labels a 0-cell without label and puts it to wait; any other cell stays as it is. Answers how many wait.
 fn wait(work: &mut [i32], cells: usize, op: usize, index: usize, top: usize) -> usize
@@ -25,32 +26,6 @@ fn wait(work: &mut [i32], cells: usize, op: usize, index: usize, top: usize) -> 
     top + 1
 }
 
-// Visits the cells of one row of the square of a 0-cell. Answers how many wait.
-fn visit_row(
-    work: &mut [i32],
-    rows: usize,
-    columns: usize,
-    op: usize,
-    index: usize,
-    row: usize,
-    top: usize,
-) -> usize
-    requires ready { Ready rows columns op work.old }
-    requires visitable { Visitable (rows * columns) (content_at work.old) index top work.old }
-    requires row_lt_rows { (row < rows) × (row ≤ index % rows + 1) × (index % rows ≤ row + 1) }
-    ensures { Pushed (shaped rows columns) (content_at work.old) op index
-        (InRow (shaped rows columns) index row) work.old top work.new result }
-{
-    let own = index / rows;
-    let mut waiting = top;
-    for column in own.saturating_sub(1)..(own + 2).min(columns) {
-        let at = column * rows + row;
-        border(work, rows * columns, at, op);
-        waiting = wait(work, rows * columns, op, at, waiting);
-    }
-    waiting
-}
-
 // Visits the square of a 0-cell, row after row. Answers how many wait.
 fn visit_square(
     work: &mut [i32],
@@ -65,10 +40,10 @@ fn visit_square(
     ensures { Pushed (shaped rows columns) (content_at work.old) op index
         (InSquare (shaped rows columns) index) work.old top work.new result }
 {
-    let own = index % rows;
     let mut waiting = top;
-    for row in own.saturating_sub(1)..(own + 2).min(rows) {
-        waiting = visit_row(work, rows, columns, op, index, row, waiting);
+    for near in Square::around(rows, columns, index) {
+        border(work, rows * columns, near, op);
+        waiting = wait(work, rows * columns, op, near, waiting);
     }
     waiting
 }
