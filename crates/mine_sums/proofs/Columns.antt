@@ -9,12 +9,8 @@ use Rattle.game.specs.Lists.{count, range}
 use Rattle.game.proofs.Carried.{column_part, part_one, parts_none}
 use Rattle.game.proofs.Counts.{count_append, count_map}
 use Rattle.game.proofs.Members.{range_split}
-use Rattle.area.proofs.Tests.{count_none_yet, count_one_more}
+use Rattle.area.proofs.Tests.{count_one_more}
 use Rattle.mine_sums.specs.Columns.{column_mines, mine_in}
-
--- one row
-pub row_one : (f : ℕ → Bool) (row : ℕ) (r : Bool) → r ≡ f row → bool_byte r ≡ count f (range row (row + 1))
-row_one f row r e = omega (arith, count_one_more f row row 0 r (omega arith) (count_none_yet f row) e)
 
 module _ (g : Grid) where
   -- no column

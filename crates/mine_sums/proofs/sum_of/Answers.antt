@@ -1,15 +1,8 @@
 -- `mine_sums::sum_of`: what is above, here and below. Assumes nothing.
 use native.Mathlib.Omega.{arith}
 use Rattle.area.specs.Numbers.{grid_of}
-use Rattle.area.proofs.Tests.{byte_le}
 use Rattle.mine_sums.proofs.Columns.{column_three}
 use Rattle.mine_sums.proofs.sum_of.Goals as goal
-
-pub overflow_add-result : goal.overflow_add-result
-overflow_add-result c = omega (arith, byte_le c.args.own)
-
-pub overflow_add-result-2 : goal.overflow_add-result-2
-overflow_add-result-2 c = omega (arith, byte_le c.args.own)
 
 pub returns : goal.returns
 returns c =

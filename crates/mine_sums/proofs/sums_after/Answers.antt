@@ -36,19 +36,3 @@ returns-then-column-columns c =
       mine_is = cell c.before;
       next_is = ap (λ (b : Bool). b && mine_in g (a.column + 1) a.row) (sym (le-ltb (a.column + 1) a.columns (omega arith)));
     }
-
-pub sum_of-right-requires : goal.sum_of-right-requires
-sum_of-right-requires c = record { shape = c.requires.shape; columns_in_bounds = (omega arith, omega arith, omega arith); own_value = c.mine_in-next.ensures }
-
-pub returns : goal.returns
-returns c =
-    let a = c.args in
-    let g = grid_of a.rows a.columns a.grid.now in
-    let e : a.column + 1 + 1 ≡ min (a.column + 2) a.columns = omega arith in
-    record {
-      left_is = c.requires.before.here_is;
-      here_is = own c.before.before.before;
-      right_is = c.sum_of-right.ensures ∙ ap (column_mines g a.row (a.column + 1)) e;
-      mine_is = cell c.before.before.before;
-      next_is = c.mine_in-next.ensures ∙ ap (λ (b : Bool). b && mine_in g (a.column + 1) a.row) (sym (lt-ltb (a.column + 1) a.columns (omega arith)));
-    }

@@ -31,13 +31,3 @@ returns-then-column-eq0 c =
     let g = grid_of a.rows a.columns a.grid.now in
     let e : a.column - 1 ≡ a.column = omega arith in
     (record { here_is = columns_none g a.row (a.column - 1) ∙ ap (column_mines g a.row (a.column - 1)) e; right_is = right c.before; next_is = next c.before }, refl, refl)
-
-pub sum_of-requires : goal.sum_of-requires
-sum_of-requires c = record { shape = c.requires.shape; columns_in_bounds = (omega arith, omega arith, omega arith); own_value = c.mine_in-before.ensures }
-
-pub returns : goal.returns
-returns c =
-    let a = c.args in
-    let g = grid_of a.rows a.columns a.grid.now in
-    let e : a.column - 1 + 1 ≡ a.column = omega arith in
-    (record { here_is = c.sum_of.ensures ∙ ap (column_mines g a.row (a.column - 1)) e; right_is = right c.before.before.before; next_is = next c.before.before.before }, refl, refl)
