@@ -5,7 +5,7 @@ ghost use Rattle.std.specs.Prelude.{◌*◌, ◌≤◌, ◌≡◌, false, true, 
 ghost use Rattle.board_reader.specs.Turns.{AnsweredBlock, Handed, Sofar, Turns, answers_to, goes_on, nothing_kept, went_by};
 
 use inputs::{Got, Streams};
-use line_prices::Answered;
+use line_prices::block::Place;
 
 // What is kept of the line that goes on: its first bytes, and how many they are.
 #[derive(Clone, Copy)]
@@ -58,13 +58,12 @@ fn answer_some(streams: &mut Streams, block: &[u8], kept: PartLine, out: &mut [u
     ensures { AnsweredBlock kept block.now result }
 {
     let mut bytes = kept.bytes;
-    let answered = line_prices::block::answer_block(block, &mut bytes, kept.count, out);
-    match answered {
-        Answered::Refused(_) => Turn {
+    match line_prices::block::answer_block(block, &mut bytes, kept.count, out) {
+        Err(_) => Turn {
             kept,
             went: Went::Unwritten,
         },
-        Answered::Kept(count, written) => {
+        Ok(Place { count, written }) => {
             let went = print(streams, &out[..written], kept, block, false);
             Turn {
                 kept: PartLine { bytes, count },
@@ -107,10 +106,9 @@ fn print_last(streams: &mut Streams, kept: PartLine, out: &mut [u8]) -> Went
     ensures { Handed true result }
 {
     let bytes = kept.bytes;
-    let answered = line_prices::block::answer_end(&bytes, kept.count, out);
-    match answered {
-        Answered::Refused(_) => Went::Unwritten,
-        Answered::Kept(_, written) => print(streams, &out[..written], kept, &[0u8; 0], true),
+    match line_prices::block::answer_end(&bytes, kept.count, out) {
+        Err(_) => Went::Unwritten,
+        Ok(Place { written, .. }) => print(streams, &out[..written], kept, &[0u8; 0], true),
     }
 }
 
@@ -124,7 +122,7 @@ fn nothing_kept() -> PartLine
     }
 }
 
-// Reads to the end of input, and tells how that went. A proved loop has to end, so it counts its turns down, from a number that no run uses up.
+// Reads to the end of input, and tells how that went. A proved loop has to end, so it goes up to a number that no run uses up.
 fn read_all(streams: &mut Streams, block: &mut [u8], out: &mut [u8]) -> Went
     requires block_in_bounds { 15 * length block.old ≤ length out.old }
     requires in_bounds { 15 ≤ length out.old }
@@ -134,12 +132,10 @@ fn read_all(streams: &mut Streams, block: &mut [u8], out: &mut [u8]) -> Went
         kept: nothing_kept(),
         went: Went::On,
     };
-    let mut turns = u64::MAX;
-    while turns > 0 {
+    for _ in 0..u64::MAX {
         let kept = turn.kept;
         turn = read_some(streams, block, kept, out);
-        let went = turn.went;
-        match went {
+        match turn.went {
             Went::Unread => {
                 return Went::Unread;
             }
@@ -149,9 +145,7 @@ fn read_all(streams: &mut Streams, block: &mut [u8], out: &mut [u8]) -> Went
             Went::Ended => {
                 return print_last(streams, kept, out);
             }
-            Went::On => {
-                turns -= 1;
-            }
+            Went::On => (),
         }
     }
     Went::Unread

@@ -4,29 +4,29 @@ use native.Mathlib.Omega.{arith}
 use mathlib.Core.Path.{◌≡◌, ap, sym, ◌∙◌}
 use mathlib.Core.Bool.{Bool}
 use mathlib.Core.List.{List, [], ◌∷◌, ◌++◌}
-use mathlib.Core.Option.{Option, none, some}
+use mathlib.Core.Option.{Option, none}
 use lib.IntN.{ℤ, pos}
-use lib.ListN.{get_or, length, length-replicate, replicate}
+use lib.ListN.{length, length-replicate, replicate}
+use Rattle.std.specs.Prelude.{Result}
+use Rattle.std.specs.Result.{result_unwrap_or}
+use Rattle.refusals.specs.Names.{answer_of}
+use Rattle.refusals.specs.declared.Refusal as Refused
 use Rattle.game.specs.Grid.{Grid}
 use Rattle.game.specs.Openings.{three_bv}
 use Rattle.game.specs.Position.{untouched}
 use Rattle.game.specs.Area.{area_of}
 use Rattle.game.specs.Rounds.{greedy_steps, moves_of, openings_first_steps, round_steps}
-use Rattle.game.specs.Calls.{Answer, Refusal, first_given, gives, grid_checks, list_check, number_of, price_call, priced_round, refuses, three_bv_call, trace, unless, unless_listed}
+use Rattle.game.specs.Calls.{Refusal, first_given, gives, grid_checks, list_check, price_call, priced_round, three_bv_call, trace, unless, unless_listed}
 use Rattle.checks.proofs.Verdict.{all_fine}
 use Rattle.checks.proofs.More.{enough}
 use Rattle.lines.specs.PriceLine.{Price}
-use Rattle.lines.proofs.LineRead.{no_refusal}
+use Rattle.lines.proofs.LineRead.{given_one}
 use Rattle.line_price.specs.Prices.{price_or}
 use Rattle.line_price.specs.Taken.{Taken}
 
--- an answer of one value is that value's
-pub one_value : (m n : ℕ) (a : Answer) → gives (m ∷ []) ≡ a → a ≡ gives (n ∷ []) → m ≡ n
-one_value m n a p e = ap (λ (x : Answer). get_or x.values 0 0) (p ∙ e)
-
--- a refusal answers no value
-pub no_value : (n : ℕ) (f : Refusal) (a : Answer) → refuses f ≡ a → a ≡ gives (n ∷ []) → 0 ≡ n
-no_value n f a p e = absurd (no_refusal f n [] (p ∙ e))
+-- the value that a call gives
+pub value_given : (r : Result ℕ Refused.Refusal) (n : ℕ) → answer_of (λ (k : ℕ). k ∷ []) r ≡ gives (n ∷ []) → result_unwrap_or r 0 ≡ n
+value_given r n e = ap (λ (x : Result ℕ Refused.Refusal). result_unwrap_or x 0) (given_one r n e)
 
 -- the work area and the list that are lent
 abbrev pub area : List ℤ
@@ -52,9 +52,6 @@ module _ (g : Grid) (taken : Taken g.rows g.columns g.values) where
   clicks_answer openings-first = ap (λ (o : Option Refusal). (unless_listed o area list (priced_round openings-first g area list)).answer) (sym list_fine)
 
 -- ---- a price by its parts
-
-pub zeros_after : (f : Refusal) (p : Price) → p.number ≡ number_of f → p.units ≡ 0 → p.greedy ≡ 0 → p.openings-first ≡ 0 → (g : Grid) → p ≡ price_or (some f) g
-zeros_after f p n u k o g = λ i. record { number = n i; units = u i; greedy = k i; openings-first = o i }
 
 pub by_figures : (g : Grid) (p : Price) → p.number ≡ 0 → p.units ≡ three_bv g → p.greedy ≡ length (moves_of (greedy_steps g)) → p.openings-first ≡ length (moves_of (openings_first_steps g)) → p ≡ price_or none g
 by_figures g p n u k o = λ i. record { number = n i; units = u i; greedy = k i; openings-first = o i }

@@ -4,11 +4,10 @@ ghost use Rattle.line_prices.specs.Blocks.{block_call, end_call};
 ghost use Rattle.line_prices.specs.Bytes.{Room, block_read, byte_read, desk_at, desk_of};
 ghost use Rattle.line_prices.specs.Answers.{KeepsDesk, answered_answer};
 
-use crate::Answered;
 use refusals::Refusal;
 
 // How much is kept of the line that goes on, and how much is to be printed.
-#[derive(Drop)]
+#[derive(Clone, Copy, Debug, PartialEq, Eq)]
 pub struct Place {
     pub count: usize,
     pub written: usize,
@@ -56,51 +55,51 @@ fn read_block(block: &[u8], held: &mut [u8], count: usize, out: &mut [u8]) -> Pl
     ensures { desk_at held.new result out.new ≡ block_read (desk_of held.old count out.old) block.now }
 {
     let mut place = Place { count, written: 0 };
-    let mut i = 0;
-    while i < block.len() {
-        place = read_byte(block[i], held, out, place);
-        i += 1;
+    for byte in block {
+        place = read_byte(*byte, held, out, place);
     }
     place
 }
 
 // A block of input: the lines that end in it are answered, and what goes on is kept.
-pub fn answer_block(block: &[u8], held: &mut [u8], count: usize, out: &mut [u8]) -> Answered
+pub fn answer_block(
+    block: &[u8],
+    held: &mut [u8],
+    count: usize,
+    out: &mut [u8],
+) -> Result<Place, Refusal>
     ensures { KeepsDesk (block_call block.now held.old count out.old) (answered_answer result) held.new out.new }
 {
     if held.len() < 517 {
-        return Answered::Refused(Refusal::Work);
+        return Err(Refusal::Work);
     }
     if 517 < count {
-        return Answered::Refused(Refusal::Work);
+        return Err(Refusal::Work);
     }
     if out.len() / 15 < block.len() {
-        return Answered::Refused(Refusal::Trace);
+        return Err(Refusal::Trace);
     }
-    let place = read_block(block, held, count, out);
-    let kept = place.count;
-    let written = place.written;
-    Answered::Kept(kept, written)
+    Ok(read_block(block, held, count, out))
 }
 
 // The end of input: a line that goes on is answered as if its line feed were there.
-pub fn answer_end(held: &[u8], count: usize, out: &mut [u8]) -> Answered
+pub fn answer_end(held: &[u8], count: usize, out: &mut [u8]) -> Result<Place, Refusal>
     ensures { KeepsDesk (end_call held.now count out.old) (answered_answer result) held.now out.new }
 {
     if held.len() < 517 {
-        return Answered::Refused(Refusal::Work);
+        return Err(Refusal::Work);
     }
     if 517 < count {
-        return Answered::Refused(Refusal::Work);
+        return Err(Refusal::Work);
     }
     if out.len() < 15 {
-        return Answered::Refused(Refusal::Trace);
+        return Err(Refusal::Trace);
     }
     if count == 0 {
-        return Answered::Kept(0, 0);
+        return Ok(Place {
+            count: 0,
+            written: 0,
+        });
     }
-    let place = end_line(held, out, Place { count, written: 0 });
-    let kept = place.count;
-    let written = place.written;
-    Answered::Kept(kept, written)
+    Ok(end_line(held, out, Place { count, written: 0 }))
 }

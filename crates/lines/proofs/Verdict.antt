@@ -13,7 +13,7 @@ use lib.Seq.{take_all}
 use borrow.Author.Tests.{eq-eqb, eqb-false, eqb-true, le-ltb, lt-ltb, ltb-false, ne_eqb, not-false}
 use Rattle.game.specs.Lists.{some_of}
 use Rattle.game.specs.Grid.{size}
-use Rattle.game.specs.Calls.{Refusal, first_given, frame, shape, side_out, size_over}
+use Rattle.game.specs.Calls.{Refusal, first_given, frame, number_of, shape, side_out, size_over}
 use Rattle.game.proofs.Checks.{side_in}
 use Rattle.game.proofs.Truth.{or_no}
 use Rattle.hex_digits.specs.Hex.{bytes_of, is_wrong}
@@ -205,6 +205,28 @@ passed line e =
       few = ltb-false 2048 (cells_of line) q.2;
       bytes = omega arith;
     }
+
+-- a refusal's number, 0 for none
+abbrev pub number_if : Option Refusal → ℕ
+number_if none = 0
+number_if (some f) = number_of f
+
+-- a line's refusals have the numbers to 9
+pub line_numbers : (line : List ℕ) → number_if (line_refusal line) ≤ 9
+unfolding line_refusal grid_of_bytes
+line_numbers line =
+    go (some_of is_wrong line) (eqb (length line % 2) 1) (ltb (length line) 4 || ltb 516 (length line)) (side_out (rows_byte line) || side_out (columns_byte line))
+    (ltb 2048 (cells_of line)) (not (eqb (length (bytes_of line)) (2 + bit_bytes (cells_of line)))) (padding_set line)
+  where
+    go : (a b c s o n p : Bool) → number_if (verdict a b c s o n p) ≤ 9
+    go true b c s o n p = omega arith
+    go false true c s o n p = omega arith
+    go false false true s o n p = omega arith
+    go false false false true o n p = omega arith
+    go false false false false true n p = omega arith
+    go false false false false false true p = omega arith
+    go false false false false false false true = omega arith
+    go false false false false false false false = omega arith
 
 -- a grid's values are as many as its cells
 pub length_values : (line : List ℕ) → length (line_grid line).values ≡ size (line_grid line)

@@ -8,33 +8,33 @@ use Rattle.board_reader.proofs.answer_some.Goals as goal
 pub slice_bounds-print-end : goal.slice_bounds-print-end
 slice_bounds-print-end c =
     let a = c.args in
-    let b = c.answer_block-answered in
-    (block_left a.kept c.requires.sofar a.block.now a.out.now c.requires.block_in_bounds b.new.held b.new.out c.in-Kept.count c.in-Kept.written c.in-Kept.ensures).inside
+    let b = c.answer_block in
+    (block_left a.kept c.requires.sofar a.block.now a.out.now c.requires.block_in_bounds b.new.held b.new.out c.in-Ok.field-0.count c.in-Ok.field-0.written c.in-Ok.ensures).inside
 
-pub slice_bounds-print-end-in-Kept : goal.slice_bounds-print-end-in-Kept
-slice_bounds-print-end-in-Kept c =
+pub slice_bounds-print-end-in-Ok : goal.slice_bounds-print-end-in-Ok
+slice_bounds-print-end-in-Ok c =
     let a = c.args in
-    let b = c.answer_block-answered in
+    let b = c.answer_block in
     sym
     (length-take-le _ _
-    (block_left a.kept c.requires.sofar a.block.now a.out.now c.requires.block_in_bounds b.new.held b.new.out c.in-Kept.count c.in-Kept.written c.in-Kept.ensures).inside)
+    (block_left a.kept c.requires.sofar a.block.now a.out.now c.requires.block_in_bounds b.new.held b.new.out c.in-Ok.field-0.count c.in-Ok.field-0.written c.in-Ok.ensures).inside)
 
 pub print-went-requires : goal.print-went-requires
 print-went-requires c =
     let a = c.args in
-    let b = c.answer_block-answered in
-    (block_left a.kept c.requires.sofar a.block.now a.out.now c.requires.block_in_bounds b.new.held b.new.out c.in-Kept.count c.in-Kept.written c.in-Kept.ensures).says
+    let b = c.answer_block in
+    (block_left a.kept c.requires.sofar a.block.now a.out.now c.requires.block_in_bounds b.new.held b.new.out c.in-Ok.field-0.count c.in-Ok.field-0.written c.in-Ok.ensures).says
 
-pub returns-in-Refused : goal.returns-in-Refused
-returns-in-Refused c =
+pub returns-in-Err : goal.returns-in-Err
+returns-in-Err c =
     let a = c.args in
-    let b = c.answer_block-answered in
-    absurd (block_passed a.kept c.requires.sofar a.block.now a.out.now c.requires.block_in_bounds b.new.held b.new.out (named c.in-Refused.field-0) c.in-Refused.ensures)
+    let b = c.answer_block in
+    absurd (block_passed a.kept c.requires.sofar a.block.now a.out.now c.requires.block_in_bounds b.new.held b.new.out (named c.in-Err.field-0) c.in-Err.ensures)
 
-pub returns-in-Kept : goal.returns-in-Kept
-returns-in-Kept c =
+pub returns-in-Ok : goal.returns-in-Ok
+returns-in-Ok c =
     let a = c.args in
-    let b = c.answer_block-answered in
+    let b = c.answer_block in
     let h = c.print-went.ensures in
-    let k = (block_left a.kept c.requires.sofar a.block.now a.out.now c.requires.block_in_bounds b.new.held b.new.out c.in-Kept.count c.in-Kept.written c.in-Kept.ensures).keeps in
+    let k = (block_left a.kept c.requires.sofar a.block.now a.out.now c.requires.block_in_bounds b.new.held b.new.out c.in-Ok.field-0.count c.in-Ok.field-0.written c.in-Ok.ensures).keeps in
     record { written = h.written; comes = λ i. record { kept = k i; went = h.comes i } }

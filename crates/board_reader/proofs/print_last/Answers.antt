@@ -7,16 +7,16 @@ use Rattle.board_reader.proofs.print_last.Goals as goal
 pub slice_bounds-print-end : goal.slice_bounds-print-end
 slice_bounds-print-end c =
     let a = c.args in
-    (end_left a.kept c.requires.sofar a.out.now c.requires.in_bounds a.kept.bytes c.answer_end-answered.new.out c.in-Kept.field-0 c.in-Kept.written c.in-Kept.ensures).inside
+    (end_left a.kept c.requires.sofar a.out.now c.requires.in_bounds a.kept.bytes c.answer_end.new.out c.in-Ok.field-0.count c.in-Ok.field-0.written c.in-Ok.ensures).inside
 
-pub slice_bounds-print-end-in-Kept : goal.slice_bounds-print-end-in-Kept
-slice_bounds-print-end-in-Kept c =
+pub slice_bounds-print-end-in-Ok : goal.slice_bounds-print-end-in-Ok
+slice_bounds-print-end-in-Ok c =
     let a = c.args in
     sym
     (length-take-le _ _
-    (end_left a.kept c.requires.sofar a.out.now c.requires.in_bounds a.kept.bytes c.answer_end-answered.new.out c.in-Kept.field-0 c.in-Kept.written c.in-Kept.ensures).inside)
+    (end_left a.kept c.requires.sofar a.out.now c.requires.in_bounds a.kept.bytes c.answer_end.new.out c.in-Ok.field-0.count c.in-Ok.field-0.written c.in-Ok.ensures).inside)
 
 pub print-requires : goal.print-requires
 print-requires c =
     let a = c.args in
-    (end_left a.kept c.requires.sofar a.out.now c.requires.in_bounds a.kept.bytes c.answer_end-answered.new.out c.in-Kept.field-0 c.in-Kept.written c.in-Kept.ensures).says
+    (end_left a.kept c.requires.sofar a.out.now c.requires.in_bounds a.kept.bytes c.answer_end.new.out c.in-Ok.field-0.count c.in-Ok.field-0.written c.in-Ok.ensures).says

@@ -3,9 +3,9 @@ use Rattle.std.proofs.Common.{arith}
 use Rattle.board_reader.proofs.Turning.{turn_sofar}
 use Rattle.board_reader.proofs.read_all.Goals as goal
 
-pub loop-turns-preserved : goal.loop-turns-preserved
-loop-turns-preserved c =
-    let l = c.loop-turns in
+pub loop-preserved : goal.loop-preserved
+loop-preserved c =
+    let l = c.loop in
     let r = c.read_some-turn in
     record {
       sofar = turn_sofar l.turn.kept l.invariant.sofar r.new.block r.result r.ensures;

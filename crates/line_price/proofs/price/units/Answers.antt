@@ -2,10 +2,10 @@
 use mathlib.Core.Path.{◌∙◌}
 use Rattle.game.specs.Openings.{three_bv}
 use Rattle.area.specs.Numbers.{grid_of}
-use Rattle.line_price.proofs.Figures.{units_answer}
+use Rattle.line_price.proofs.Figures.{units_answer, value_given}
 use Rattle.line_price.proofs.price.units.Goals as goal
 
 pub returns : goal.returns
 returns c =
     let g = grid_of c.args.rows c.args.columns c.args.grid.now in
-    c.units_of.ensures (three_bv g) (c.three_bv-counted.ensures.answers ∙ units_answer g c.requires)
+    c.unwrap_or.ensures ∙ value_given c.three_bv.result (three_bv g) (c.three_bv.ensures.answers ∙ units_answer g c.requires)

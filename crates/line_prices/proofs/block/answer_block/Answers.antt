@@ -22,15 +22,15 @@ returns-then-out-block c =
     block_refused a.block.now a.held.now a.count a.out.now trace
     (short_out a.held.now a.count a.out.now (length a.block.now) c.if-held-lt517.false c.if-count-gt517.false (short_by (length a.out.now) (length a.block.now) c.if-out-block.true))
 
-pub read_block-place-requires : goal.read_block-place-requires
-read_block-place-requires c =
+pub read_block-requires : goal.read_block-requires
+read_block-requires c =
     let a = c.args in
     record { held_room = c.if-held-lt517.false; few = c.if-count-gt517.false; out_room = omega (arith, room_by (length a.out.now) (length a.block.now) c.if-out-block.false) }
 
 pub returns : goal.returns
 returns c =
     let a = c.args in
-    let r = c.read_block-place in
+    let r = c.read_block in
     block_kept a.block.now a.held.now a.count a.out.now (desk_at r.new.held r.result r.new.out)
     (fine a.held.now a.count a.out.now (length a.block.now) c.if-held-lt517.false c.if-count-gt517.false (room_by (length a.out.now) (length a.block.now) c.if-out-block.false))
     r.ensures

@@ -28,7 +28,7 @@ returns-then-count-eq0 c =
 pub returns : goal.returns
 returns c =
     let a = c.args in
-    let r = c.end_line-place in
+    let r = c.end_line in
     end_answered a.held.now a.count a.out.now (desk_at a.held.now r.result r.new.out)
     (fine a.held.now a.count a.out.now 1 c.if-held-lt517.false c.if-count-gt517.false (omega (arith, c.if-out-lt15.false))) c.if-count-eq0.false
     r.ensures
