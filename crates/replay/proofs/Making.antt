@@ -53,9 +53,6 @@ module _ (rows columns : ℕ) (g : Grid) (s : Position) (old w : List ℤ) (i : 
   pub unflag_refused : (n : ℕ) → n ≡ state_at w i → (n ≡ 2 → ⊥) → Making rows columns g s old (allowed g s (unflag i)) (some (unflag i)) None w w
   unflag_refused n e z = refused (unflag i) (state_not n 2 e z)
 
-  pub chord_refused : (b : Bool) → b ≡ chordable g s i → b ≡ false → Making rows columns g s old (allowed g s (chord i)) (some (chord i)) None w w
-  chord_refused b e f = refused (chord i) (λ t. subst T (sym e ∙ f) t)
-
   -- ---- F, and the taking away of a flag
 
   -- another state, neither opened nor an opened mine, as the one before
