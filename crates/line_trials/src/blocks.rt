@@ -1,5 +1,5 @@
 // Board lines answered in blocks of one size or another: the answers, or their count and a sum of them.
-use line_prices::Place;
+use line_prices::block::Place;
 use refusals::Refusal;
 
 // What is kept of the line that goes on, how many bytes were to be printed, and a sum of them.
