@@ -3,12 +3,10 @@ use Prim.Native.Nat.{ℕ, ◌%◌, ◌*◌, ◌+◌, ◌-◌, ◌/◌, ◌<◌, 
 use native.Mathlib.Omega.{arith}
 use mathlib.Core.Path.{◌≡◌, ◌∙◌, ap, refl, sym}
 use mathlib.Core.Logic.{◌⊎◌, ⊎_elim}
-use mathlib.Core.Bool.{Bool}
 use mathlib.Core.List.{List, [], ◌∷◌, ◌++◌, append_assoc, append-nil, map, map-append}
 use Rattle.game.specs.Grid.{Grid, column_of, index, near, row_of, square}
-use Rattle.game.specs.Lists.{bit, concat_map, count, fold, range, some_of}
-use Rattle.game.proofs.Counts.{count_append}
-use Rattle.game.proofs.Members.{fold_append, range_more, range_none, some_concat, some_map}
+use Rattle.game.specs.Lists.{concat_map, fold, range}
+use Rattle.game.proofs.Members.{fold_append, range_more, range_none}
 use Rattle.game.proofs.Squares.{column_lt, row_lt}
 use Rattle.area.specs.Numbers.{grid_of}
 use Rattle.area.specs.Squares.{Around, block_cells, row_cells, square_of}
@@ -87,29 +85,3 @@ pub block_on : {S : Type 0} (f : S → ℕ → S) (s t u : S) (rows y k a b : �
 block_on f s t u rows y k a b h e q =
     q ∙ ap (λ x. fold f x (row_cells rows k a b)) e ∙ sym (fold_append f s (block_cells rows y k a b) (row_cells rows k a b))
     ∙ sym (ap (fold f s) (block_more rows y k a b h))
-
--- ---- what is counted
-
-pub count_row : (f : ℕ → Bool) (rows row a k n b : ℕ) → a ≤ k → n ≡ count f (row_cells rows row a k) → b ≡ bit (f (k * rows + row))
-    → n + b ≡ count f (row_cells rows row a (k + 1))
-count_row f rows row a k n b h e q =
-    omega (arith, ap (count f) (row_more rows row a k h), count_append f (row_cells rows row a k) ((k * rows + row) ∷ []))
-
-pub count_block : (f : ℕ → Bool) (rows y k a b n m : ℕ) → y ≤ k → n ≡ count f (block_cells rows y k a b) → m ≡ count f (row_cells rows k a b)
-    → n + m ≡ count f (block_cells rows y (k + 1) a b)
-count_block f rows y k a b n m h e q =
-    omega (arith, ap (count f) (block_more rows y k a b h), count_append f (block_cells rows y k a b) (row_cells rows k a b))
-
--- ---- what is looked for
-
--- a row, column after column
-pub some_row : (f : ℕ → Bool) (rows row a b : ℕ) → some_of (λ column. f (column * rows + row)) (range a b) ≡ some_of f (row_cells rows row a b)
-unfolding row_cells
-some_row f rows row a b = sym (some_map f (λ column. column * rows + row) (range a b))
-
--- a square, row after row
-pub some_square : (f : ℕ → Bool) (rows columns i first last a b : ℕ) → Around rows columns i first last a b
-    → some_of (λ row. some_of f (row_cells rows row a b)) (range first last) ≡ some_of f (square_of rows columns i)
-unfolding block_cells
-some_square f rows columns i first last a b s =
-    sym (ap (some_of f) s.cells ∙ some_concat f (λ row. row_cells rows row a b) (range first last))

@@ -1,11 +1,10 @@
 -- A test added to a count: one place more is counted. Assumes nothing.
 use Prim.Native.Nat.{ℕ, ◌+◌, ◌≤◌}
 use native.Mathlib.Omega.{arith}
-use mathlib.Core.Path.{◌≡◌, refl, sym, ap}
+use mathlib.Core.Path.{◌≡◌, refl, ap}
 use mathlib.Core.Bool.{Bool, true, false}
 use mir.Val.{bool_byte}
 use Rattle.game.specs.Lists.{bit, count, range}
-use Rattle.game.proofs.Members.{range_none}
 use Rattle.game.proofs.Counts.{count_more}
 
 byte_bit : (b : Bool) → bool_byte b ≡ bit b
@@ -15,10 +14,6 @@ byte_bit false = refl
 pub byte_le : (b : Bool) → bool_byte b ≤ 1
 byte_le true = omega arith
 byte_le false = omega arith
-
--- nothing is counted before the first place
-pub count_none_yet : (f : ℕ → Bool) (a : ℕ) → 0 ≡ count f (range a a)
-count_none_yet f a = sym (ap (count f) (range_none a))
 
 -- one place more
 pub count_one_more : (f : ℕ → Bool) (a b m : ℕ) (r : Bool) → a ≤ b → m ≡ count f (range a b) → r ≡ f b → m + bool_byte r ≡ count f (range a (b + 1))

@@ -6,9 +6,7 @@ pub mod five; // a cell's five numbers by name
 pub mod mines; // the mines of the grid
 pub mod squares; // a cell by its row and column, and its square
 pub mod shifts; // the premiums of a square, up or down
-pub mod counts; // numbers alone
 
-pub use counts::fewer;
 pub use five::{
     content, first_label, premium, put_content, put_first_label, put_lowered, put_premium,
     put_second_label, put_state, put_waiting, second_label, state, waiting,
