@@ -10,7 +10,7 @@ use Rattle.game.proofs.Keys.{keyed_places}
 use Rattle.supplies.specs.declared.Supply.{Supply}
 use Rattle.supplies.specs.Origins.{GrownBy, KeyRoom, Origin, bytes_lent, key_given, source_of}
 use Rattle.random.specs.declared.Finish.{Finish}
-use Rattle.std.specs.Prelude.{None, Some, is_some}
+use Rattle.std.specs.Prelude.{Some, is_some}
 use Rattle.random.specs.Promises.{RoundGrows}
 
 -- either origin draws among the places
@@ -46,9 +46,6 @@ module _ (s : Supply) (units : ℕ) (s' : Supply) (closed : ℕ) (p : Spent s un
 -- what the answer of a round tells
 pub round_ended : (s : Supply) (finish : Finish) → GrownBy (2 ^ 24) s finish.supply → RoundGrows s (Some finish)
 round_ended s finish g = record { ended = λ f e. let q : finish ≡ f = cc e in subst (λ (x : Finish). GrownBy (2 ^ 24) s x.supply) q g }
-
-pub round_dry : (s : Supply) → RoundGrows s None
-round_dry s = record { ended = λ f e. cc e }
 
 -- as much room by another name
 pub room_kept : (more more' : ℕ) (s : Supply) → more ≡ more' → KeyRoom (2 ^ 24 * more) s → KeyRoom (2 ^ 24 * more') s

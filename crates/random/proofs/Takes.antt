@@ -164,7 +164,3 @@ module _ (rows columns : ℕ) (g : Grid) (s : Position) (old w : List ℤ) (orig
 pub went_grows : (s : Supply) (r : Code.Option Dealt) (dealt : Dealt) (t : State) → DrawGrows s r → r ≡ Some dealt → StepGrows s (Some (record { state = t; supply = dealt.supply }))
 went_grows s r dealt t d e =
     record { went = λ o f. let q : record { state = t; supply = dealt.supply } ≡ o = cc f in subst (λ (x : Onward). GrownBy 256 s x.supply) q (d.took dealt e) }
-
--- one that ran dry says nothing of it
-pub dry_grows : (s : Supply) → StepGrows s None
-dry_grows s = record { went = λ o f. cc f }
