@@ -43,7 +43,7 @@ pub wait-waiting-requires-clause-work_bound : goal.wait-waiting-requires-clause-
 wait-waiting-requires-clause-work_bound c =
     let a = c.args in
     let l = c.loop-near in
-    let p = c.before.before.before.before in
+    let p = (goal.at.wait-waiting-requires-clause-work_bound c).In-Some in
     let v = visitable p in
     border_places (shaped a.rows a.columns) a.op c.requires.ready.some_label a.index l.work c.border.new.work c.in-Some.near l.waiting v.inside v.zero-cell (beside p) (room p) v.places c.border.ensures
 
@@ -52,7 +52,7 @@ loop-near-preserved c =
     let a = c.args in
     let l = c.loop-near in
     let near = c.in-Some.near in
-    let p = c.before.before.before.before.before.before in
+    let p = (goal.at.loop-near-preserved c).In-Some in
     let v = visitable p in
     let g = shaped a.rows a.columns in
     let o = c.requires.ready.some_label in
