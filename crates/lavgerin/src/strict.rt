@@ -17,7 +17,7 @@ pub extern "C" fn lavgerin_strict_three_bv(
     ensures { Returned (strict_three_bv_call (grid_of rows columns grid.now) work.old) result work.new units.old units.new }
 {
     let answer = zini::strict::three_bv(rows, columns, grid, work);
-    c_answers::tell_units(answer, units)
+    c_answers::tell_count(answer, units)
 }
 
 // Whether 3BV of a grid is at least so many units, 1 or 0.
@@ -49,7 +49,7 @@ fn price(
     ensures { ReturnedList (strict_price_call openings_first (grid_of rows columns grid.now) work.old list.old) result work.new list.new clicks.old clicks.new }
 {
     let answer = zini::strict::price(rows, columns, grid, work, list, openings_first);
-    c_answers::tell_clicks(answer, clicks)
+    c_answers::tell_count(answer, clicks)
 }
 
 // Greedy ZiNi: its clicks, and its moves in the list.
@@ -195,5 +195,5 @@ pub extern "C" fn lavgerin_strict_write_mbf(
     ensures { ReturnedRun (strict_write_file_call (grid_of rows columns grid.now) file.old) result file.new written.old written.new }
 {
     let answer = mbf::strict_write(rows, columns, grid, file);
-    c_answers::tell_file(answer, written)
+    c_answers::tell_count(answer, written)
 }

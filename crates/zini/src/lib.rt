@@ -1,7 +1,7 @@
-// The public calls under one name: each checks its input in the order of RULES 8, and answers an enum.
+// The public calls under one name: each checks its input in the order of RULES 8, and answers a Result.
 #![tactic(auto)]
 
-pub use answers::{Counted, Judged, KeyRolled, Priced, Replayed, Rolled};
+pub use answers::{KeyRoll, Played, Roll, Unplayed};
 pub use count_call::count; // 3BV, and whether it is at least so many units
 pub use price_calls::prices; // greedy and openings-first rounds
 pub use replay_call::replays; // a stored list played on a board

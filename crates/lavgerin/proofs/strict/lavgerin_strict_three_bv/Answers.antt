@@ -3,4 +3,4 @@ use Rattle.c_answers.proofs.Returns.{returned}
 use Rattle.lavgerin.proofs.strict.lavgerin_strict_three_bv.Goals as goal
 
 pub returns : goal.returns
-returns c = returned c.three_bv-answer.ensures c.tell_units.ensures
+returns c = returned c.three_bv-answer.ensures c.tell_count.ensures

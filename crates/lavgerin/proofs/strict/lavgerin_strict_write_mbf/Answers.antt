@@ -3,4 +3,4 @@ use Rattle.c_answers.proofs.Returns.{returned_run}
 use Rattle.lavgerin.proofs.strict.lavgerin_strict_write_mbf.Goals as goal
 
 pub returns : goal.returns
-returns c = returned_run c.strict_write-answer.ensures c.tell_file.ensures
+returns c = returned_run c.strict_write-answer.ensures c.tell_count.ensures
