@@ -18,7 +18,7 @@ fn units(rows: usize, columns: usize, grid: &[i32]) -> usize
     ensures { result ≡ three_bv (grid_of rows columns grid.now) }
 {
     let mut work = [0i32; 10240];
-    count_call::count::three_bv(rows, columns, grid, &mut work).unwrap_or(0)
+    zini::count::three_bv(rows, columns, grid, &mut work).unwrap_or(0)
 }
 
 // Greedy or openings-first clicks of a board that was taken, which is never refused.
@@ -28,7 +28,7 @@ fn clicks(rows: usize, columns: usize, grid: &[i32], openings_first: bool) -> us
 {
     let mut work = [0i32; 10240];
     let mut list = [0u32; 2048];
-    price_calls::prices::price(rows, columns, grid, &mut work, &mut list, openings_first).unwrap_or(
+    zini::prices::price(rows, columns, grid, &mut work, &mut list, openings_first).unwrap_or(
         0,
     )
 }

@@ -14,7 +14,7 @@ pub struct Price {
 }
 
 // A number and a price as fourteen digits put at a place of a lent run, where they have room.
-fn put_figures(out: &mut [u8], at: usize, number: u8, price: Price)
+pub fn put_figures(out: &mut [u8], at: usize, number: usize, price: Price)
     ensures { out.new ≡ put_digits at (price_digits (figures number price)) out.old }
 {
     if out.len() < 14 {
@@ -23,7 +23,7 @@ fn put_figures(out: &mut [u8], at: usize, number: u8, price: Price)
     if out.len() - 14 < at {
         return;
     }
-    hex_digits::put_byte(out, at, number as usize);
+    hex_digits::put_byte(out, at, number % 256);
     hex_digits::put_two(out, at + 2, price.units);
     hex_digits::put_two(out, at + 6, price.greedy);
     hex_digits::put_two(out, at + 10, price.openings_first);
@@ -41,7 +41,7 @@ pub fn put_price(out: &mut [u8], at: usize, priced: Result<Price, Refusal>)
                 greedy: 0,
                 openings_first: 0,
             };
-            put_figures(out, at, number_of(refusal), zeros);
+            put_figures(out, at, usize::from(number_of(refusal)), zeros);
         }
     }
 }
