@@ -3,3 +3,4 @@ pub mod Takes
 pub mod Courses
 pub mod Searches
 pub mod Finishes
+pub mod Turns

@@ -49,15 +49,15 @@ reset_fresh rows columns w w' units f q =
     }
 
 -- a round that ended was drawn to its end, and its supply stands there
-record Drawn (rows columns : ℕ) (g : Grid) (old : List ℤ) (origin : Origin) (source : Source) (at : ℕ) (w' : List ℤ) (ended : Finish) : Type 0 where
-  round : Round
-  drew : random_round g source at ≡ some round
-  stands : Stands rows columns g (after g (untouched g) (moves_of round.steps)) old w'
-  clicks : ended.clicks ≡ length (moves_of round.steps)
-  reads : Reads origin round.next ended.supply
+pub record Drawn (rows columns : ℕ) (g : Grid) (old : List ℤ) (origin : Origin) (source : Source) (at : ℕ) (w' : List ℤ) (ended : Finish) : Type 0 where
+  pub round : Round
+  pub drew : random_round g source at ≡ some round
+  pub stands : Stands rows columns g (after g (untouched g) (moves_of round.steps)) old w'
+  pub clicks : ended.clicks ≡ length (moves_of round.steps)
+  pub reads : Reads origin round.next ended.supply
 
 module _ (rows columns : ℕ) (g : Grid) (old : List ℤ) (origin : Origin) (source : Source) (at : ℕ) (w' : List ℤ) (r : Code.Option Finish) (q : Searching rows columns g old origin (once (random_round g source at)) w' r) where
-  drawn : (ended : Finish) → r ≡ Some ended → Drawn rows columns g old origin source at w' ended
+  pub drawn : (ended : Finish) → r ≡ Some ended → Drawn rows columns g old origin source at w' ended
   drawn ended y = go (random_round g source at) refl q
     where
       go : (o : Option Round) → random_round g source at ≡ o → Searching rows columns g old origin (once o) w' r → Drawn rows columns g old origin source at w' ended
