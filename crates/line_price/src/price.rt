@@ -28,9 +28,7 @@ fn clicks(rows: usize, columns: usize, grid: &[i32], openings_first: bool) -> us
 {
     let mut work = [0i32; 10240];
     let mut list = [0u32; 2048];
-    zini::prices::price(rows, columns, grid, &mut work, &mut list, openings_first).unwrap_or(
-        0,
-    )
+    zini::prices::price(rows, columns, grid, &mut work, &mut list, openings_first).unwrap_or(0)
 }
 
 // The price of a board that was taken.
