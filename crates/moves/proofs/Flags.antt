@@ -10,7 +10,6 @@ use lib.ListN.{get_or, set}
 use lib.Seq.{get_or-set_other}
 use Rattle.area.specs.Squares.{square_of}
 use Rattle.area.specs.Numbers.{content_at, state_at}
-use Rattle.kinds.specs.declared.Kind.TheVariants.{Flag}
 use Rattle.moves.specs.declared.State.{State}
 use Rattle.area.specs.Stages.{Stands}
 use Rattle.game.specs.Grid.{Grid, mine, square}
@@ -85,7 +84,7 @@ module _ (rows columns : ℕ) (w : List ℤ) (list : List ℕ) (t : State) (i : 
   -- a mine without flag
   pub flag_noted : (k m : ℕ) (w' : List ℤ) (list' : List ℕ) (t' : State) → k ≡ content_at w i → k ≡ 0 → m ≡ state_at w i → (m ≡ 2 → ⊥)
       → ((g : Grid) (s : Position) (old : List ℤ) → Stands rows columns g s old w → T (mine g i) → T (closed s i) → Stands rows columns g (play g s (flag i)) old w')
-      → Carried Flag i (record { units = 0 }) list t list' t' → Over flags_from (i ∷ []) rows columns w list t w' list' t'
+      → Carried 2 i (record { units = 0 }) list t list' t' → Over flags_from (i ∷ []) rows columns w list t w' list' t'
   unfolding play
   flag_noted k m w' list' t' ek zk em nm q n = record { made = on }
     where
@@ -98,7 +97,7 @@ module _ (rows columns : ℕ) (w : List ℤ) (list : List ℕ) (t : State) (i : 
           let b : T (closed s i) = shut (closed s i) (sym no ∙ f.mines i ins a) in
           let c : unflagged g s i ≡ true = rw (T→true (mine g i) a, no) in
           subst (λ (ms : List Move). Made rows columns g s old ms list t w' list' t') (sym (ap (FlagsFrom g s i []) c))
-          (made_one rows columns g s old (flag i) Flag refl (record { units = 0 }) list t w' list' t' n (q g s old st a b) (flag_tidy g s i ins a f)
+          (made_one rows columns g s old (flag i) (record { units = 0 }) list t w' list' t' n (q g s old st a b) (flag_tidy g s i ins a f)
           (omega (arith, units_flag g s i a)) e)
         where
           shut : (x : Bool) → false ≡ not x → T x

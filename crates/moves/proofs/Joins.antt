@@ -10,9 +10,6 @@ use lib.ListN.{length, length-append, length-map, set}
 use lib.Seq.{sets}
 use Rattle.play.specs.Promises.{Revealing}
 use Rattle.play.specs.declared.Opened.{Opened}
-use Rattle.kinds.specs.Numbers.{kind_number}
-use Rattle.kinds.specs.declared.Kind.{Kind}
-use Rattle.kinds.specs.declared.Kind.TheVariants.{Left}
 use Rattle.moves.specs.declared.State.{State}
 use Rattle.area.specs.Stages.{Stands}
 use Rattle.game.specs.Grid.{Grid, safe}
@@ -35,18 +32,18 @@ module _ (rows columns : ℕ) (g : Grid) (s : Position) (old : List ℤ) where
       → Made rows columns g s old [] list t w list t
   made_none w list t st f e = record { stands = st; tidy = f; noted = refl; clicks = omega arith; left_units = e }
 
-  pub made_one : (m : Move) (kind : Kind) → kind_number kind ≡ kind_of m → (opened : Opened) (list : List ℕ) (t : State) (w' : List ℤ) (list' : List ℕ) (t' : State) → Carried kind (cell_of m) opened list t list' t'
+  pub made_one : (m : Move) (opened : Opened) (list : List ℕ) (t : State) (w' : List ℤ) (list' : List ℕ) (t' : State) → Carried (kind_of m) (cell_of m) opened list t list' t'
       → Stands rows columns g (play g s m) old w' → Tidy g (play g s m) → opened.units + closed_units g (play g s m) ≡ closed_units g s → t.units ≡ closed_units g s
       → Made rows columns g s old (m ∷ []) list t w' list' t'
-  made_one m kind n opened list t w' list' t' c st f k e =
-      record { stands = st; tidy = f; noted = rw n at c.written; clicks = c.one_more; left_units = omega (arith, c.fewer) }
+  made_one m opened list t w' list' t' c st f k e =
+      record { stands = st; tidy = f; noted = c.written; clicks = c.one_more; left_units = omega (arith, c.fewer) }
 
   -- L on a safe cell is its reveal
-  pub made_left : (i : ℕ) (opened : Opened) (list : List ℕ) (t : State) (w' : List ℤ) (list' : List ℕ) (t' : State) → T (safe g i) → Carried Left i opened list t list' t'
+  pub made_left : (i : ℕ) (opened : Opened) (list : List ℕ) (t : State) (w' : List ℤ) (list' : List ℕ) (t' : State) → T (safe g i) → Carried 1 i opened list t list' t'
       → Revealing rows columns g s old i opened w' → t.units ≡ closed_units g s → Made rows columns g s old (left i ∷ []) list t w' list' t'
   made_left i opened list t w' list' t' k c r e =
       let p = play_left g s i k in
-      made_one (left i) Left refl opened list t w' list' t' c (rw p r.stands) (rw p r.tidy) (rw p r.taken_units) e
+      made_one (left i) opened list t w' list' t' c (rw p r.stands) (rw p r.tidy) (rw p r.taken_units) e
 
   pub made_both : (ms ns : List Move) (list : List ℕ) (t : State) (v : List ℤ) (l : List ℕ) (u : State) (w' : List ℤ) (list' : List ℕ) (t' : State)
       → Made rows columns g s old ms list t v l u → Made rows columns g (after g s ms) old ns l u w' list' t'

@@ -5,14 +5,12 @@ use Rattle.game.specs.Grid.{Grid}
 use Rattle.game.specs.Position.{Position, Tidy, closed_units}
 use Rattle.game.specs.Moves.{Move, after, word}
 use Rattle.area.specs.Stages.{Stands}
-use Rattle.kinds.specs.Numbers.{kind_number}
-use Rattle.kinds.specs.declared.Kind.{Kind}
 use Rattle.play.specs.declared.Opened.{Opened}
 use Rattle.moves.specs.declared.State.{State}
 
 -- a move of a kind was noted, and the state carried on: one move more, the units taken fewer closed
-pub record Carried (kind : Kind) (index : ℕ) (opened : Opened) (list : List ℕ) (t : State) (list' : List ℕ) (t' : State) : Type 0 where
-  pub written : list' ≡ set list t.moves (kind_number kind * 65536 + index)
+pub record Carried (kind index : ℕ) (opened : Opened) (list : List ℕ) (t : State) (list' : List ℕ) (t' : State) : Type 0 where
+  pub written : list' ≡ set list t.moves (kind * 65536 + index)
   pub one_more : t'.moves ≡ t.moves + 1
   pub fewer : t'.units ≡ t.units - opened.units
 

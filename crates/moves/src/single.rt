@@ -9,7 +9,6 @@ ghost use Rattle.game.specs.Moves.{left, flag, chord};
 ghost use Rattle.game.specs.Rounds.{moves_at};
 ghost use Rattle.area.specs.Stages.{Shape, Stands};
 ghost use Rattle.play.specs.Promises.{MinesFlagged};
-ghost use Rattle.kinds.specs.Numbers.{kind_number};
 ghost use Rattle.moves.specs.Promises.{Carried, Made};
 ghost use Rattle.moves.specs.Walks.{Over, flags_from};
 
@@ -19,19 +18,19 @@ use play::Opened;
 use squares::Square;
 
 // Notes a move, if the list has room for it.
-pub fn note(list: &mut [u32], at: usize, kind: Kind, index: usize)
-    requires { index < 65536 }
-    ensures { list.new ≡ set list.old at (kind_number kind * 65536 + index) }
+pub fn note(list: &mut [u32], at: usize, kind: u32, index: usize)
+    requires { (kind ≤ 3) × (index < 65536) }
+    ensures { list.new ≡ set list.old at (kind * 65536 + index) }
 {
     if at >= list.len() {
         return;
     }
-    list[at] = u32::from(kind) * 65536 + index as u32;
+    list[at] = kind * 65536 + index as u32;
 }
 
 // Notes a move, and carries the state on: one move more, and the units that it took fewer.
-pub fn carry_on(list: &mut [u32], state: State, kind: Kind, index: usize, opened: Opened) -> State
-    requires { (index < 65536) × (state.moves ≤ 2 ^ 48) }
+pub fn carry_on(list: &mut [u32], state: State, kind: u32, index: usize, opened: Opened) -> State
+    requires { (kind ≤ 3) × (index < 65536) × (state.moves ≤ 2 ^ 48) }
     ensures { Carried kind index opened list.old state list.new result }
 {
     note(list, state.moves, kind, index);
@@ -58,7 +57,7 @@ pub fn click(
         → Made rows columns g s old (left index ∷ []) list.old state work.new list.new result }
 {
     let opened = play::reveal(work, rows, columns, index);
-    carry_on(list, state, Kind::Left, index, opened)
+    carry_on(list, state, u32::from(Kind::Left), index, opened)
 }
 
 // L, if the cell is closed.
@@ -104,7 +103,7 @@ pub fn flag_mine(
         return state;
     }
     play::flag(work, rows, columns, index);
-    carry_on(list, state, Kind::Flag, index, Opened { units: 0 })
+    carry_on(list, state, u32::from(Kind::Flag), index, Opened { units: 0 })
 }
 
 // F on each mine without flag of a square, by row, then column.
@@ -144,7 +143,7 @@ pub fn chord_on(
         → Made rows columns g s old (chord index ∷ []) list.old state work.new list.new result }
 {
     let opened = play::chord(work, rows, columns, index);
-    carry_on(list, state, Kind::Chord, index, opened)
+    carry_on(list, state, u32::from(Kind::Chord), index, opened)
 }
 
 // The moves at a chosen cell: L if it is closed, F on each unflagged mine of its square, then C.

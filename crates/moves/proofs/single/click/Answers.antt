@@ -9,4 +9,4 @@ returns-clause-made c =
     let x = c.reveal-opened in
     λ g s old st f t u e.
     made_left a.rows a.columns g s old a.index x.result a.list.now a.state x.new.work y.new.list y.result
-    t y.ensures (x.ensures g s old st f) e
+    t (rw c.from.ensures at y.ensures) (x.ensures g s old st f) e

@@ -16,4 +16,4 @@ pub returns-clause-over : goal.returns-clause-over
 returns-clause-over c =
     let a = c.args in
     flag_noted a.rows a.columns a.work.now a.list.now a.state a.index c.requires.has_cells.1 c.content.result c.state.result c.flag.new.work c.carry_on.new.list
-    c.carry_on.result c.content.ensures.0 c.if-content-ne0.false c.state.ensures.0 c.if-state-eq2.false c.flag.ensures c.carry_on.ensures
+    c.carry_on.result c.content.ensures.0 c.if-content-ne0.false c.state.ensures.0 c.if-state-eq2.false c.flag.ensures (rw c.from.ensures at c.carry_on.ensures)
