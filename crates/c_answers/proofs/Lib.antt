@@ -1,2 +1,3 @@
 -- What the proofs of answers as C sees them share.
 pub mod Returns
+pub mod KeyRuns

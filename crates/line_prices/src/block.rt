@@ -21,7 +21,7 @@ fn end_line(held: &[u8], out: &mut [u8], place: Place) -> Place
     let count = place.count;
     let written = place.written;
     let price = line_price::price::price_line(&held[..count]);
-    lines::price::put_price(out, written, price);
+    lines::price::put_priced(out, written, price);
     out[written + 14] = 10;
     Place {
         count: 0,

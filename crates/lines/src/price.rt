@@ -14,7 +14,7 @@ pub struct Price {
 }
 
 // A number and a price as fourteen digits put at a place of a lent run, where they have room.
-pub fn put_figures(out: &mut [u8], at: usize, number: usize, price: Price)
+pub fn put_price(out: &mut [u8], at: usize, number: usize, price: Price)
     ensures { out.new ≡ put_digits at (price_digits (figures number price)) out.old }
 {
     if out.len() < 14 {
@@ -30,18 +30,18 @@ pub fn put_figures(out: &mut [u8], at: usize, number: usize, price: Price)
 }
 
 // What a line is priced at put at a place of a lent run, where it has room: 00 and the price, or the refusal's number and zeros.
-pub fn put_price(out: &mut [u8], at: usize, priced: Result<Price, Refusal>)
+pub fn put_priced(out: &mut [u8], at: usize, priced: Result<Price, Refusal>)
     ensures { out.new ≡ put_digits at (price_digits (held_price priced)) out.old }
 {
     match priced {
-        Ok(price) => put_figures(out, at, 0, price),
+        Ok(price) => put_price(out, at, 0, price),
         Err(refusal) => {
             let zeros = Price {
                 units: 0,
                 greedy: 0,
                 openings_first: 0,
             };
-            put_figures(out, at, usize::from(number_of(refusal)), zeros);
+            put_price(out, at, usize::from(number_of(refusal)), zeros);
         }
     }
 }

@@ -23,7 +23,7 @@ use Rattle.hex_digits.specs.Hex.{byte_digits}
 use Rattle.lines.specs.Answers.{KeepsGrid}
 use Rattle.lines.specs.BoardLine.{board_line_call, line_grid, line_refusal}
 use Rattle.lines.specs.Outputs.{KeepsRun, RunOutcome}
-use Rattle.lines.proofs.LineRead.{accepted, enough_values, given_one, refused_so, same-grid}
+use Rattle.lines.proofs.LineRead.{accepted, enough_values, given_one, no_refusal, refused_so, same-grid}
 use Rattle.lines.proofs.Verdict.{length_values, passed, side_fine}
 use Rattle.mbf_form.specs.Form.{file_of}
 use Rattle.mbf_form.specs.Calls.{write_file_call}
@@ -44,6 +44,10 @@ module _ (g : Grid) (lent : List ℕ) (passes : first_given (board_checks g) ≡
         counts = ap (λ (x : Result ℕ Refused.Refusal). result_unwrap_or x 0) (given_one r (length (file_of g)) (k.answers ∙ ap (λ (o : RunOutcome). o.answer) writes));
         leaves = k.leaves ∙ ap (λ (o : RunOutcome). o.run) writes;
       }
+
+  -- and is not refused
+  pub file_not_refused : (f : Refusal) (run : List ℕ) → KeepsRun (write_file_call g lent) (refuses f) run → ⊥
+  file_not_refused f run k = no_refusal f (length (file_of g)) [] (k.answers ∙ ap (λ (o : RunOutcome). o.answer) writes)
 
 -- ---- a line read
 

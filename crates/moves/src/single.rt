@@ -103,7 +103,13 @@ pub fn flag_mine(
         return state;
     }
     play::flag(work, rows, columns, index);
-    carry_on(list, state, u32::from(Kind::Flag), index, Opened { units: 0 })
+    carry_on(
+        list,
+        state,
+        u32::from(Kind::Flag),
+        index,
+        Opened { units: 0 },
+    )
 }
 
 // F on each mine without flag of a square, by row, then column.

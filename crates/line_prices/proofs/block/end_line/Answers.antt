@@ -12,4 +12,4 @@ slice_bounds-price_line-end c = let a = c.args in sym (length-take-le a.place.co
 
 pub returns : goal.returns
 returns c =
-    line_fed (desk_at c.args.held.now c.args.place c.args.out.now) c.put_price.new.out (held_price c.price_line-price.result) _ _ c.requires c.price_line-price.ensures c.put_price.ensures (omega arith) (omega arith)
+    line_fed (desk_at c.args.held.now c.args.place c.args.out.now) c.put_priced.new.out (held_price c.price_line-price.result) _ _ c.requires c.price_line-price.ensures c.put_priced.ensures (omega arith) (omega arith)

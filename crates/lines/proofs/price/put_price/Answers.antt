@@ -1,8 +1,8 @@
--- `lines::price::put_figures`: fourteen digits where they have room, else nothing. Assumes nothing.
+-- `lines::price::put_price`: fourteen digits where they have room, else nothing. Assumes nothing.
 use native.Mathlib.Omega.{arith}
 use Rattle.lines.specs.PriceLine.{figures}
 use Rattle.lines.proofs.Priced.{price_none, price_there}
-use Rattle.lines.proofs.price.put_figures.Goals as goal
+use Rattle.lines.proofs.price.put_price.Goals as goal
 
 pub returns-then-out-lt14 : goal.returns-then-out-lt14
 returns-then-out-lt14 c = let a = c.args in price_none a.at (figures a.number a.price) a.out.now (omega arith)
