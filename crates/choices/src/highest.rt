@@ -10,7 +10,10 @@ pub fn looked(work: &[i32], index: usize, opened_only: bool) -> bool
     requires { HasCell work.now index }
     ensures { result ≡ looked_at opened_only work.now index }
 {
-    !opened_only || area::state(work, index) == 1
+    if opened_only {
+        return area::state(work, index) == 1;
+    }
+    true
 }
 
 // The higher raised premium so far, once the cell has been looked at.
@@ -19,11 +22,14 @@ pub fn better(work: &[i32], index: usize, opened_only: bool, top: usize) -> usiz
     ensures { result ≡ top_with opened_only work.now top index }
 {
     let premium = area::premium(work, index);
-    if premium > top && looked(work, index, opened_only) {
-        premium
-    } else {
-        top
+    // One test after the other: as one expression the columns took an eighth more instructions.
+    if premium <= top {
+        return top;
     }
+    if looked(work, index, opened_only) {
+        return premium;
+    }
+    top
 }
 
 // The highest raised premium of a column, at least 9.
