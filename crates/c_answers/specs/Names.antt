@@ -1,11 +1,15 @@
 -- The promises of the calls as C sees them: the mode by a number, a number returned, and answers behind pointers. Assumes nothing.
-use Rattle.std.specs.Prelude.{ℕ, suc, zero, ◌≡◌, cond, List, ℤ, eqb, drop, get_or, length}
+use Rattle.std.specs.Prelude.{ℕ, suc, zero, ◌≡◌, cond, List, [], ◌∷◌, ℤ, eqb, drop, get_or, length, Err, Ok, Result}
 use Rattle.game.specs.Area.{begun}
-use Rattle.game.specs.Calls.{Answer, ListOutcome, Outcome}
+use Rattle.game.specs.Calls.{Answer, ListOutcome, Outcome, gives, move, number_of, refuses}
 use Rattle.game.specs.Draws.{Mode, fair, old}
 use Rattle.game.specs.Keys.{Key}
 use Rattle.lines.specs.BoardLine.{GridOutcome}
 use Rattle.lines.specs.Outputs.{RunOutcome}
+use Rattle.refusals.specs.Names.{named}
+use Rattle.answers.specs.declared.Unplayed.{Unplayed}
+use Rattle.answers.specs.declared.Unplayed.TheVariants as Unplays
+use Rattle.c_answers.specs.declared.Replayed.{Replayed}
 
 -- the mode of the draws by a number: 0 is the old one, anything else the fair one
 abbrev pub mode_by : ℕ → Mode
@@ -25,6 +29,12 @@ key_put numbers run = cond (eqb (length run) 6) (begun numbers run) run
 -- a key's run after a call: the six numbers that the answer has behind its clicks and bytes used; as it was where it has none, or where the run isn't six long
 abbrev pub key_left : Answer → List ℕ → List ℕ
 key_left a run = key_put (drop 2 a.values) run
+
+-- a replay in numbers: 0, moves made, safe cells still closed and the ending's number; MOVE with the bad move's place; or the refusal's number alone
+abbrev pub replay_told : Result Replayed Unplayed → Answer
+replay_told (Ok t) = gives (t.made ∷ t.closed ∷ t.ending ∷ [])
+replay_told (Err (Unplays.Move k)) = record { number = number_of move; values = k ∷ [] }
+replay_told (Err (Unplays.Refused f)) = refuses (named f)
 
 -- what stands behind an answer pointer after a call: the answer's value of that place, or what stood there if it has none
 abbrev pub told : Answer → ℕ → ℕ → ℕ

@@ -9,7 +9,7 @@ ghost use Rattle.keys.specs.Stands.{key_of};
 ghost use Rattle.refusals.specs.Names.{named};
 ghost use Rattle.answers.specs.Answers.{counted_answer, judged_answer, key_rolled_answer, replayed_answer, rolled_answer};
 ghost use Rattle.lines.specs.Answers.{board_answer};
-ghost use Rattle.c_answers.specs.Names.{Tells, TellsThree, TellsTwo, key_by, key_left, key_put, mode_by};
+ghost use Rattle.c_answers.specs.Names.{Tells, TellsThree, TellsTwo, key_by, key_left, key_put, mode_by, replay_told};
 
 use answers::{KeyRoll, Played, Roll, Unplayed};
 use draws::Mode;
@@ -127,20 +127,42 @@ pub fn tell_keyed(
     }
 }
 
-// A replay's moves made, or the place of the bad one, the safe cells still closed, and the ending.
+// A replay in numbers: moves made, safe cells still closed, and the number of the ending, any at all.
+#[derive(Clone, Copy, Debug, PartialEq, Eq)]
+pub struct Replayed {
+    pub made: usize,
+    pub closed: usize,
+    pub ending: usize,
+}
+
+// What a replay answered, in numbers.
+fn in_numbers(answer: Result<Played, Unplayed>) -> Result<Replayed, Unplayed>
+    ensures { replay_told result ≡ replayed_answer answer }
+{
+    match answer {
+        Ok(played) => Ok(Replayed {
+            made: played.made,
+            closed: played.closed,
+            ending: usize::from(played.ending),
+        }),
+        Err(unplayed) => Err(unplayed),
+    }
+}
+
+// A replay's moves made, or the place of the bad one, the safe cells still closed, and the ending's number.
 pub fn tell_replay(
-    answer: Result<Played, Unplayed>,
+    answer: Result<Replayed, Unplayed>,
     made: &mut u64,
     closed: &mut u64,
     ending: &mut u64,
 ) -> u8
-    ensures { TellsThree (replayed_answer answer) result made.old made.new closed.old closed.new ending.old ending.new }
+    ensures { TellsThree (replay_told answer) result made.old made.new closed.old closed.new ending.old ending.new }
 {
     match answer {
-        Ok(played) => {
-            *made = played.made as u64;
-            *closed = played.closed as u64;
-            *ending = usize::from(played.ending) as u64;
+        Ok(replayed) => {
+            *made = replayed.made as u64;
+            *closed = replayed.closed as u64;
+            *ending = replayed.ending as u64;
             0
         }
         Err(Unplayed::Move(place)) => {
@@ -149,6 +171,18 @@ pub fn tell_replay(
         }
         Err(Unplayed::Refused(refusal)) => tell_refusal(refusal, made),
     }
+}
+
+// The same of what a replay call answered.
+pub fn tell_played(
+    answer: Result<Played, Unplayed>,
+    made: &mut u64,
+    closed: &mut u64,
+    ending: &mut u64,
+) -> u8
+    ensures { TellsThree (replayed_answer answer) result made.old made.new closed.old closed.new ending.old ending.new }
+{
+    tell_replay(in_numbers(answer), made, closed, ending)
 }
 
 // The rows and columns of a file that was read.

@@ -32,17 +32,21 @@ pub fn lowest(work: &[i32], rows: usize, columns: usize, from: usize) -> Lowest
     ensures { (g : Grid) (s : Position) (old : List ℤ) → Stands rows columns g s old work.now
         → (result.found ≡ found_first (unit_cells g s)) × (result.column ≡ found_column g result.found) }
 {
-    for column in from..columns {
+    let mut lowest = Lowest {
+        found: None,
+        column: columns,
+    };
+    'grid: for column in from..columns {
         for row in 0..rows {
             let index = column * rows + row;
             if unit(work, index) {
-                let found = Some(index);
-                return Lowest { found, column };
+                lowest = Lowest {
+                    found: Some(index),
+                    column,
+                };
+                break 'grid;
             }
         }
     }
-    Lowest {
-        found: None,
-        column: columns,
-    }
+    lowest
 }

@@ -11,18 +11,14 @@ use keys::Key;
 use random::Finish;
 use refusals::Refusal;
 
-// The key after a supply's draws: that of lent bytes is 0 throughout.
-fn key_left(key: Option<Key>) -> Key
-    ensures { key_of result ≡ key_left key }
+// The key after a supply's draws: lent bytes leave the one that stood beside them.
+fn key_left(key: Option<Key>, beside: Key) -> Key
+    ensures { key_of result ≡ key_left key (key_of beside) }
 {
-    key.unwrap_or(Key {
-        x: 0,
-        y: 0,
-        z: 0,
-        w: 0,
-        v: 0,
-        counter: 0,
-    })
+    match key {
+        Some(left) => left,
+        None => beside,
+    }
 }
 
 // Clicks and draw bytes used, or DRAWS.
@@ -36,14 +32,14 @@ pub fn rolled(finish: Option<Finish>) -> Result<Roll, Refusal>
     })
 }
 
-// The same with the key after it.
-pub fn key_rolled(finish: Option<Finish>) -> Result<KeyRoll, Refusal>
-    ensures { key_rolled_answer result ≡ key_finish_answer finish }
+// The same with the key after it, from the key that stood beside the draws.
+pub fn key_rolled(finish: Option<Finish>, beside: Key) -> Result<KeyRoll, Refusal>
+    ensures { key_rolled_answer result ≡ key_finish_answer finish (key_of beside) }
 {
     let keyed = finish.ok_or(Refusal::Draws)?;
     Ok(KeyRoll {
         clicks: keyed.clicks,
         used: keyed.supply.used,
-        key: key_left(keyed.supply.key),
+        key: key_left(keyed.supply.key, beside),
     })
 }

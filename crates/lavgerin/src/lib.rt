@@ -193,7 +193,7 @@ pub extern "C" fn lavgerin_replay(
     ensures { ReturnedThree (replay_call (grid_of rows columns grid.now) work.old list.now count) result work.new made.old made.new closed.old closed.new ending.old ending.new }
 {
     let answer = zini::replays::replay(rows, columns, grid, work, list, count);
-    c_answers::tell_replay(answer, made, closed, ending)
+    c_answers::tell_played(answer, made, closed, ending)
 }
 
 // An MBF file read into a lent grid: its rows and columns.

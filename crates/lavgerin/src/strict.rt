@@ -180,7 +180,7 @@ pub extern "C" fn lavgerin_strict_replay(
     ensures { ReturnedThree (strict_replay_call (grid_of rows columns grid.now) work.old list.now count) result work.new made.old made.new closed.old closed.new ending.old ending.new }
 {
     let answer = zini::strict::replay(rows, columns, grid, work, list, count);
-    c_answers::tell_replay(answer, made, closed, ending)
+    c_answers::tell_played(answer, made, closed, ending)
 }
 
 // A grid written as an MBF file: how many bytes it has.

@@ -11,11 +11,11 @@ use Rattle.random.specs.Promises.{HandsOn, finish_answer, key_finish_answer, key
 use Rattle.random.specs.declared.Finish.{Finish}
 
 -- the key of a supply that draws from one
-drawn_left : (key : Option Code.Key) (k : Key) → key_drawn key ≡ Rules.some k → key_left key ≡ k
-drawn_left (Some key) k e = cc e
-drawn_left None k e = cc e
+drawn_left : (key : Option Code.Key) (beside k : Key) → key_drawn key ≡ Rules.some k → key_left key beside ≡ k
+drawn_left (Some key) beside k e = cc e
+drawn_left None beside k e = cc e
 
 -- one that hands a key on answers the key after the bytes used
-pub key_handed : (k : Key) (r : Option Finish) → HandsOn (key_given k) r → key_finish_answer r ≡ hands_key k (finish_answer r)
-key_handed k (Some f) h = ap (λ (key : Key). gives (f.clicks ∷ f.supply.used ∷ key_numbers key)) (drawn_left f.supply.key _ (h.ended f refl).from)
-key_handed k None h = refl
+pub key_handed : (k beside : Key) (r : Option Finish) → HandsOn (key_given k) r → key_finish_answer r beside ≡ hands_key k (finish_answer r)
+key_handed k beside (Some f) h = ap (λ (key : Key). gives (f.clicks ∷ f.supply.used ∷ key_numbers key)) (drawn_left f.supply.key beside _ (h.ended f refl).from)
+key_handed k beside None h = refl

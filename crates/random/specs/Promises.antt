@@ -122,15 +122,15 @@ abbrev pub finish_answer : Code.Option Finish → Answer
 finish_answer (Some f) = gives (f.clicks ∷ f.supply.used ∷ [])
 finish_answer None = refuses draws
 
--- the key of a supply: that of lent bytes is 0 throughout
-abbrev pub key_left : Code.Option Keys.Key → Key
-key_left (Some key) = key_of key
-key_left None = record { x = 0; y = 0; z = 0; w = 0; v = 0; counter = 0 }
+-- the key of a supply: lent bytes leave the one that stood beside them
+abbrev pub key_left : Code.Option Keys.Key → Key → Key
+key_left (Some key) beside = key_of key
+key_left None beside = beside
 
 -- by a key: the six numbers of the supply's key too
-abbrev pub key_finish_answer : Code.Option Finish → Answer
-key_finish_answer (Some f) = gives (f.clicks ∷ f.supply.used ∷ key_numbers (key_left f.supply.key))
-key_finish_answer None = refuses draws
+abbrev pub key_finish_answer : Code.Option Finish → Key → Answer
+key_finish_answer (Some f) beside = gives (f.clicks ∷ f.supply.used ∷ key_numbers (key_left f.supply.key beside))
+key_finish_answer None beside = refuses draws
 
 -- the supply after one that ended stands where its bytes used say
 pub record HandsOn (origin : Origin) (r : Code.Option Finish) : Type 0 where

@@ -104,7 +104,7 @@ fn roll_keyed(
     let none = [0u8; 0];
     let supply = supplies::of_key(key);
     let finish = roll(rows, columns, grid, work, list, &none, mode, supply);
-    finishes::key_rolled(finish)
+    finishes::key_rolled(finish, key)
 }
 
 // A single random round: its clicks, its moves in the list, and the draw bytes used.

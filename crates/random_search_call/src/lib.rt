@@ -95,7 +95,7 @@ fn search_keyed(
     let none = [0u8; 0];
     let supply = supplies::of_key(key);
     let finish = search(rows, columns, grid, work, &none, mode, supply, rounds);
-    finishes::key_rolled(finish)
+    finishes::key_rolled(finish, key)
 }
 
 // Random search over so many rounds: the least clicks, and the draw bytes used.

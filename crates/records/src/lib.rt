@@ -78,7 +78,7 @@ pub fn write_record(run: &mut [MoveRecord], k: usize, played: MoveRecord)
 pub fn records_of(run: &mut [MoveRecord], list: &[u32], count: usize, rows: usize)
     ensures { run.new ≡ over (map (record_of rows) (take count list.now)) run.old }
 {
-    let words = &list[..count.min(list.len())];
+    let words = &list[..count.min(run.len()).min(list.len())];
     // No zip of both: of the records behind an adapter no loop knows what they become.
     for (k, &word) in words.iter().enumerate() {
         write_record(run, k, record_of(word, rows));
@@ -89,8 +89,7 @@ pub fn records_of(run: &mut [MoveRecord], list: &[u32], count: usize, rows: usiz
 pub fn words_of(list: &mut [u32], run: &[MoveRecord], count: usize, rows: usize)
     ensures { list.new ≡ over (map (move_word rows) (take count run.now)) list.old }
 {
-    let records = &run[..count.min(run.len())];
-    for (k, &played) in records.iter().enumerate() {
-        write(list, k, word_of(played, rows));
+    for k in 0..count.min(list.len()).min(run.len()) {
+        write(list, k, word_of(read_record(run, k), rows));
     }
 }

@@ -208,7 +208,7 @@ fits_taken n w top k f =
 module _ (rows columns : ℕ) (shape : Shape rows columns) (w : List ℤ) (top k from : ℕ) (w1 : List ℤ) (room : HasCells w (rows * columns)) (fits : Fits (rows * columns) (now_spread w (top + 1) k))
     (ef : from ≡ waiting_at w top) (e1 : w1 ≡ put_waiting w top 0) where
   -- it is a cell
-  taken_inside : from < rows * columns
+  pub taken_inside : from < rows * columns
   taken_inside = omega (arith, fits.inside top (omega arith))
 
   pub taken_fits : Fits (rows * columns) (now_spread w1 top k)

@@ -1,5 +1,5 @@
 // The fields of a case line: words parted by spaces, NAME=NUMBER or NAME=RUN.
-ghost use Rattle.std.specs.Prelude.{◌≡◌, ◌+◌, ◌≤◌, length, drop};
+ghost use Rattle.std.specs.Prelude.{◌≡◌, ◌+◌, ◌-◌, ◌≤◌, length, drop};
 ghost use Rattle.trials.specs.Text.{before, digits_on, with_digit};
 
 use kinds::Kind;
@@ -27,17 +27,29 @@ pub fn is(text: &[u8], from: usize, word: &[u8]) -> bool {
     }
 }
 
+// What stands past the first such byte, to the end of the text; nothing where there is none.
+fn past_first(text: &[u8], mark: u8) -> &[u8]
+    ensures { length result.now ≤ length text.now - 1 }
+{
+    match text.iter().position(|byte| *byte == mark) {
+        Some(place) => &text[place + 1..],
+        None => &text[text.len()..],
+    }
+}
+
 // What stands past a field's name, to the end of the text; nothing where there is no such field.
-fn field<'t>(text: &'t [u8], name: &[u8]) -> &'t [u8] {
+fn field<'t>(text: &'t [u8], name: &[u8]) -> &'t [u8]
+    ensures { length result.now ≤ length text.now }
+{
     let mut rest = text;
     // A while: each turn ends where its word does, and what is left is answered, not the word.
-    while let Some(space) = rest.iter().position(|byte| *byte == b' ') {
+    while !rest.is_empty() {
         if let Some(value) = rest.strip_prefix(name) {
             return value;
         }
-        rest = &rest[space + 1..];
+        rest = past_first(rest, b' ');
     }
-    rest.strip_prefix(name).unwrap_or_default()
+    rest
 }
 
 // A number with a digit more; the largest number where that is larger.
@@ -96,7 +108,7 @@ fn values_in(pattern: &[u8]) -> usize {
     pattern.split_inclusive(|byte| *byte == b',').count()
 }
 
-// What stands in a pattern from the value on that is for a place of a run, where the pattern of so many values is repeated.
+// What stands in a pattern from the value on that is for a place of a run, where the pattern of so many values is repeated: to the pattern's end, since no more of it is read than the value has.
 fn value_at(pattern: &[u8], count: usize, place: usize) -> &[u8] {
     if count == 0 {
         return pattern;
@@ -105,8 +117,11 @@ fn value_at(pattern: &[u8], count: usize, place: usize) -> &[u8] {
     if is_picture(pattern) {
         return pattern.get(turn..).unwrap_or_default();
     }
-    let mut parts = pattern.split_inclusive(|byte| *byte == b',');
-    parts.nth(turn).unwrap_or_default()
+    let mut rest = pattern;
+    for _ in 0..turn {
+        rest = past_first(rest, b',');
+    }
+    rest
 }
 
 // How many values a run of a case has, at most so many.

@@ -16,7 +16,7 @@ loop-near-init c = let a = c.args in
 pub uncover-more-requires : goal.uncover-more-requires
 uncover-more-requires c = let a = c.args in
     let l = c.loop-near in
-    record { shape = c.requires.shape; has_cells = (omega arith, on_grid a.rows a.columns a.index l.yielded l.near-iterator l.invariant.0 c.in-Some.near c.next.new.self c.in-Some.ensures.steps) }
+    record { shape = c.requires.shape; has_cells = (omega arith, omega (arith, on_grid a.rows a.columns a.index l.yielded l.near-iterator l.invariant.0 c.in-Some.near c.next.new.self c.in-Some.ensures.steps)) }
 
 pub both-opened-requires : goal.both-opened-requires
 both-opened-requires c = let a = c.args in

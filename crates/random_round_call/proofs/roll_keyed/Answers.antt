@@ -18,4 +18,4 @@ pub returns : goal.returns
 returns c =
     let k = key_of c.args.key in
     let t = c.roll-finish.ensures (key_given k) c.of_key-supply.ensures in
-    list_handed k _ _ _ _ _ (c.key_rolled.ensures ∙ key_handed k _ t.0) t.1
+    list_handed k _ _ _ _ _ (c.key_rolled.ensures ∙ key_handed k k _ t.0) t.1

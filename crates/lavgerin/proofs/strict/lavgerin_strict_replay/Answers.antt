@@ -3,4 +3,4 @@ use Rattle.c_answers.proofs.Returns.{returned_three}
 use Rattle.lavgerin.proofs.strict.lavgerin_strict_replay.Goals as goal
 
 pub returns : goal.returns
-returns c = returned_three c.replay-answer.ensures c.tell_replay.ensures
+returns c = returned_three c.replay-answer.ensures c.tell_played.ensures
