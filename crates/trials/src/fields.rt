@@ -1,5 +1,5 @@
 // The fields of a case line: words parted by spaces, NAME=NUMBER or NAME=RUN.
-ghost use Rattle.std.specs.Prelude.{◌≡◌, ◌+◌, ◌-◌, ◌≤◌, length, drop};
+ghost use Rattle.std.specs.Prelude.{◌≡◌, ◌+◌, ◌≤◌, length, drop};
 ghost use Rattle.trials.specs.Text.{before, digits_on, with_digit};
 
 use kinds::Kind;
@@ -27,29 +27,21 @@ pub fn is(text: &[u8], from: usize, word: &[u8]) -> bool {
     }
 }
 
-// What stands past the first such byte, to the end of the text; nothing where there is none.
-fn past_first(text: &[u8], mark: u8) -> &[u8]
-    ensures { length result.now ≤ length text.now - 1 }
-{
-    match text.iter().position(|byte| *byte == mark) {
-        Some(place) => &text[place + 1..],
-        None => &text[text.len()..],
-    }
-}
-
-// What stands past a field's name, to the end of the text; nothing where there is no such field.
+// What stands past a field's name, to the end of the text; nothing where there is no such field. A word begins the text, and stands behind each space.
 fn field<'t>(text: &'t [u8], name: &[u8]) -> &'t [u8]
     ensures { length result.now ≤ length text.now }
 {
-    let mut rest = text;
-    // A while: each turn ends where its word does, and what is left is answered, not the word.
-    while !rest.is_empty() {
-        if let Some(value) = rest.strip_prefix(name) {
-            return value;
-        }
-        rest = past_first(rest, b' ');
+    if let Some(value) = text.strip_prefix(name) {
+        return value;
     }
-    rest
+    for (at, &byte) in text.iter().enumerate() {
+        if byte == b' ' {
+            if let Some(value) = text[at + 1..].strip_prefix(name) {
+                return value;
+            }
+        }
+    }
+    &text[text.len()..]
 }
 
 // A number with a digit more; the largest number where that is larger.
@@ -117,11 +109,19 @@ fn value_at(pattern: &[u8], count: usize, place: usize) -> &[u8] {
     if is_picture(pattern) {
         return pattern.get(turn..).unwrap_or_default();
     }
-    let mut rest = pattern;
-    for _ in 0..turn {
-        rest = past_first(rest, b',');
+    if turn == 0 {
+        return pattern;
     }
-    rest
+    let mut left = turn;
+    for (at, &byte) in pattern.iter().enumerate() {
+        if byte == b',' {
+            left -= 1;
+            if left == 0 {
+                return &pattern[at + 1..];
+            }
+        }
+    }
+    &pattern[pattern.len()..]
 }
 
 // How many values a run of a case has, at most so many.
