@@ -1,5 +1,5 @@
 // The fields of a case line: words parted by spaces, NAME=NUMBER or NAME=RUN.
-ghost use Rattle.std.specs.Prelude.{◌≡◌, ◌+◌, ◌≤◌, length, drop};
+ghost use Rattle.std.specs.Prelude.{◌≡◌, ◌+◌, ◌-◌, ◌≤◌, length, drop};
 ghost use Rattle.trials.specs.Text.{before, digits_on, with_digit};
 
 use kinds::Kind;
@@ -24,6 +24,16 @@ pub fn is(text: &[u8], from: usize, word: &[u8]) -> bool {
     match text.get(from..) {
         Some(rest) => rest.starts_with(word),
         None => false,
+    }
+}
+
+// What stands past the first such byte, to the end of the text; nothing where there is none.
+fn past_first(text: &[u8], mark: u8) -> &[u8]
+    ensures { length result.now ≤ length text.now - 1 }
+{
+    match text.iter().position(|byte| *byte == mark) {
+        Some(place) => &text[place + 1..],
+        None => &text[text.len()..],
     }
 }
 
@@ -109,19 +119,11 @@ fn value_at(pattern: &[u8], count: usize, place: usize) -> &[u8] {
     if is_picture(pattern) {
         return pattern.get(turn..).unwrap_or_default();
     }
-    if turn == 0 {
-        return pattern;
+    let mut rest = pattern;
+    for _ in 0..turn {
+        rest = past_first(rest, b',');
     }
-    let mut left = turn;
-    for (at, &byte) in pattern.iter().enumerate() {
-        if byte == b',' {
-            left -= 1;
-            if left == 0 {
-                return &pattern[at + 1..];
-            }
-        }
-    }
-    &pattern[pattern.len()..]
+    rest
 }
 
 // How many values a run of a case has, at most so many.
